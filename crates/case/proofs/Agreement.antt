@@ -1,0 +1,44 @@
+-- A case without disagreement: layer and thick are both 0 or both not 0, and so are rods, rodlen and place.
+-- Assumes nothing.
+use Prim.Native.Nat.{ℕ, zero, suc, _≤_}
+use mathlib.Core.Path.{_≡_, refl, sym, _∙_}
+use mathlib.Core.Bool.{Bool, true, false, cond, _&&_, false≢true}
+use mathlib.Core.Logic.{_⊎_, inl, inr}
+use mathlib.Core.List.{List}
+use native.Mathlib.Omega.{arith}
+use lib.Dec.{eqb, eqb·suc-zero}
+use Rattle.case.specs.declared.Case.{Case}
+use Rattle.case.specs.declared.Fault.{Fault}
+use Rattle.case.specs.declared.Fault.the-variants.{Sound, Disagreement}
+use Rattle.case.specs.Check.{columnOf, agree, disagreement}
+
+-- both 0 or both not 0
+abbrev pub Agree : ℕ → ℕ → Type 0
+Agree a b = ((a ≡ 0) × (b ≡ 0)) ⊎ ((1 ≤ a) × (1 ≤ b))
+
+agreed : (a b : ℕ) → agree a b ≡ true → Agree a b
+unfolding agree
+agreed zero zero h = inl (refl, refl)
+agreed zero (suc b) h = absurd (false≢true (sym (eqb·suc-zero b) ∙ h))
+agreed (suc a) zero h = absurd (false≢true (rw (eqb·suc-zero a) at h))
+agreed (suc a) (suc b) h = inr (omega arith, omega arith)
+
+pub record Agreed (c : Case) : Type 0 where
+  pub layer : Agree (c .layer) (c .thick)
+  pub rodlen : Agree (c .rods) (c .rodlen)
+  pub place : Agree (c .rods) (c .place)
+
+pub agreements : (at : List ℕ) (c : Case) → disagreement at c ≡ Sound → Agreed c
+unfolding disagreement
+agreements at c h =
+    go (agree (c .layer) (c .thick)) refl (agree (c .rods) (c .rodlen)) refl (agree (c .rods) (c .place)) refl h
+  where
+    go : (p : Bool) → agree (c .layer) (c .thick) ≡ p → (q : Bool) → agree (c .rods) (c .rodlen) ≡ q
+        → (r : Bool) → agree (c .rods) (c .place) ≡ r
+        → cond p (cond (q && r) Sound (Disagreement (columnOf at "rods"))) (Disagreement (columnOf at "layer")) ≡ Sound
+        → Agreed c
+    go true e true f true g k =
+        record { layer = agreed (c .layer) (c .thick) e; rodlen = agreed (c .rods) (c .rodlen) f; place = agreed (c .rods) (c .place) g }
+    go true e true f false g k = let z : _≡_ {A = ℕ} 0 1 = cc in absurd (omega arith)
+    go true e false f r g k = let z : _≡_ {A = ℕ} 0 1 = cc in absurd (omega arith)
+    go false e q f r g k = let z : _≡_ {A = ℕ} 0 1 = cc in absurd (omega arith)

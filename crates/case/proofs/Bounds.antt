@@ -1,0 +1,134 @@
+-- A case in which the checks find no fault is within its bounds.
+-- Assumes nothing.
+use Prim.Native.Nat.{ℕ, zero, suc, _+_, _≤_, _<_}
+use mathlib.Core.Path.{_≡_, refl, ap}
+use mathlib.Core.Bool.{Bool, true, false, cond, _&&_, _||_}
+use mathlib.Core.Logic.{_⊎_, inl, inr, ⊎-elim}
+use mathlib.Core.List.{List, [], _∷_}
+use native.Mathlib.Omega.{arith}
+use lib.ListN.{length, getD}
+use lib.Dec.{T, leb, eqb, leb→le, eqb→eq}
+use Rattle.case.specs.declared.Case.{Case}
+use Rattle.case.specs.declared.Fault.{Fault}
+use Rattle.case.specs.declared.Fault.the-variants.{Sound, OutOfRange}
+use Rattle.case.specs.Columns.{columns, inRange}
+use Rattle.case.specs.Case.{values}
+use Rattle.case.specs.Check.{outOfRange, disagreement, caseFault, countFrom, ownPlaces, recordFault}
+use Rattle.case.specs.Bounds.{Placed, Between, Bare, Layered, Rodless, Rodded, Bounds}
+use Rattle.case.proofs.Ranges.{InRange, in-range, some-columns}
+use Rattle.case.proofs.Agreement.{Agree, Agreed, agreements}
+
+-- ---- the two tests of a sound case
+
+record Tests (at : List ℕ) (c : Case) : Type 0 where
+  ranges : outOfRange columns at (values c) ≡ 0
+  agrees : disagreement at c ≡ Sound
+
+tests : (at : List ℕ) (c : Case) → caseFault at c ≡ Sound → Tests at c
+unfolding caseFault
+tests at c h = go (eqb (outOfRange columns at (values c)) 0) refl h
+  where
+    go : (b : Bool) → eqb (outOfRange columns at (values c)) 0 ≡ b
+        → cond b (disagreement at c) (OutOfRange (outOfRange columns at (values c))) ≡ Sound → Tests at c
+    go true t k = record { ranges = eqb→eq _ 0 (rw t tt); agrees = k }
+    go false t k = let z : _≡_ {A = ℕ} 0 1 = cc in absurd (omega arith)
+
+-- ---- the bounds
+
+-- what the three kinds of range say
+between : (a b x : ℕ) → T (leb a x && leb x b) → Between a x b
+between a b x h = record { low = leb→le a x (and-left (leb a x) (leb x b) h); high = leb→le x b (and-right (leb a x) (leb x b) h) }
+  where
+    and-left : (p q : Bool) → T (p && q) → T p
+    and-left true q t = tt
+    and-left false q t = t
+
+    and-right : (p q : Bool) → T (p && q) → T q
+    and-right true q t = t
+    and-right false q t = absurd t
+
+or-split : (p q : Bool) → T (p || q) → T p ⊎ T q
+or-split true q t = inl tt
+or-split false q t = inr t
+
+zero-or : (a b x : ℕ) → T (eqb x 0 || leb a x && leb x b) → (x ≡ 0) ⊎ Between a x b
+zero-or a b x h = ⊎-elim (λ t. inl (eqb→eq x 0 t)) (λ t. inr (between a b x t)) (or-split (eqb x 0) (leb a x && leb x b) h)
+
+one-of : (a b x : ℕ) → T (eqb x a || eqb x b) → (x ≡ a) ⊎ (x ≡ b)
+one-of a b x h = ⊎-elim (λ t. inl (eqb→eq x a t)) (λ t. inr (eqb→eq x b t)) (or-split (eqb x a) (eqb x b) h)
+
+surface : (c : Case) → (c .layer ≡ 0) ⊎ Between 100 (c .layer) 10000 → (c .thick ≡ 0) ⊎ Between 20 (c .thick) 300
+    → Agree (c .layer) (c .thick) → Bare c ⊎ Layered c
+surface c l t (inl z) = inl (record { layer = z .0; thick = z .1 })
+surface c (inl e) t (inr n) = absurd (omega arith)
+surface c (inr l) (inl e) (inr n) = absurd (omega arith)
+surface c (inr l) (inr t) (inr n) = inr (record { layer = l; thick = t })
+
+rods : (c : Case) → c .rods ≤ 200 → (c .rodlen ≡ 0) ⊎ Between 1000 (c .rodlen) 10000 → c .place ≤ 2
+    → Agree (c .rods) (c .rodlen) → Agree (c .rods) (c .place) → Rodless c ⊎ Rodded c
+rods c n l p (inl z) (inl y) = inl (record { rods = z .0; rodlen = z .1; place = y .1 })
+rods c n l p (inl z) (inr y) = absurd (omega arith)
+rods c n l p (inr z) (inl y) = absurd (omega arith)
+rods c n (inl e) p (inr z) (inr y) = absurd (omega arith)
+rods c n (inr l) p (inr z) (inr y) =
+    inr (record { rods = record { low = z .0; high = n }; rodlen = l; place = record { low = y .1; high = p } })
+
+bounded : (c : Case) → InRange columns (values c) → Agreed c → Bounds c
+unfolding columns values inRange
+bounded c r g =
+    record {
+      station = between 1 65535 (c .station) (r .0);
+      season = between 1 4 (c .season) (r .1 .0);
+      soil = between 10 5000 (c .soil) (r .1 .1 .0);
+      surface = surface c (zero-or 100 10000 (c .layer) (r .1 .1 .1 .0)) (zero-or 20 300 (c .thick) (r .1 .1 .1 .1 .0)) (g .layer);
+      ms = between 9 3000 (c .ms) (r .1 .1 .1 .1 .1 .0);
+      body = one-of 50 70 (c .body) (r .1 .1 .1 .1 .1 .1 .0);
+      fault = between 100 80000 (c .fault) (r .1 .1 .1 .1 .1 .1 .1 .0);
+      split = between 1 1000 (c .split) (r .1 .1 .1 .1 .1 .1 .1 .1 .0);
+      xr = between 1 40 (c .xr) (r .1 .1 .1 .1 .1 .1 .1 .1 .1 .0);
+      lines = between 2 25 (c .lines) (r .1 .1 .1 .1 .1 .1 .1 .1 .1 .1 .0);
+      space = between 2500 30000 (c .space) (r .1 .1 .1 .1 .1 .1 .1 .1 .1 .1 .1 .0);
+      depth = between 250 2500 (c .depth) (r .1 .1 .1 .1 .1 .1 .1 .1 .1 .1 .1 .1 .0);
+      dia = between 50 300 (c .dia) (r .1 .1 .1 .1 .1 .1 .1 .1 .1 .1 .1 .1 .1 .0);
+      rods =
+          rods c (between 0 200 (c .rods) (r .1 .1 .1 .1 .1 .1 .1 .1 .1 .1 .1 .1 .1 .1 .0) .high) (zero-or 1000 10000 (c .rodlen) (r .1 .1 .1 .1 .1 .1 .1 .1 .1 .1 .1 .1 .1 .1 .1 .0))
+          (between 0 2 (c .place) (r .1 .1 .1 .1 .1 .1 .1 .1 .1 .1 .1 .1 .1 .1 .1 .1 .0) .high) (g .rodlen) (g .place);
+      metal = between 1 11 (c .metal) (r .1 .1 .1 .1 .1 .1 .1 .1 .1 .1 .1 .1 .1 .1 .1 .1 .1 .0);
+    }
+
+pub bounds : {at : List ℕ} {c : Case} → Placed at → caseFault at c ≡ Sound → Bounds c
+bounds {at} {c} p h =
+    bounded c (in-range columns at (values c) (p .count) (some-columns at (length columns) (p .count) (p .some)) (tests at c h .ranges))
+    (agreements at c (tests at c h .agrees))
+
+-- ---- the columns of a record
+
+count-length : (first n : ℕ) → length (countFrom first n) ≡ n
+unfolding countFrom
+count-length first zero = refl
+count-length first (suc n) = ap suc (count-length (suc first) n)
+
+count-some : (first n i : ℕ) → 1 ≤ first → i < n → 1 ≤ getD (countFrom first n) i 0
+unfolding countFrom
+count-some first zero i h l = absurd (omega arith)
+count-some first (suc n) zero h l = h
+count-some first (suc n) (suc i) h l = count-some (suc first) n i (omega arith) (omega arith)
+
+count-within : (first n i : ℕ) → 1 ≤ first → getD (countFrom first n) i 0 < first + n
+unfolding countFrom
+count-within first zero i h = omega arith
+count-within first (suc n) zero h = omega arith
+count-within first (suc n) (suc i) h = omega (arith, count-within (suc first) n i (omega arith))
+
+own-placed : Placed ownPlaces
+unfolding ownPlaces
+own-placed =
+    record {
+      count = count-length 1 (length columns);
+      some = λ i l. count-some 1 (length columns) i (omega arith) l;
+      within = λ i. omega (arith, count-within 1 (length columns) i (omega arith));
+    }
+
+pub record-bounds : {c : Case} → recordFault c ≡ Sound → Bounds c
+unfolding recordFault
+record-bounds h = bounds own-placed h

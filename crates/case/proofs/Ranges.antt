@@ -1,0 +1,53 @@
+-- Where no column is at fault, every value is in its range.
+-- Assumes nothing.
+use Prim.Native.Nat.{ℕ, zero, suc, _≤_, _<_}
+use mathlib.Core.Path.{_≡_, refl}
+use mathlib.Core.Bool.{Bool, true, false, cond}
+use mathlib.Core.List.{List, [], _∷_}
+use native.Mathlib.Omega.{arith}
+use lib.ListN.{length, getD}
+use lib.Dec.{T, leb, eqb}
+use Rattle.case.specs.Columns.{Column, inRange}
+use Rattle.case.specs.Check.{leftOf, outOfRange}
+
+-- every value of the list passes the test of its column
+abbrev pub InRange : List Column → List ℕ → Type 0
+InRange [] v = Unit {0}
+InRange (k ∷ ks) [] = Unit {0}
+InRange (k ∷ ks) (x ∷ v) = T (inRange (k .range) x) × InRange ks v
+
+-- every column is at least 1
+abbrev pub Some : List ℕ → Type 0
+Some [] = Unit {0}
+Some (c ∷ at) = (1 ≤ c) × Some at
+
+left-some : (c d : ℕ) → 1 ≤ c → leftOf c d ≡ 0 → ⊥
+unfolding leftOf
+left-some c d h = go (eqb d 0) refl (leb c d)
+  where
+    go : (b : Bool) → eqb d 0 ≡ b → (l : Bool) → cond b c (cond l c d) ≡ 0 → ⊥
+    go true e l k = omega arith
+    go false e true k = omega arith
+    go false e false k = false-zero (rw k at e)
+      where
+        false-zero : eqb 0 0 ≡ false → ⊥
+        false-zero h = let z : _≡_ {A = ℕ} 0 1 = cc in omega arith
+
+pub in-range : (ks : List Column) (at v : List ℕ) → length at ≡ length ks → Some at → outOfRange ks at v ≡ 0 → InRange ks v
+unfolding outOfRange
+in-range [] at v n s h = tt
+in-range (k ∷ ks) [] [] n s h = tt
+in-range (k ∷ ks) [] (x ∷ v) n s h = absurd (omega arith)
+in-range (k ∷ ks) (c ∷ at) [] n s h = tt
+in-range (k ∷ ks) (c ∷ at) (x ∷ v) n s h =
+    go (inRange (k .range) x) h (λ l. in-range ks at v (omega arith) (s .1) l)
+  where
+    go : (b : Bool) → cond b (outOfRange ks at v) (leftOf c (outOfRange ks at v)) ≡ 0
+        → (outOfRange ks at v ≡ 0 → InRange ks v) → T b × InRange ks v
+    go true l next = (tt, next l)
+    go false l next = absurd (left-some c (outOfRange ks at v) (s .0) l)
+
+pub some-columns : (at : List ℕ) (n : ℕ) → length at ≡ n → ((i : ℕ) → i < n → 1 ≤ getD at i 0) → Some at
+some-columns [] n e h = tt
+some-columns (c ∷ at) zero e h = absurd (omega arith)
+some-columns (c ∷ at) (suc n) e h = (h 0 (omega arith), some-columns at n (omega arith) (λ i l. h (suc i) (omega arith)))

@@ -1,0 +1,41 @@
+-- A case and its eighteen values in the order of the table of names.
+-- Assumes nothing.
+use Prim.Native.Nat.{ℕ}
+use mathlib.Core.Path.{_≡_, refl}
+use mathlib.Core.List.{List, [], _∷_}
+use lib.ListN.{getD}
+use Rattle.case.specs.declared.Case.{Case}
+
+unfoldable pub values : Case → List ℕ
+values c =
+    c .station ∷ c .season ∷ c .soil ∷ c .layer ∷ c .thick ∷ c .ms
+    ∷ c .body ∷ c .fault ∷ c .split ∷ c .xr ∷ c .lines ∷ c .space
+    ∷ c .depth ∷ c .dia ∷ c .rods ∷ c .rodlen ∷ c .place ∷ c .metal
+    ∷ []
+
+unfoldable pub caseOf : List ℕ → Case
+caseOf v =
+    record {
+      station = getD v 0 0;
+      season = getD v 1 0;
+      soil = getD v 2 0;
+      layer = getD v 3 0;
+      thick = getD v 4 0;
+      ms = getD v 5 0;
+      body = getD v 6 0;
+      fault = getD v 7 0;
+      split = getD v 8 0;
+      xr = getD v 9 0;
+      lines = getD v 10 0;
+      space = getD v 11 0;
+      depth = getD v 12 0;
+      dia = getD v 13 0;
+      rods = getD v 14 0;
+      rodlen = getD v 15 0;
+      place = getD v 16 0;
+      metal = getD v 17 0;
+    }
+
+pub case-of-values : (c : Case) → caseOf (values c) ≡ c
+unfolding values caseOf
+case-of-values c = refl

@@ -1,0 +1,5 @@
+pub mod Columns
+pub mod Case
+pub mod Check
+pub mod Bounds
+pub mod Examples

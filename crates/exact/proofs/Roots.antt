@@ -1,0 +1,70 @@
+-- Roots as values: they grow with their argument, so they keep consistency, inclusion and what is held.
+-- Assumes nothing.
+use Prim.Native.Nat.{ℕ, _*_, _^_, _≤_, _<_, suc-le-suc}
+use mathlib.Core.Path.{_≡_, refl}
+use native.Mathlib.Omega.{arith}
+use native.Mathlib.Nat.{mul-le-mul-right}
+use lib.IntN.{pos}
+use Rattle.exact.specs.Fraction.{Fraction, _≤f_, decimal, top}
+use Rattle.exact.specs.Ends.{Ends}
+use Rattle.exact.specs.Exact.{Exact, exactly, Holds}
+use Rattle.exact.specs.Root.{rootOf, root}
+use Rattle.exact.specs.Reported.{Scale, reported}
+use Rattle.exact.specs.Depth.{Consistent, Within}
+use Rattle.exact.proofs.Order.{refl≤, trans≤}
+use Rattle.exact.proofs.Growing.{Growing, consistent-extended, within-extended, holds-extended}
+use Rattle.exact.proofs.Consistency.{proper-at}
+use Rattle.exact.proofs.RootDigits.{digits-cross, digits≤, not-above-upper, lower-not-above, not-above-lower, upper-not-above}
+
+decimal≤ : {a c : ℕ} (k : ℕ) → a ≤ c → decimal a k ≤f decimal c k
+unfolding decimal
+decimal≤ k h = omega (arith, mul-le-mul-right (10 ^ k) h)
+
+abbrev pub Anywhere : Fraction → Type 0
+Anywhere q = Unit {0}
+
+pub consistent-root-of : (n : ℕ) (q : Fraction) → 1 ≤ n → Consistent (rootOf n q)
+unfolding rootOf decimal
+consistent-root-of n q hn = record { agree = λ j k hj hk. record { le = omega (arith, digits-cross n hn (refl≤ q) j k) } }
+
+pub growing-root : (n : ℕ) → 1 ≤ n → Growing Anywhere (rootOf n)
+unfolding rootOf
+growing-root n hn =
+    record {
+      onward = λ m l. tt;
+      rises = λ m l k. record { lowers = decimal≤ k (digits≤ n hn l k); uppers = decimal≤ k (suc-le-suc (digits≤ n hn l k)) };
+      agree = λ {q} m. consistent-root-of n q hn;
+    }
+
+pub consistent-root : (n : ℕ) {x : Exact} → 1 ≤ n → Consistent x → Consistent (root n x)
+unfolding root
+consistent-root n hn c = consistent-extended (growing-root n hn) (λ k d. tt) c
+
+pub root-exactly : (n : ℕ) (q : Fraction) (k : ℕ) → root n (exactly q) k ≡ rootOf n q k
+unfolding root exactly
+root-exactly n q k = refl
+
+pub within-root : (n : ℕ) {x : Exact} {k : ℕ} {A : Ends} → 1 ≤ n → Consistent x → 3 ≤ k → Within (x k) A
+    → Within (root n x k) (root n (λ _. A) k)
+unfolding root
+within-root n {x} {k} hn c d w = within-extended (growing-root n hn) x k tt (proper-at c d) w
+
+module _ (n : ℕ) (u : Scale) (lo hi : ℕ) {A : Ends} (hn : 1 ≤ n) (low : lo ^ n * A .lower .den ≤ u .count ^ n * top (A .lower)) where
+  -- a pair of counts of any unit, by what holds the argument
+  pub holds-root : {x : Exact} → u .count ^ n * top (A .upper) ≤ hi ^ n * A .upper .den → Holds A x
+      → Holds (reported u (record { lower = pos lo; upper = pos hi })) (root n x)
+  unfolding root reported
+  holds-root high h =
+      holds-extended (growing-root n hn) tt (λ k d. tt) h
+      (λ k d. not-above-upper n hn (A .lower) u lo k low) (λ k d. lower-not-above n hn (A .upper) u hi k high)
+
+  -- a pair of counts of a unit that is a multiple of the depth's, by what the argument lies within
+  pub root-within : (x : Exact) (k m : ℕ) → u .count * m ≡ 10 ^ k → u .count ^ n * top (A .upper) < hi ^ n * A .upper .den
+      → Within (x k) A → Within (root n x k) (reported u (record { lower = pos lo; upper = pos hi }))
+  unfolding root reported
+  root-within x k m fits high w =
+      let g = growing-root n hn in
+      record {
+        low = trans≤ (not-above-lower n hn (A .lower) u lo k m fits low) (g .rises tt (w .low) k .lowers);
+        high = trans≤ (g .rises tt (w .high) k .uppers) (upper-not-above n hn (A .upper) u hi k m fits high);
+      }

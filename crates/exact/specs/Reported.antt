@@ -1,0 +1,26 @@
+-- Pairs of whole numbers in a unit, as the program reports them.
+-- Assumes nothing.
+use Prim.Native.Nat.{ℕ, _^_, _<_}
+use native.Mathlib.Nat.{zero-lt-suc, one-le-pow}
+use lib.IntN.{ℤ}
+use Rattle.interval.specs.Signed.{plus, minus}
+use Rattle.interval.specs.declared.Interval.{Interval}
+use Rattle.exact.specs.Fraction.{Fraction}
+use Rattle.exact.specs.Ends.{Ends}
+
+-- the scale of a unit: how many of it make one
+pub record Scale : Type 0 where
+  pub count : ℕ
+  pub pos : 0 < count
+
+-- units of 10^−e: 3 for millivolts, 6 for micro-ohms, 9 for billionths
+unfoldable pub ten : ℕ → Scale
+ten e = record { count = 10 ^ e; pos = one-le-pow e 10 (zero-lt-suc 9) }
+
+-- z units of a scale
+unfoldable pub over : ℤ → Scale → Fraction
+over z u = record { plus = plus z; minus = minus z; den = u .count; pos = u .pos }
+
+-- a reported pair
+unfoldable pub reported : Scale → Interval → Ends
+reported u i = record { lower = over (i .lower) u; upper = over (i .upper) u }

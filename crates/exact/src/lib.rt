@@ -1,0 +1,1 @@
+// Exact values: definitions in specs/, laws in proofs/. No code.

@@ -1,0 +1,106 @@
+-- The decrement factor lies from 1.000 to 1.688: one test computed over the table, and a law that turns it into the rule at each entry.
+-- Assumes nothing.
+use Prim.Native.Nat.{ℕ, zero, suc, _-_, _≤_, _<_}
+use mathlib.Core.Path.{_≡_, refl}
+use mathlib.Core.Bool.{Bool, true, false, cond, _&&_, _||_}
+use mathlib.Core.List.{List, [], _∷_}
+use native.Mathlib.Omega.{arith}
+use lib.ListN.{length, getD}
+use lib.Dec.{T, leb, eqb, leb→le, le→leb, nleb→lt, eqb→eq}
+use Rattle.case.specs.declared.Case.{Case}
+use Rattle.case.specs.Bounds.{Between, Bounds}
+use Rattle.formulas.specs.Decrement.{Row, ratios, rows, rowAt, columnAt, factor, Df}
+
+-- every number of a list lies in the range
+inside : List ℕ → Bool
+inside [] = true
+inside (x ∷ xs) = leb 1000 x && leb x 1688 && inside xs
+
+-- a row of four such numbers
+sound : List ℕ → Bool
+sound xs = eqb (length xs) 4 && inside xs
+
+allSound : List Row → Bool
+allSound [] = true
+allSound (r ∷ rs) = sound (r .factors) && allSound rs
+
+and-left : (p q : Bool) → T (p && q) → T p
+and-left true q t = tt
+and-left false q t = t
+
+and-right : (p q : Bool) → T (p && q) → T q
+and-right true q t = t
+and-right false q t = absurd t
+
+entry-inside : (xs : List ℕ) (i : ℕ) → T (inside xs) → i < length xs → Between 1000 (getD xs i 0) 1688
+unfolding inside
+entry-inside [] i t l = absurd (omega arith)
+entry-inside (x ∷ xs) zero t l =
+    let h = and-left (leb 1000 x && leb x 1688) (inside xs) t in
+    record { low = leb→le 1000 x (and-left (leb 1000 x) (leb x 1688) h); high = leb→le x 1688 (and-right (leb 1000 x) (leb x 1688) h) }
+entry-inside (x ∷ xs) (suc i) t l = entry-inside xs i (and-right (leb 1000 x && leb x 1688) (inside xs) t) (omega arith)
+
+row-sound : (ms : ℕ) (above : List ℕ) (rs : List Row) → T (sound above) → T (allSound rs) → T (sound (rowAt ms above rs))
+unfolding rowAt allSound
+row-sound ms above [] s t = s
+row-sound ms above (r ∷ rs) s t =
+    go (leb (r .start) ms) (row-sound ms (r .factors) rs (and-left (sound (r .factors)) (allSound rs) t) (and-right (sound (r .factors)) (allSound rs) t))
+  where
+    go : (b : Bool) → T (sound (rowAt ms (r .factors) rs)) → T (sound (cond b (rowAt ms (r .factors) rs) above))
+    go true h = h
+    go false h = s
+
+-- a first row whose start is not above t is reached
+first-row : (ms : ℕ) (r : Row) (rs : List Row) → r .start ≤ ms → T (allSound (r ∷ rs)) → T (sound (rowAt ms [] (r ∷ rs)))
+unfolding rowAt allSound
+first-row ms r rs h t =
+    go (leb (r .start) ms) (le→leb (r .start) ms h)
+    (row-sound ms (r .factors) rs (and-left (sound (r .factors)) (allSound rs) t) (and-right (sound (r .factors)) (allSound rs) t))
+  where
+    go : (b : Bool) → T b → T (sound (rowAt ms (r .factors) rs)) → T (sound (cond b (rowAt ms (r .factors) rs) []))
+    go true l k = k
+    go false l k = absurd l
+
+-- a column that is not below X/R is reached
+reaches : ℕ → List ℕ → Bool
+reaches xr [] = false
+reaches xr (x ∷ xs) = leb xr x || reaches xr xs
+
+column-reached : (xr : ℕ) (xs : List ℕ) → T (reaches xr xs) → columnAt xr xs < length xs
+unfolding columnAt reaches
+column-reached xr [] t = absurd t
+column-reached xr (x ∷ xs) t = go (leb xr x) t (column-reached xr xs)
+  where
+    go : (b : Bool) → T (b || reaches xr xs) → (T (reaches xr xs) → columnAt xr xs < length xs)
+        → cond b 0 (suc (columnAt xr xs)) < suc (length xs)
+    go true s next = omega arith
+    go false s next = omega (arith, next s)
+
+or-right : (p q : Bool) → T q → T (p || q)
+or-right true q t = tt
+or-right false q t = t
+
+last-column : (xr : ℕ) → xr ≤ 40 → columnAt xr ratios < 4
+unfolding ratios reaches
+last-column xr h =
+    column-reached xr ratios
+    (or-right (leb xr 10) _ (or-right (leb xr 20) _ (or-right (leb xr 30) _ (or-left (leb xr 40) (le→leb xr 40 h)))))
+  where
+    or-left : (p : Bool) → T p → T (p || false)
+    or-left true t = tt
+    or-left false t = absurd t
+
+entry-bounds : (ms xr : ℕ) → 9 ≤ ms → xr ≤ 40 → Between 1000 (getD (rowAt ms [] rows) (columnAt xr ratios) 0) 1688
+unfolding rows allSound sound inside
+entry-bounds ms xr h l =
+    let s : T (sound (rowAt ms [] rows)) = first-row ms _ _ h tt in
+    let e : length (rowAt ms [] rows) ≡ 4 = eqb→eq _ 4 (and-left (eqb (length (rowAt ms [] rows)) 4) (inside (rowAt ms [] rows)) s) in
+    entry-inside (rowAt ms [] rows) (columnAt xr ratios) (and-right (eqb (length (rowAt ms [] rows)) 4) (inside (rowAt ms [] rows)) s) (omega (arith, last-column xr l))
+
+pub factor-bounds : {c : Case} → Bounds c → Between 1000 (Df c) 1688
+unfolding Df factor
+factor-bounds {c} b = go (leb 500 (c .ms))
+  where
+    go : (b : Bool) → Between 1000 (cond b 1000 (getD (rowAt (c .ms) [] rows) (columnAt (c .xr) ratios) 0)) 1688
+    go true = record { low = omega arith; high = omega arith }
+    go false = entry-bounds (c .ms) (c .xr) (b .ms .low) (b .xr .high)

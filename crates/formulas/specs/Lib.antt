@@ -1,0 +1,9 @@
+pub mod Lengths
+pub mod Decrement
+pub mod Size
+pub mod Tolerable
+pub mod Mesh
+pub mod Step
+pub mod Resistance
+pub mod Width
+pub mod Examples

@@ -1,0 +1,54 @@
+-- Mesh voltage in volts. Document 01, 'The formulas'.
+-- Assumes nothing.
+use Prim.Native.Nat.{ℕ, _-_, _*_}
+use mathlib.Core.Bool.{cond}
+use lib.Dec.{eqb}
+use Rattle.exact.specs.Fraction.{Fraction, whole, decimal, _+f_, _−f_, _·f_, _÷f_}
+use Rattle.exact.specs.Exact.{Exact, exactly, _+x_, _·x_, _÷x_}
+use Rattle.exact.specs.Root.{root}
+use Rattle.exact.specs.Logarithm.{ln}
+use Rattle.exact.specs.Pi.{π}
+use Rattle.case.specs.declared.Case.{Case}
+use Rattle.formulas.specs.Lengths.{ρ, D, h, d, n, Lr, side, Lc, LR, LT, IG, Ki}
+
+module _ (c : Case) where
+  -- "G = D²/(16hd) + (D+2h)²/(8Dd) − h/(4d)"
+  unfoldable pub G : Fraction
+  G =
+      D c ·f D c ÷f (whole 16 ·f h c ·f d c)
+      +f (D c +f whole 2 ·f h c) ·f (D c +f whole 2 ·f h c) ÷f (whole 8 ·f D c ·f d c)
+      −f h c ÷f (whole 4 ·f d c)
+
+  -- "which equals (D+2h)(D²+4h²)/(16hdD)"
+  unfoldable pub G′ : Fraction
+  G′ =
+      (D c +f whole 2 ·f h c) ·f (D c ·f D c +f whole 4 ·f (h c ·f h c))
+      ÷f (whole 16 ·f h c ·f d c ·f D c)
+
+  -- "Kh = √(1+h)"
+  unfoldable pub Kh : Exact
+  Kh = root 2 (exactly (whole 1 +f h c))
+
+  -- "Kii is 1 for place 1, else (2n) to the power −2/n": "one over the n-th root of 4n²"
+  unfoldable pub Kii : Exact
+  Kii =
+      cond (eqb (c .place) 1) (exactly (whole 1)) (exactly (whole 1) ÷x root (c .lines) (exactly (whole 4 ·f n c ·f n c)))
+
+  -- "Km = (ln G + (Kii/Kh)·ln(8/(π(2n−1))))/(2π)"
+  unfoldable pub Km : Exact
+  Km =
+      (ln (exactly G) +x Kii ÷x Kh ·x ln (exactly (whole 8) ÷x (π ·x exactly (whole (2 * c .lines - 1)))))
+      ÷x (exactly (whole 2) ·x π)
+
+  -- "LM is Lc + LR for place 0 or 2; for place 1 it is Lc + (1.55 + 1.22·Lr/√(2s²))·LR."
+  unfoldable pub LM : Exact
+  LM =
+      cond (eqb (c .place) 1)
+      (exactly (Lc c)
+      +x (exactly (decimal 155 2) +x exactly (decimal 122 2 ·f Lr c) ÷x root 2 (exactly (whole 2 ·f (side c ·f side c))))
+      ·x exactly (LR c))
+      (exactly (LT c))
+
+  -- "ρ·Km·Ki·IG/LM"; the factors that are fractions stand first
+  unfoldable pub mesh : Exact
+  mesh = exactly (ρ c ·f Ki c ·f IG c) ÷x LM ·x Km

@@ -1,0 +1,28 @@
+// The row of a case.
+use interval::Interval;
+
+pub enum Verdict {
+    Safe,
+    Unsafe,
+    Undecided,
+}
+
+// The seventeen numbers of a row: a pair is two of them, lower end first.
+pub struct Row {
+    pub station: i64,
+    pub season: i64,
+    pub verdict: i64,
+    // kcmil
+    pub size: i64,
+    // microamperes
+    pub current: i64,
+    // millivolts
+    pub tolerable_touch: Interval,
+    pub tolerable_step: Interval,
+    pub mesh: Interval,
+    pub step: Interval,
+    // micro-ohms
+    pub resistance: Interval,
+    // millivolts
+    pub rise: Interval,
+}

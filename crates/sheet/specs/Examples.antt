@@ -1,0 +1,125 @@
+-- The answer computed on sheets: document 01's sample, each refusal, and the order of the rules where two are broken at once.
+-- Assumes nothing.
+use Prim.Native.Nat.{ℕ, zero, suc, _+_, _*_, _/_, _%_}
+use mathlib.Core.Path.{_≡_, refl}
+use mathlib.Core.List.{List, [], _∷_, _++_, map}
+use lib.ListN.{length, replicate}
+use Rattle.text.specs.Text.{bytes, onFirst, linesOf, fieldsOf, same}
+use Rattle.text.specs.Value.{digit, digits, plain, isValue, numberFrom, valueOf}
+use Rattle.case.specs.declared.Case.{Case}
+use Rattle.case.specs.Columns.{columns, inRange, indexAmong, nameIndex}
+use Rattle.case.specs.Case.{values, caseOf}
+use Rattle.case.specs.Check.{columnOf, leftOf, outOfRange, agree, disagreement, caseFault}
+use Rattle.row.specs.Row.{rowLength}
+use Rattle.sheet.specs.declared.Answer.{Answer}
+use Rattle.sheet.specs.declared.Answer.the-variants.{Rows, Refused}
+use Rattle.sheet.specs.Limits.{mostBytes, mostLines, nameCount}
+use Rattle.sheet.specs.Refusal.{textRefused, nameRefused, noLineRefused, manyLinesRefused, tableRefused, lineAnswer}
+use Rattle.sheet.specs.Header.{noColumns, fresh, nameFault, columnsFrom, columnsOf}
+use Rattle.sheet.specs.Line.{formFault, lineCase, sameKey, repeats, orCase, lineFault}
+use Rattle.sheet.specs.Sheet.{names, valueLines, cases, badText, roomAnswer, linesAnswer, valuesAnswer, namesAnswer, answer}
+
+-- the answer and the cases, with all that they are made of
+answerOf : List ℕ → ℕ → Answer
+unfolding onFirst linesOf fieldsOf same digit digits plain isValue numberFrom valueOf columns inRange indexAmong nameIndex values caseOf columnOf leftOf outOfRange agree disagreement caseFault rowLength mostBytes mostLines nameCount textRefused nameRefused noLineRefused manyLinesRefused tableRefused lineAnswer noColumns fresh nameFault columnsFrom columnsOf formFault lineCase sameKey repeats orCase lineFault names valueLines cases badText roomAnswer linesAnswer valuesAnswer namesAnswer answer
+answerOf s room = answer s room
+
+casesOf : List ℕ → List Case
+unfolding onFirst linesOf fieldsOf same numberFrom valueOf columns indexAmong nameIndex caseOf nameCount noColumns columnsFrom columnsOf lineCase names valueLines cases
+casesOf s = cases s
+
+abbrev head : List ℕ
+head = bytes "station,season,soil,layer,thick,ms,body,fault,split,xr,lines,space,depth,dia,rods,rodlen,place,metal\n"
+
+abbrev dry : List ℕ
+dry = bytes "7,1,400,2500,102,500,70,3180,600,10,11,7000,500,100,0,0,0,1\n"
+
+abbrev wet : List ℕ
+wet = bytes "7,2,100,2500,102,500,70,3180,600,10,11,7000,500,100,0,0,0,1\n"
+
+-- document 01's sample sheet
+sample : List ℕ
+sample = head ++ dry ++ wet
+
+sample-answer : answerOf sample 34 ≡ Rows 2
+unfolding answerOf sample
+sample-answer = refl
+
+sample-cases : casesOf sample ≡
+    caseOf (7 ∷ 1 ∷ 400 ∷ 2500 ∷ 102 ∷ 500 ∷ 70 ∷ 3180 ∷ 600 ∷ 10 ∷ 11 ∷ 7000 ∷ 500 ∷ 100 ∷ 0 ∷ 0 ∷ 0 ∷ 1 ∷ [])
+    ∷ caseOf (7 ∷ 2 ∷ 100 ∷ 2500 ∷ 102 ∷ 500 ∷ 70 ∷ 3180 ∷ 600 ∷ 10 ∷ 11 ∷ 7000 ∷ 500 ∷ 100 ∷ 0 ∷ 0 ∷ 0 ∷ 1 ∷ [])
+    ∷ []
+unfolding casesOf sample
+sample-cases = refl
+
+-- a sheet, the length of the table, and the answer
+record Example : Type 0 where
+  sheet : List ℕ
+  room : ℕ
+  answered : Answer
+
+abbrev row : List ℕ → ℕ → Answer → Example
+row sheet room answered = record { sheet = sheet; room = room; answered = answered }
+
+examples : List Example
+examples =
+    -- 1: empty, too long, no last byte 10
+    row [] 34 (Refused 1 0 0)
+    ∷ row (replicate 16385 10) 34 (Refused 1 0 0)
+    ∷ row (replicate 16384 10) 34 (Refused 2 1 1)
+    ∷ row (head ++ bytes "7") 34 (Refused 1 0 0)
+    -- 2: unknown, in another case of letters, twice, missing, a nineteenth
+    ∷ row (bytes "station,season,Soil\n") 34 (Refused 2 1 3)
+    ∷ row (bytes "station,season,station,nothing\n") 34 (Refused 2 1 3)
+    ∷ row (bytes "metal,place\n") 34 (Refused 2 1 3)
+    ∷ row (bytes "station,season,soil,layer,thick,ms,body,fault,split,xr,lines,space,depth,dia,rods,rodlen,place,metal,soil\n") 34 (Refused 2 1 19)
+    ∷ row (bytes "station,season,soil,layer,thick,ms,body,fault,split,xr,lines,space,depth,dia,rods,rodlen,place,metal,\n") 34 (Refused 2 1 19)
+    -- 2 comes before 4
+    ∷ row (bytes "\n") 34 (Refused 2 1 1)
+    -- 4: no line, and 65
+    ∷ row head 34 (Refused 4 2 0)
+    ∷ row (head ++ replicate 65 10) 34 (Refused 4 66 0)
+    -- 3: wrong forms, too few, too many; an empty line
+    ∷ row (head ++ dry ++ bytes "\n") 34 (Refused 3 3 1)
+    ∷ row (head ++ bytes "7,1,0400,2500,102,500,70,3180,600,10,11,7000,500,100,0,0,0,1\n") 34 (Refused 3 2 3)
+    ∷ row (head ++ bytes "7,1,400,2500,102,500,70,3180,600,10,11,7000,500,100,0,0,0,1000000\n") 34 (Refused 3 2 18)
+    ∷ row (head ++ bytes "7,1, 400,2500,102,500,70,3180,600,10,11,7000,500,100,0,0,0,1\n") 34 (Refused 3 2 3)
+    ∷ row (head ++ bytes "7,1,400,2500,102,500,70,3180,600,10,11,7000,500,100,0,0,0\n") 34 (Refused 3 2 18)
+    ∷ row (head ++ bytes "7,1,400,2500,102,500,70,3180,600,10,11,7000,500,100,0,0,0,1,1\n") 34 (Refused 3 2 19)
+    ∷ row (head ++ bytes "7,1,400,2500,102,500,70,3180,600,10,11,7000,500,100,0,0,x,1,1\n") 34 (Refused 3 2 17)
+    -- 3 of a line comes before 5, and 5 of a line before 3 of a later one
+    ∷ row (head ++ bytes "0,1,400,2500,102,500,70,3180,600,10,11,7000,500,100,0,0,0,x\n") 34 (Refused 3 2 18)
+    ∷ row (head ++ bytes "0,1,400,2500,102,500,70,3180,600,10,11,7000,500,100,0,0,0,1\n\n") 34 (Refused 5 2 1)
+    -- 5: the leftmost; depth 249 and 2501; before 6
+    ∷ row (head ++ bytes "7,1,400,2500,102,500,70,3180,600,10,11,7000,249,0,0,0,0,1\n") 34 (Refused 5 2 13)
+    ∷ row (head ++ bytes "7,1,400,2500,102,500,70,3180,600,10,11,7000,2501,100,0,0,0,1\n") 34 (Refused 5 2 13)
+    ∷ row (head ++ bytes "7,1,400,2500,0,500,70,3180,600,10,11,7000,500,100,0,0,0,12\n") 34 (Refused 5 2 18)
+    -- 6: layer before rods
+    ∷ row (head ++ bytes "7,1,400,2500,0,500,70,3180,600,10,11,7000,500,100,3,0,0,1\n") 34 (Refused 6 2 4)
+    ∷ row (head ++ bytes "7,1,400,2500,102,500,70,3180,600,10,11,7000,500,100,3,1000,0,1\n") 34 (Refused 6 2 15)
+    -- 7, and 6 before 7
+    ∷ row (head ++ dry ++ wet ++ dry) 51 (Refused 7 4 0)
+    ∷ row (head ++ dry ++ bytes "7,1,400,2500,0,500,70,3180,600,10,11,7000,500,100,0,0,0,1\n") 34 (Refused 6 3 4)
+    -- 8 comes last
+    ∷ row sample 33 (Refused 8 0 0)
+    ∷ row (head ++ dry ++ dry) 0 (Refused 7 3 0)
+    -- names in another order: columns are those of the header
+    ∷ row (bytes "metal,place,rodlen,rods,dia,depth,space,lines,xr,split,fault,body,ms,thick,layer,soil,season,station\n1,0,0,0,100,500,7000,11,10,600,3180,70,500,102,2500,400,1,7\n") 17 (Rows 1)
+    ∷ row (bytes "metal,place,rodlen,rods,dia,depth,space,lines,xr,split,fault,body,ms,thick,layer,soil,season,station\n1,0,0,0,0,249,7000,11,10,600,3180,70,500,102,2500,400,1,7\n") 17 (Refused 5 2 5)
+    ∷ row (bytes "metal,place,rodlen,rods,dia,depth,space,lines,xr,split,fault,body,ms,thick,layer,soil,season,station\n1,0,0,3,100,500,7000,11,10,600,3180,70,500,0,2500,400,1,7\n") 17 (Refused 6 2 15)
+    ∷ []
+
+right : map (λ e. answerOf (e .sheet) (e .room)) examples ≡ map (λ e. e .answered) examples
+unfolding answerOf examples sample
+right = refl
+
+-- ---- 64 lines pass, 65 are refused: stations 100 and up
+
+manyLines : ℕ → List ℕ
+manyLines zero = []
+manyLines (suc n) =
+    49 ∷ (48 + n / 10) ∷ (48 + n % 10) ∷ bytes ",1,400,2500,102,500,70,3180,600,10,11,7000,500,100,0,0,0,1\n" ++ manyLines n
+
+many : answerOf (head ++ manyLines 64) (17 * 64) ∷ answerOf (head ++ manyLines 65) (17 * 65) ∷ [] ≡ Rows 64 ∷ Refused 4 66 0 ∷ []
+unfolding answerOf manyLines
+many = refl

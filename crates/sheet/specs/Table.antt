@@ -1,0 +1,40 @@
+-- The table after a sheet: one claim over every sheet, every table and every row. Document 01, 'The result table' and 'To the testers'.
+-- Assumes nothing.
+use Prim.Native.Nat.{ℕ, _*_, _<_}
+use mathlib.Core.Path.{_≡_}
+use mathlib.Core.List.{List, []}
+use lib.IntN.{ℤ}
+use lib.ListN.{length, getD, take, drop}
+use Rattle.case.specs.declared.Case.{Case}
+use Rattle.case.specs.Case.{caseOf}
+use Rattle.row.specs.declared.Row.{Row}
+use Rattle.row.specs.Row.{RightRow, numbers, rowLength}
+use Rattle.sheet.specs.declared.Answer.{Answer}
+use Rattle.sheet.specs.declared.Answer.the-variants.{Rows, Refused}
+use Rattle.sheet.specs.Sheet.{answer, cases}
+
+-- the numbers of row i
+abbrev pub rowAt : List ℤ → ℕ → List ℤ
+rowAt table i = take rowLength (drop (rowLength * i) table)
+
+-- some numbers are a right row of a case
+pub record RowOf (c : Case) (numbers-of : List ℤ) : Type 0 where
+  pub row : Row
+  pub is : numbers-of ≡ numbers row
+  pub right : RightRow c row
+
+-- every case has its own row, in order, "Numbers past the last row keep what they held."
+pub record Filled (cs : List Case) (before after : List ℤ) : Type 0 where
+  pub size : length after ≡ length before
+  pub rows : (i : ℕ) → i < length cs → RowOf (getD cs i (caseOf [])) (rowAt after i)
+  pub rest : drop (rowLength * length cs) after ≡ drop (rowLength * length cs) before
+
+-- "A refusal changes nothing in the table"
+unfoldable pub TableAfter : List ℕ → List ℤ → List ℤ → Answer → Type 0
+TableAfter s before after (Rows count) = Filled (cases s) before after
+TableAfter s before after (Refused number line column) = after ≡ before
+
+-- the answer to a sheet and what it leaves in the table
+pub record Answered (s : List ℕ) (before after : List ℤ) (r : Answer) : Type 0 where
+  pub answer-is : r ≡ answer s (length before)
+  pub table-is : TableAfter s before after r

@@ -1,0 +1,871 @@
+"""Tests of the separately written calculator.
+
+    python3 -m unittest discover -s tests
+"""
+
+import io
+import math
+import random
+import subprocess
+import sys
+import unittest
+from fractions import Fraction
+from pathlib import Path
+from unittest import mock
+
+import calculator as calc
+from calculator import Case, Pair, Refusal
+
+DEPTHS = range(3, 13)
+COMMAND = Path(__file__).with_name("calculator.py")
+
+HEADER = (
+    "station,season,soil,layer,thick,ms,body,fault,split,xr,lines,"
+    "space,depth,dia,rods,rodlen,place,metal"
+)
+SAMPLE_LINES = (
+    "7,1,400,2500,102,500,70,3180,600,10,11,7000,500,100,0,0,0,1",
+    "7,2,100,2500,102,500,70,3180,600,10,11,7000,500,100,0,0,0,1",
+)
+YARD = Case(*(int(field) for field in SAMPLE_LINES[0].split(",")))
+BARE = YARD._replace(soil=100, layer=0, thick=0, body=50, ms=1000)
+RODDED = YARD._replace(rods=20, rodlen=7500, place=1)
+# Mesh voltage well within the tolerable touch, step voltage above its limit.
+STEP_ONLY = Case(1, 1, 10, 0, 0, 500, 50, 20000, 1000, 10, 25, 2500, 250, 300, 200, 1000, 1, 1)
+
+
+def text(*lines):
+    return "".join(line + "\n" for line in lines).encode("ascii")
+
+
+def value_line(case=YARD, names=calc.NAMES, **changes):
+    """A value line in the order of names; a change may be any text."""
+    values = dict(case._asdict(), **changes)
+    return ",".join(str(values[name]) for name in names)
+
+
+def sheet_of(*lines, header=HEADER):
+    return text(header, *lines)
+
+
+def random_case(rng):
+    case = Case(*(rng.randint(*rng.choice(spans)) for spans in calc.RANGES))
+    layer = rng.choice([(0, 0), (rng.randint(100, 10000), rng.randint(20, 300))])
+    rods = rng.choice(
+        [(0, 0, 0), (rng.randint(1, 200), rng.randint(1000, 10000), rng.randint(1, 2))]
+    )
+    return case._replace(
+        layer=layer[0], thick=layer[1], rods=rods[0], rodlen=rods[1], place=rods[2]
+    )
+
+
+class StarredYards(unittest.TestCase):
+    def assert_tolerable(self, case, touch, step):
+        """The pairs with both ends there hold the exact values, and pairs
+        one mV beside do not, once the depth is great enough.
+        """
+        for k in DEPTHS:
+            ends = calc.exact_ends(case, k)
+            self.assertTrue(calc.holds(touch, touch, ends.tolerable_touch, 1000), k)
+            self.assertTrue(calc.holds(step, step, ends.tolerable_step, 1000), k)
+        for beside in (-1, 1):
+            self.assertFalse(calc.holds(touch + beside, touch + beside, ends.tolerable_touch, 1000))
+            self.assertFalse(calc.holds(step + beside, step + beside, ends.tolerable_step, 1000))
+
+    def test_bare_soil(self):
+        self.assert_tolerable(BARE, 133400, 185600)
+
+    def test_bare_soil_at_250_ms(self):
+        self.assert_tolerable(BARE._replace(ms=250), 266800, 371200)
+
+    def test_bare_soil_with_70_kg(self):
+        self.assert_tolerable(BARE._replace(body=70), 180550, 251200)
+
+    def test_conductor_sizes(self):
+        for fault, ms, metal, kcmil in (
+            (20000, 3000, 1, 243), (20000, 3000, 4, 362), (20000, 3000, 8, 638),
+            (1000, 1000, 1, 7), (1001, 1000, 1, 8), (1000, 1000, 5, 13),
+        ):
+            case = YARD._replace(fault=fault, ms=ms, metal=metal)
+            self.assertEqual(calc.conductor_kcmil(case), kcmil, case)
+
+    def test_decrement(self):
+        for ms, xr, entry in ((99, 11, 1378), (100, 11, 1232), (499, 40, 1125), (500, 40, 1000)):
+            self.assertEqual(calc.decrement_thousandths(YARD._replace(ms=ms, xr=xr)), entry)
+
+    def test_grid_current(self):
+        case = YARD._replace(fault=3180, split=600, ms=500)
+        self.assertEqual(calc.grid_current_microamperes(case), 1908000000)
+
+    def test_mesh_argument(self):
+        case = YARD._replace(space=7000, depth=500, dia=100)
+        self.assertEqual(calc.mesh_argument(case), Fraction(5000, 7))
+
+
+class UnstarredYards(unittest.TestCase):
+    def test_64_lines_pass_and_65_do_not(self):
+        lines = [value_line(station=station) for station in range(1, 66)]
+        cases = calc.read_sheet(sheet_of(*lines[:64]))
+        self.assertEqual([case.station for case in cases], list(range(1, 65)))
+        self.assertEqual(calc.read_sheet(sheet_of(*lines)), Refusal(4, 66, 0))
+
+    def test_depth_249_and_2501(self):
+        for depth in (249, 2501):
+            refusal = calc.read_sheet(sheet_of(value_line(depth=depth)))
+            self.assertEqual(refusal, Refusal(5, 2, 13))
+        for depth in (250, 2500):
+            self.assertEqual(len(calc.read_sheet(sheet_of(value_line(depth=depth)))), 1)
+
+
+class SampleSheet(unittest.TestCase):
+    def test_cases_and_verdicts(self):
+        cases = calc.read_sheet(sheet_of(*SAMPLE_LINES), 34)
+        self.assertEqual(cases, [YARD, YARD._replace(season=2, soil=100)])
+        rows = [calc.row_at(case, 12) for case in cases]
+        self.assertEqual([row[:5] for row in rows],
+                         [[7, 1, 2, 16, 1908000000], [7, 2, 1, 16, 1908000000]])
+
+    def test_season_1_row(self):
+        """The numbers as doubles give them, rounded outward."""
+        row = [7, 1, 2, 16, 1908000000, 840547, 840548, 2696097, 2696098, 1001614, 1001615,
+               609726, 609727, 2775693, 2775694, 5296023, 5296024]
+        self.assertEqual(calc.row_at(YARD, 12), row)
+        self.assertEqual(calc.judge_row(YARD, row, DEPTHS), [])
+
+    def test_row_at_a_shallow_depth_takes_both_ends(self):
+        # (1000 + 1.5 * 13000/7) * 0.157 V over 0.708 and over 0.707
+        self.assertEqual(calc.row_at(YARD, 3)[5:7], [839487, 840675])
+
+    def test_season_1_voltages(self):
+        """"mesh near 1001.6 V against 840.5 V": within half a last digit."""
+        for k in (6, 12):
+            ends = calc.exact_ends(YARD, k)
+            for pair, volts in ((ends.mesh, "1001.6"), (ends.tolerable_touch, "840.5")):
+                for end in pair:
+                    self.assertLessEqual(abs(end - Fraction(volts)), Fraction("0.05"))
+
+
+class Refusals(unittest.TestCase):
+    def assert_refused(self, sheet, *place, table=None):
+        self.assertEqual(calc.read_sheet(sheet, table), Refusal(*place))
+
+    def test_1_size_and_last_byte(self):
+        good = sheet_of(SAMPLE_LINES[0])
+        self.assert_refused(b"", 1, 0, 0)
+        self.assert_refused(good[:-1], 1, 0, 0)
+        self.assert_refused(good + b"7", 1, 0, 0)
+        self.assert_refused(good + b"\r", 1, 0, 0)
+        self.assert_refused(b"x" * 16383 + b"\n", 2, 1, 1)
+        self.assert_refused(b"x" * 16384 + b"\n", 1, 0, 0)
+
+    def test_2_names(self):
+        names = HEADER.split(",")
+        line = SAMPLE_LINES[0]
+        for column in range(1, 19):
+            for wrong in ("", "Season", "seasons", " season", "station\r"):
+                bad = names[: column - 1] + [wrong] + names[column:]
+                self.assert_refused(sheet_of(line, header=",".join(bad)), 2, 1, column)
+            fewer = ",".join(names[: column - 1])
+            self.assert_refused(sheet_of(line, header=fewer), 2, 1, column)
+
+    def test_2_repeated_name_is_told_where_it_is_repeated(self):
+        names = HEADER.split(",")
+        names[9] = "soil"
+        self.assert_refused(sheet_of(SAMPLE_LINES[0], header=",".join(names)), 2, 1, 10)
+        names[4] = "nobody"
+        self.assert_refused(sheet_of(SAMPLE_LINES[0], header=",".join(names)), 2, 1, 5)
+
+    def test_2_leftmost_comes_before_a_missing_column(self):
+        self.assert_refused(sheet_of(header="station,Season"), 2, 1, 2)
+        self.assert_refused(sheet_of(header="station,season"), 2, 1, 3)
+        self.assert_refused(sheet_of(header="station,"), 2, 1, 2)
+
+    def test_2_nineteenth_name(self):
+        for more in ("station", "other", ""):
+            self.assert_refused(sheet_of(header=HEADER + "," + more), 2, 1, 19)
+
+    def test_3_forms(self):
+        for wrong in ("", "00", "01", "0500", "1000000", "0000000", "+1", "-1", "1.0",
+                      " 1", "1 ", "1\r", "x", "1_0", "0x1"):
+            for column, name in enumerate(calc.NAMES, start=1):
+                line = value_line(**{name: wrong})
+                self.assert_refused(sheet_of(line), 3, 2, column)
+
+    def test_3_bytes_that_other_readers_take_for_digits(self):
+        for digit in "\u0661\u00b2\uff11":
+            line = SAMPLE_LINES[0].encode() + digit.encode("utf-8")
+            self.assert_refused(text(HEADER) + line + b"\n", 3, 2, 18)
+
+    def test_3_six_digits_have_right_form(self):
+        self.assert_refused(sheet_of(value_line(station=999999)), 5, 2, 1)
+
+    def test_3_too_few_and_too_many(self):
+        values = SAMPLE_LINES[0].split(",")
+        for count in range(1, 18):
+            self.assert_refused(sheet_of(",".join(values[:count])), 3, 2, count + 1)
+        self.assert_refused(sheet_of(",".join(values + ["1"])), 3, 2, 19)
+        self.assert_refused(sheet_of(",".join(values + ["x", "1"])), 3, 2, 19)
+        self.assert_refused(sheet_of(SAMPLE_LINES[0] + ","), 3, 2, 19)
+        self.assert_refused(sheet_of(",".join(values[:17] + ["x", "1"])), 3, 2, 18)
+        self.assert_refused(sheet_of(",".join(values[:4] + ["x"])), 3, 2, 5)
+
+    def test_3_empty_line(self):
+        self.assert_refused(sheet_of(""), 3, 2, 1)
+        self.assert_refused(sheet_of(SAMPLE_LINES[0], "", SAMPLE_LINES[1]), 3, 3, 1)
+        self.assert_refused(sheet_of(*SAMPLE_LINES, ""), 3, 4, 1)
+
+    def test_4_line_counts(self):
+        self.assert_refused(sheet_of(), 4, 2, 0)
+        self.assert_refused(sheet_of(*[""] * 65), 4, 66, 0)
+        self.assert_refused(sheet_of(*[""] * 100), 4, 66, 0)
+        self.assert_refused(sheet_of(*[""] * 64), 3, 2, 1)
+
+    def test_5_every_range(self):
+        outside = {
+            "station": (0, 65536), "season": (0, 5), "soil": (9, 5001),
+            "layer": (1, 99, 10001), "thick": (1, 19, 301), "ms": (8, 3001),
+            "body": (49, 51, 60, 69, 71), "fault": (99, 80001), "split": (0, 1001),
+            "xr": (0, 41), "lines": (1, 26), "space": (2499, 30001),
+            "depth": (249, 2501), "dia": (49, 301), "rods": (201,),
+            "rodlen": (1, 999, 10001), "place": (3,), "metal": (0, 12),
+        }
+        self.assertEqual(tuple(outside), calc.NAMES)
+        for column, (name, values) in enumerate(outside.items(), start=1):
+            for value in values:
+                self.assert_refused(sheet_of(value_line(RODDED, **{name: value})), 5, 2, column)
+
+    def test_5_every_range_end_passes(self):
+        inside = {
+            "station": (1, 65535), "season": (1, 4), "soil": (10, 5000),
+            "layer": (100, 10000), "thick": (20, 300), "ms": (9, 3000),
+            "body": (50, 70), "fault": (100, 80000), "split": (1, 1000),
+            "xr": (1, 40), "lines": (2, 25), "space": (2500, 30000),
+            "depth": (250, 2500), "dia": (50, 300), "rods": (1, 200),
+            "rodlen": (1000, 10000), "place": (1, 2), "metal": (1, 11),
+        }
+        self.assertEqual(tuple(inside), calc.NAMES)
+        for name, values in inside.items():
+            for value in values:
+                case = RODDED._replace(**{name: value})
+                self.assertEqual(calc.read_sheet(sheet_of(value_line(case))), [case])
+
+    def test_6_groups_disagree(self):
+        self.assert_refused(sheet_of(value_line(layer=0)), 6, 2, 4)
+        self.assert_refused(sheet_of(value_line(thick=0)), 6, 2, 4)
+        for count, length, place in (
+            (1, 0, 0), (0, 1000, 0), (0, 0, 1), (1, 1000, 0), (1, 0, 2), (0, 1000, 1),
+        ):
+            line = value_line(rods=count, rodlen=length, place=place)
+            self.assert_refused(sheet_of(line), 6, 2, 15)
+            self.assert_refused(sheet_of(value_line(rods=count, rodlen=length, place=place,
+                                                    layer=0)), 6, 2, 4)
+
+    def test_7_station_and_season_repeated(self):
+        other = value_line(station=8)
+        self.assert_refused(sheet_of(SAMPLE_LINES[0], other, value_line(soil=10)), 7, 4, 0)
+        self.assertEqual(len(calc.read_sheet(sheet_of(*SAMPLE_LINES, other))), 3)
+
+    def test_8_short_table(self):
+        sheet = sheet_of(*SAMPLE_LINES)
+        for table in (0, 17, 33):
+            self.assert_refused(sheet, 8, 0, 0, table=table)
+        for table in (34, 35, None):
+            self.assertEqual(len(calc.read_sheet(sheet, table)), 2)
+
+    def test_order_of_numbers(self):
+        good = SAMPLE_LINES[0]
+        # 1 before 2, 2 before 4, 4 before 3
+        self.assert_refused(b"nobody", 1, 0, 0)
+        self.assert_refused(b"nobody\n", 2, 1, 1)
+        self.assert_refused(text("nobody", *["x"] * 65), 2, 1, 1)
+        self.assert_refused(sheet_of("x", *["x"] * 64), 4, 66, 0)
+        # within a line 3, 5, 6, 7, whatever the columns
+        self.assert_refused(sheet_of(value_line(station=0, metal="x")), 3, 2, 18)
+        self.assert_refused(sheet_of(value_line(layer=0, metal=12)), 5, 2, 18)
+        self.assert_refused(sheet_of(good, value_line(layer=0)), 6, 3, 4)
+        self.assert_refused(sheet_of(good, good), 7, 3, 0)
+        # line by line before the number
+        self.assert_refused(sheet_of(value_line(layer=0), value_line(metal="x")), 6, 2, 4)
+        self.assert_refused(sheet_of(good, good, "x"), 7, 3, 0)
+        # 8 comes last
+        self.assert_refused(sheet_of(good, good), 7, 3, 0, table=0)
+        self.assert_refused(sheet_of(), 4, 2, 0, table=0)
+
+    def test_leftmost_within_a_number(self):
+        self.assert_refused(sheet_of(value_line(soil="x", station="y")), 3, 2, 1)
+        self.assert_refused(sheet_of(value_line(metal=0, body=60, xr=0)), 5, 2, 7)
+
+    def test_columns_follow_the_header(self):
+        names = calc.NAMES[::-1]
+        header = ",".join(names)
+        self.assertEqual(calc.read_sheet(sheet_of(value_line(names=names), header=header)), [YARD])
+        for changes, place in (
+            ({"station": "x"}, (3, 2, 18)),
+            ({"station": 0, "metal": 0}, (5, 2, 1)),
+            ({"layer": 0}, (6, 2, 15)),
+            ({"rods": 1}, (6, 2, 4)),
+            ({"layer": 0, "rods": 1}, (6, 2, 15)),  # layer before rods
+        ):
+            line = value_line(names=names, **changes)
+            self.assert_refused(sheet_of(line, header=header), *place)
+
+    def test_random_column_orders(self):
+        rng = random.Random(3)
+        for _ in range(50):
+            names = rng.sample(calc.NAMES, 18)
+            case = random_case(rng)
+            sheet = sheet_of(value_line(case, names), header=",".join(names))
+            self.assertEqual(calc.read_sheet(sheet), [case])
+
+
+class Records(unittest.TestCase):
+    def test_accepted(self):
+        self.assertIsNone(calc.check_record(YARD))
+        self.assertIsNone(calc.check_record(list(RODDED)))
+
+    def test_refused(self):
+        for changes, number, column in (
+            ({"station": 0, "metal": 0}, 5, 1),
+            ({"metal": 99}, 5, 18),
+            ({"depth": 249, "layer": 0}, 5, 13),
+            ({"layer": 0, "rods": 1}, 6, 4),
+            ({"rods": 1}, 6, 15),
+            ({"fault": 2**64}, 5, 8),
+            ({"soil": -400}, 5, 3),
+        ):
+            refusal = calc.check_record(YARD._replace(**changes))
+            self.assertEqual(refusal, Refusal(number, 0, column))
+
+    def test_logarithm(self):
+        most = 10**15
+        self.assertIsNone(calc.check_ln(1, most))
+        self.assertIsNone(calc.check_ln(most, 1))
+        self.assertEqual(calc.check_ln(0, 1), Refusal(5, 0, 1))
+        self.assertEqual(calc.check_ln(most + 1, 0), Refusal(5, 0, 1))
+        self.assertEqual(calc.check_ln(1, 0), Refusal(5, 0, 2))
+        self.assertEqual(calc.check_ln(1, most + 1), Refusal(5, 0, 2))
+
+
+class Decrement(unittest.TestCase):
+    TABLE_10 = (
+        ((9, 49), ("1.576", "1.648", "1.675", "1.688")),
+        ((50, 99), ("1.232", "1.378", "1.462", "1.515")),
+        ((100, 199), ("1.125", "1.232", "1.316", "1.378")),
+        ((200, 299), ("1.064", "1.125", "1.181", "1.232")),
+        ((300, 399), ("1.043", "1.085", "1.125", "1.163")),
+        ((400, 499), ("1.033", "1.064", "1.095", "1.125")),
+        ((500, 3000), ("1.000", "1.000", "1.000", "1.000")),
+    )
+    XR = ((1, 10), (11, 20), (21, 30), (31, 40))
+
+    def test_all_entries_and_their_edges(self):
+        for (first_ms, last_ms), entries in self.TABLE_10:
+            for xr_span, entry in zip(self.XR, entries):
+                for ms in (first_ms, (first_ms + last_ms) // 2, last_ms):
+                    for xr in xr_span:
+                        case = YARD._replace(ms=ms, xr=xr)
+                        df = Fraction(calc.decrement_thousandths(case), 1000)
+                        self.assertEqual(df, Fraction(entry), (ms, xr))
+
+
+class ConductorSize(unittest.TestCase):
+    # At 50,000 A, 1000 ms the size is 50 * Kf, rounded up; at 80,000 A,
+    # 3000 ms it is 138.564.. * Kf, so that each hundredth of Kf shows.
+    AT_50_KA_1_S = (350, 353, 589, 523, 603, 732, 863, 920, 736, 1448, 1503)
+    AT_80_KA_3_S = (970, 979, 1633, 1448, 1672, 2029, 2392, 2549, 2040, 4013, 4164)
+
+    def test_every_metal(self):
+        for fault, ms, sizes in ((50000, 1000, self.AT_50_KA_1_S),
+                                 (80000, 3000, self.AT_80_KA_3_S)):
+            for metal, kcmil in enumerate(sizes, start=1):
+                case = YARD._replace(fault=fault, ms=ms, metal=metal)
+                self.assertEqual(calc.conductor_kcmil(case), kcmil, (fault, metal))
+
+    def test_decrement_enters_and_split_does_not(self):
+        case = YARD._replace(fault=10000, ms=90, xr=40, split=1)
+        # 10 kA * 1.515 * 7.00 * sqrt(0.09) = 31.815
+        self.assertEqual(calc.conductor_kcmil(case), 32)
+        self.assertEqual(calc.conductor_kcmil(case._replace(split=1000)), 32)
+
+    def test_smallest_not_below(self):
+        rng = random.Random(5)
+        for _ in range(200):
+            case = random_case(rng)
+            size, square = calc.conductor_kcmil(case), calc.size_squared(case)
+            self.assertGreaterEqual(size**2, square)
+            self.assertLess((size - 1) ** 2, square)
+
+
+class Exactness(unittest.TestCase):
+    SLACK = Fraction(1, 10**14)  # doubles near 1 to 40, as math gives them
+
+    def test_depths_start_at_3(self):
+        for ask in (lambda: calc.pi_ends(2), lambda: calc.exact_ends(YARD, 2),
+                    lambda: calc.root_ends(Fraction(2), 2, 2), lambda: calc.ln_ends(3, 2, 2)):
+            self.assertRaises(ValueError, ask)
+
+    def test_pairs_combine(self):
+        a, b = Pair(Fraction(-2), Fraction(3)), Pair(Fraction(4), Fraction(5))
+        self.assertEqual(a + b, Pair(2, 8))
+        self.assertEqual(a + 1, Pair(-1, 4))
+        self.assertEqual(a * b, Pair(-10, 15))
+        self.assertEqual(-2 * b, Pair(-10, -8))
+        self.assertEqual(a / b, Pair(Fraction(-1, 2), Fraction(3, 4)))
+        self.assertEqual(1 / b, Pair(Fraction(1, 5), Fraction(1, 4)))
+        self.assertEqual(-a, Pair(-3, 2))
+        for divisor in (a, Pair(Fraction(0), Fraction(1)), Pair(Fraction(-1), Fraction(0))):
+            self.assertRaises(ZeroDivisionError, lambda: b / divisor)
+
+    def test_roots(self):
+        for k in (3, 7, 12):
+            for degree in (2, 3, 10, 25):
+                for value in (Fraction(1, 3), Fraction(2), Fraction(20), Fraction(2500), Fraction(1, 9)):
+                    pair = calc.root_ends(value, degree, k)
+                    self.assertEqual((pair.lower * 10**k).denominator, 1)
+                    self.assertEqual(pair.upper - pair.lower, Fraction(1, 10**k))
+                    self.assertLessEqual(pair.lower**degree, value)
+                    self.assertGreater(pair.upper**degree, value)
+
+    def test_whole_roots(self):
+        for degree in (2, 3, 7, 25):
+            for root in (0, 1, 2, 3, 10, 12345):
+                power = root**degree
+                self.assertEqual(calc.whole_root(power, degree), root)
+                self.assertEqual(calc.whole_root((root + 1) ** degree - 1, degree), root)
+
+    def test_exact_root_is_the_lower_end(self):
+        self.assertEqual(calc.root_ends(Fraction(1, 4), 2, 3), Pair(Fraction(500, 1000), Fraction(501, 1000)))
+        self.assertEqual(calc.root_ends(Fraction(16), 2, 3).lower, 4)
+
+    def test_pi(self):
+        for k in DEPTHS:
+            pair = calc.pi_ends(k)
+            self.assertLess(pair.lower, pair.upper)
+            self.assertLess(pair.lower - self.SLACK, Fraction(math.pi))
+            self.assertLess(Fraction(math.pi), pair.upper + self.SLACK)
+            self.assertLess(pair.upper - pair.lower, Fraction(1, 25 ** (2 * k)))
+
+    def test_pi_at_depth_3_by_its_terms(self):
+        fifth = [Fraction(1, 5), Fraction(-1, 3 * 5**3), Fraction(1, 5 * 5**5), Fraction(-1, 7 * 5**7),
+                 Fraction(1, 9 * 5**9), Fraction(-1, 11 * 5**11), Fraction(1, 13 * 5**13)]
+        other = [Fraction(1, 239), Fraction(-1, 3 * 239**3), Fraction(1, 5 * 239**5),
+                 Fraction(-1, 7 * 239**7), Fraction(1, 9 * 239**9), Fraction(-1, 11 * 239**11),
+                 Fraction(1, 13 * 239**13)]
+        self.assertEqual(calc.pi_ends(3).lower, 16 * sum(fifth[:6]) - 4 * sum(other))
+        self.assertEqual(calc.pi_ends(3).upper, 16 * sum(fifth) - 4 * sum(other[:6]))
+
+    def test_ln_at_depth_3_by_its_terms(self):
+        def series(z):
+            lower = 2 * (z + z**3 / 3 + z**5 / 5)
+            return lower, lower + 2 * z**7 / (7 * (1 - z**2))
+        two, rest = series(Fraction(1, 3)), series(Fraction(1, 9))  # 10 = 2^3 * 5/4
+        ten = (3 * two[0] + rest[0], 3 * two[1] + rest[1])
+        self.assertEqual(calc.ln_ends(10, 1, 3), ten)
+        self.assertEqual(calc.ln_ends(1, 10, 3), (-ten[1], -ten[0]))
+        self.assertEqual(calc.ln_ends(2, 1, 3), two)
+        self.assertEqual(calc.ln_ends(7, 7, 3), (0, 0))
+
+    def test_ln_against_doubles(self):
+        rng = random.Random(7)
+        asked = [(1, 10**15), (10**15, 1), (2**49, 1), (2**49 - 1, 1), (1, 2), (10**15, 10**15 - 1)]
+        asked += [(rng.randint(1, 10**rng.randint(1, 15)), rng.randint(1, 10**rng.randint(1, 15)))
+                  for _ in range(60)]
+        for p, q in asked:
+            value = Fraction(math.log(Fraction(p, q)) if p < 2 * q and q < 2 * p
+                             else math.log(p) - math.log(q))
+            for k in (3, 6, 12):
+                pair = calc.ln_ends(p, q, k)
+                self.assertLessEqual(pair.lower - 2 * self.SLACK, value)
+                self.assertLessEqual(value, pair.upper + 2 * self.SLACK)
+            self.assertLess(pair.upper - pair.lower, Fraction(1, 10**11))
+
+    def test_ln_of_a_pair(self):
+        pair = calc.ln_pair(Pair(Fraction(1, 2), Fraction(3)), 5)
+        self.assertEqual(pair, (-calc.ln_ends(2, 1, 5).upper, calc.ln_ends(3, 1, 5).upper))
+
+    def test_depths_nest(self):
+        """No lower end of any depth is above an upper end of any other."""
+        rng = random.Random(11)
+        for case in [YARD, RODDED, BARE, STEP_ONLY] + [random_case(rng) for _ in range(12)]:
+            at = [calc.exact_ends(case, k) for k in (3, 4, 5, 7, 9, 12)]
+            for pairs in zip(*at):
+                self.assertLessEqual(max(p.lower for p in pairs), min(p.upper for p in pairs))
+        for asked in ((22, 7), (1, 10**15), (5000, 7)):
+            pairs = [calc.ln_ends(*asked, k) for k in DEPTHS]
+            self.assertLessEqual(max(p.lower for p in pairs), min(p.upper for p in pairs))
+
+
+def double_values(case):
+    """The six quantities in doubles, straight from the formulas."""
+    rho, n = case.soil, case.lines
+    big_d, h, d = case.space / 1000, case.depth / 1000, case.dia / 10000
+    s = (n - 1) * big_d
+    lc, lr = 2 * n * s, case.rods * case.rodlen / 1000
+    current = case.fault * case.split / 1000 * calc.decrement_thousandths(case) / 1000
+    q = rho
+    if case.layer:
+        hs = case.thick / 1000
+        cs = 1 - 0.09 * (1 - rho / case.layer) / (2 * hs + 0.09)
+        q = cs * case.layer
+    per_root_t = {50: 0.116, 70: 0.157}[case.body] / math.sqrt(case.ms / 1000)
+    g = (big_d + 2 * h) * (big_d**2 + 4 * h**2) / (16 * h * d * big_d)
+    kii = 1 if case.place == 1 else (2 * n) ** (-2 / n)
+    km = (math.log(g) + kii / math.sqrt(1 + h) * math.log(8 / math.pi / (2 * n - 1))) / 2 / math.pi
+    ks = (1 / (2 * h) + 1 / (big_d + h) + (1 - 0.5 ** (n - 2)) / big_d) / math.pi
+    lm = lc + lr
+    if case.place == 1:
+        lm = lc + (1.55 + 1.22 * case.rodlen / 1000 / math.hypot(s, s)) * lr
+    resistance = rho * (1 / (lc + lr) + (1 + 1 / (1 + h * math.sqrt(20 / s**2))) / math.sqrt(20 * s**2))
+    driving = rho * (0.644 + 0.148 * n) * current
+    return (
+        (1000 + 1.5 * q) * per_root_t, (1000 + 6 * q) * per_root_t,
+        driving * km / lm, driving * ks / (0.75 * lc + 0.85 * lr),
+        resistance, current * resistance,
+    )
+
+
+class Formulas(unittest.TestCase):
+    def test_against_doubles(self):
+        """Each double lies within 1e-9 of both ends: at depth 12 the roots
+        leave 1e-11 at most (the root of 9 ms is near 0.1), doubles 1e-13.
+        """
+        rng = random.Random(13)
+        cases = [YARD, RODDED, BARE, STEP_ONLY, RODDED._replace(place=2), YARD._replace(lines=2)]
+        for case in cases + [random_case(rng) for _ in range(60)]:
+            for name, pair, value in zip(calc.Ends._fields, calc.exact_ends(case, 12),
+                                         double_values(case)):
+                for end in pair:
+                    self.assertAlmostEqual(float(end) / value, 1, delta=1e-9, msg=(name, case))
+
+    def test_mesh_argument_has_two_forms(self):
+        rng = random.Random(17)
+        for _ in range(50):
+            case = random_case(rng)
+            big_d, h = Fraction(case.space, 1000), Fraction(case.depth, 1000)
+            d = Fraction(case.dia, 10000)
+            other = (big_d + 2 * h) * (big_d**2 + 4 * h**2) / (16 * h * d * big_d)
+            self.assertEqual(calc.mesh_argument(case), other)
+
+    def test_layer_less_resistive_than_the_soil(self):
+        case = YARD._replace(soil=1000, layer=100, thick=45)
+        # 100 - 0.09 * (100 - 1000) / 0.18 = 550
+        self.assertEqual(calc.surface_effect(case), 550)
+
+
+class Judging(unittest.TestCase):
+    def judged(self, case, row):
+        return calc.judge_row(case, row, (3, 6, 12))
+
+    def test_own_rows_are_right(self):
+        rng = random.Random(19)
+        for case in [YARD, RODDED, BARE, STEP_ONLY] + [random_case(rng) for _ in range(20)]:
+            self.assertEqual(self.judged(case, calc.row_at(case, 12)), [], case)
+
+    def test_each_wrong_number_is_found(self):
+        row = calc.row_at(RODDED, 12)
+        for place in range(17):
+            wrong = list(row)
+            wrong[place] += 1000 if place % 2 else -1000
+            self.assertNotEqual(self.judged(RODDED, wrong), [], place)
+
+    def test_ends_one_unit_on_the_wrong_side(self):
+        row = calc.row_at(RODDED, 12)
+        for lower in range(5, 17, 2):
+            for ends in ((row[lower + 1], row[lower + 1]), (row[lower], row[lower])):
+                wrong = list(row)
+                wrong[lower : lower + 2] = ends
+                complaints = self.judged(RODDED, wrong)
+                self.assertTrue(any("misses" in complaint for complaint in complaints))
+
+    def test_widths(self):
+        """The greatest allowed whole width passes, one more does not."""
+        row = calc.row_at(YARD, 12)
+        driving = Fraction(400 * 1908) * Fraction("2.272")
+        lower = [row[i] for i in range(5, 17, 2)]
+        wanted = (
+            Fraction(lower[0], 10000) + 10, Fraction(lower[1], 10000) + 10,
+            driving / 1540 * 1000 / 10000 + 10, driving / (Fraction(3, 4) * 1540) * 1000 / 10000 + 10,
+            Fraction(lower[4], 10000) + 2, Fraction(lower[5], 2000) + 10,
+        )
+        self.assertEqual(calc.allowed_widths(YARD, row), wanted)
+        for i, allowed in enumerate(wanted):
+            wide = list(row)
+            wide[6 + 2 * i] = wide[5 + 2 * i] + math.floor(allowed)
+            self.assertEqual(self.judged(YARD, wide), [])
+            wide[6 + 2 * i] += 1
+            self.assertTrue(any("width" in complaint for complaint in self.judged(YARD, wide)))
+
+    def test_ends_from_nought_to_the_maximum(self):
+        row = calc.row_at(YARD, 12)
+        idle = row[:2] + [3] + row[3:5] + [0, 2**63 - 1] * 6
+        self.assertEqual(len(self.judged(YARD, idle)), 6)
+
+    def test_row_length_and_order(self):
+        row = calc.row_at(YARD, 12)
+        self.assertNotEqual(self.judged(YARD, row[:-1]), [])
+        self.assertNotEqual(self.judged(YARD, row + [0]), [])
+        turned = row[:5] + [row[6], row[5]] + row[7:]
+        self.assertTrue(any("above" in complaint for complaint in self.judged(YARD, turned)))
+
+    def test_verdict_follows_from_the_reported_ends(self):
+        def verdict(touch, limit, mesh, step):
+            return calc.verdict_of([7, 1, 0, 16, 1, *touch, *limit, *mesh, *step, 1, 2, 10**9, 10**9])
+        self.assertEqual(verdict((10, 12), (20, 22), (8, 10), (18, 20)), calc.SAFE)
+        self.assertEqual(verdict((10, 12), (20, 22), (8, 11), (18, 20)), calc.UNDECIDED)
+        self.assertEqual(verdict((10, 12), (20, 22), (8, 10), (18, 21)), calc.UNDECIDED)
+        self.assertEqual(verdict((10, 12), (20, 22), (12, 13), (18, 20)), calc.UNDECIDED)
+        self.assertEqual(verdict((10, 12), (20, 22), (13, 14), (18, 20)), calc.UNSAFE)
+        self.assertEqual(verdict((10, 12), (20, 22), (8, 10), (22, 24)), calc.UNDECIDED)
+        self.assertEqual(verdict((10, 12), (20, 22), (8, 10), (23, 24)), calc.UNSAFE)
+        self.assertEqual(verdict((10, 12), (20, 22), (8, 11), (23, 24)), calc.UNSAFE)
+
+    def test_wrong_verdicts_are_found(self):
+        for case in (YARD, RODDED, STEP_ONLY):
+            row = calc.row_at(case, 12)
+            for verdict in {0, 1, 2, 3, 4} - {row[2]}:
+                self.assertNotEqual(self.judged(case, row[:2] + [verdict] + row[3:]), [])
+
+    def test_exact_ends_speak_against_a_verdict(self):
+        """Rows whose wrong ends go with their wrong verdict."""
+        low_mesh = calc.row_at(YARD, 12)
+        low_mesh[9:11] = [1, 2]
+        low_mesh[2] = calc.verdict_of(low_mesh)
+        self.assertIn("verdict safe, yet an exact voltage is above its limit",
+                      self.judged(YARD, low_mesh))
+        high_mesh = calc.row_at(RODDED, 12)
+        high_mesh[9:11] = [10**9, 10**9 + 1]
+        high_mesh[2] = calc.verdict_of(high_mesh)
+        self.assertIn("verdict unsafe, yet both exact voltages are within",
+                      self.judged(RODDED, high_mesh))
+
+    def exact_verdict_complaints(self, verdict, voltage, limit, which):
+        """judge_verdict with made-up exact ends, the other voltage being low."""
+        low, high = Pair(1, 2), Pair(98, 99)
+        pairs = dict.fromkeys(calc.Ends._fields, low)
+        pairs.update(tolerable_touch=high, tolerable_step=high)
+        pairs[which] = Pair(*voltage)
+        pairs["tolerable_touch" if which == "mesh" else "tolerable_step"] = Pair(*limit)
+        row = calc.row_at(YARD, 12)
+        row[2] = verdict
+        with mock.patch.object(calc, "exact_ends", lambda case, k: calc.Ends(**pairs)):
+            return sum("yet" in words for words in calc.judge_verdict(YARD, row, [3]))
+
+    def test_exact_ends_at_their_edges(self):
+        for which in ("mesh", "step"):
+            for verdict, voltage, limit, complaints in (
+                (1, (9, 11), (8, 10), 0), (1, (10, 12), (8, 10), 0), (1, (11, 12), (8, 10), 1),
+                (2, (9, 11), (10, 12), 0), (2, (8, 10), (10, 12), 1), (2, (9, 9), (10, 12), 1),
+                (3, (11, 12), (8, 10), 0), (3, (8, 10), (10, 12), 0),
+            ):
+                found = self.exact_verdict_complaints(verdict, voltage, limit, which)
+                self.assertEqual(found, complaints, (verdict, voltage, limit, which))
+
+    def test_step_alone_makes_unsafe(self):
+        row = calc.row_at(STEP_ONLY, 12)
+        self.assertEqual(row[2], calc.UNSAFE)
+        self.assertLess(row[10], row[5])
+
+    def test_logarithm(self):
+        # ln(22/7) = 1.14513230430300291...
+        self.assertEqual(calc.judge_ln(22, 7, 1145132304, 1145132305, DEPTHS), [])
+        self.assertEqual(calc.judge_ln(7, 22, -1145132305, -1145132304, DEPTHS), [])
+        self.assertEqual(calc.judge_ln(22, 7, 1145132304, 1145134304, DEPTHS), [])
+        self.assertEqual(calc.judge_ln(1, 1, 0, 0, DEPTHS), [])
+        for lower, upper in ((1145132304, 1145134305), (1145132305, 1145132306),
+                             (1145132303, 1145132304), (1145132305, 1145132304)):
+            self.assertNotEqual(calc.judge_ln(22, 7, lower, upper, DEPTHS), [])
+        self.assertRaises(ValueError, calc.judge_ln, 0, 1, 0, 0, DEPTHS)
+
+
+class WrongCalculators(unittest.TestCase):
+    """Rows of the wrong calculators that document 01 names are found out."""
+
+    def assert_found(self, case, row, word):
+        complaints = calc.judge_row(case, row, (3, 6, 12))
+        self.assertTrue(any(complaint.startswith(word) for complaint in complaints), complaints)
+
+    def row_with(self, case, name, function):
+        """A row at depth 12 with one function of the calculator replaced."""
+        calc.exact_ends.cache_clear()
+        with mock.patch.object(calc, name, function):
+            row = calc.row_at(case, 12)
+        calc.exact_ends.cache_clear()
+        return row
+
+    def test_kii_1_for_rods_inside_only(self):
+        inside = RODDED._replace(place=2)
+        row = self.row_with(inside, "kii_ends", lambda case, k: calc.as_pair(1))
+        self.assert_found(inside, row, "mesh")
+
+    def test_conductor_sized_by_grid_current(self):
+        row = calc.row_at(YARD, 12)
+        row[3] = calc.conductor_kcmil(YARD._replace(fault=YARD.fault * YARD.split // 1000))
+        self.assert_found(YARD, row, "kcmil")
+
+    def test_rounding_to_nearest(self):
+        row = calc.row_at(YARD, 12)
+        row[5] = row[6] = 840548  # 840,547.93 mV to the nearest
+        self.assert_found(YARD, row, "tolerable_touch")
+
+    def test_pi_as_one_decimal_fraction(self):
+        row = self.row_with(YARD, "pi_ends", lambda k: calc.as_pair(Fraction("3.1416")))
+        self.assert_found(YARD, row, "step")
+
+    def test_layer_ignored(self):
+        self.assert_found(YARD, calc.row_at(YARD._replace(layer=0, thick=0), 12), "tolerable_touch")
+
+    def test_step_untested(self):
+        row = calc.row_at(STEP_ONLY, 12)
+        row[2] = calc.SAFE
+        self.assert_found(STEP_ONLY, row, "verdict")
+
+    def test_a_season_replacing_its_neighbour(self):
+        other = YARD._replace(season=2, soil=100)
+        row = calc.row_at(YARD, 12)
+        self.assert_found(other, row, "season")
+        row[1] = 2
+        self.assert_found(other, row, "mesh")
+
+
+class AnnexB(unittest.TestCase):
+    """IEEE Std 80-2013, Annex B, examples B.1 and B.2.
+
+    A figure printed with some digits may be half a last digit off.  Where the
+    Annex works on with a figure it has rounded (Cs 0.74, Rg 2.78 and 2.75, Km
+    0.89 and 0.77, Ks 0.406), half that figure's last digit, carried through the
+    formula, is added; and the formula with the rounded figure put in must give
+    the printed one to its last digit.
+
+    Left out, as no formula of document 01 gives them: the fault currents and
+    X/R from impedances, the reflection factor K, 59.81 kcmil (a 700 degree
+    limit, equation 46), areas in mm2, and the figures of a computer program.
+    X/R 3.33 is entered as 4 and 16.2 as 17; at 0.5 s Df is 1 for all.
+    """
+
+    B1 = Case(1, 1, 400, 2500, 102, 500, 70, 3180, 600, 4, 11, 7000, 500, 100, 0, 0, 0, 2)
+    B2 = B1._replace(rods=20, rodlen=7500, place=1)
+    K = 12
+
+    def assert_near(self, value, printed, tolerance):
+        for end in calc.as_pair(value):
+            self.assertLessEqual(abs(end - Fraction(printed)), Fraction(tolerance))
+
+    def ends(self, case):
+        return calc.exact_ends(case, self.K)
+
+    def test_cs(self):
+        self.assert_near(calc.surface_effect(self.B1) / 2500, "0.74", "0.005")
+
+    def test_tolerable_voltages(self):
+        for weight, name, printed in (("1.5", "tolerable_touch", "838.2"),
+                                      ("6", "tolerable_step", "2686.6")):
+            weight = Fraction(weight)
+            # The Annex puts in Cs = 0.74, so Q = 1850: half a digit of 0.1 V.
+            annex = calc.tolerable_ends(weight, Fraction("0.74") * 2500, 70, 500, self.K)
+            self.assert_near(annex, printed, "0.05")
+            # Cs is off by up to 0.005: weight * 0.005 * 2500 * 0.157 / sqrt(0.5),
+            # which is 4.2 V for touch and 16.7 V for step.
+            carried = weight * Fraction("0.005") * 2500 * Fraction("0.157") / Fraction("0.7072")
+            self.assert_near(getattr(self.ends(self.B1), name), printed,
+                             carried + Fraction("0.05"))
+
+    def test_lengths_and_current(self):
+        self.assertEqual(calc.total_length(self.B1), 1540)
+        self.assertEqual(calc.total_length(self.B2), 1690)
+        self.assertEqual(calc.decrement_thousandths(self.B1), 1000)
+        self.assertEqual(calc.grid_current(self.B1), 1908)
+        self.assertEqual(calc.grid_current(self.B2), 1908)
+
+    def test_resistance_and_rise(self):
+        for case, ohms, volts in ((self.B1, "2.78", "5304"), (self.B2, "2.75", "5247")):
+            # Rg: half a digit of 0.01 ohm.
+            self.assert_near(self.ends(case).resistance, ohms, "0.005")
+            # GPR: 1908 A times the rounded Rg, half a digit of 1 V ..
+            self.assert_near(1908 * Fraction(ohms), volts, "0.5")
+            # .. and Rg is off by up to 0.005 ohm: 9.54 V more.
+            self.assert_near(self.ends(case).rise, volts, 1908 * Fraction("0.005") + Fraction("0.5"))
+
+    def test_mesh_factors(self):
+        self.assert_near(calc.kii_ends(self.B1, self.K), "0.57", "0.005")
+        self.assertEqual(calc.kii_ends(self.B2, self.K), (1, 1))
+        self.assertEqual(calc.ki(self.B1), Fraction("2.272"))
+        for case, km in ((self.B1, "0.89"), (self.B2, "0.77")):
+            self.assert_near(calc.kh_ends(case, self.K), "1.225", "0.0005")
+            # Half a digit of 0.01; Kii 0.57 and Kh 1.225 put in rounded move
+            # Km by some 0.0001, and both Km stay inside without it.
+            self.assert_near(calc.km_ends(case, self.K), km, "0.005")
+
+    def test_mesh_voltage(self):
+        for case, km, printed in ((self.B1, "0.89", "1002.1"), (self.B2, "0.77", "747.4")):
+            per_km = calc.driving(case) / calc.mesh_length(case, self.K)
+            # The Annex puts in the rounded Km: half a digit of 0.1 V.
+            self.assert_near(Fraction(km) * per_km, printed, "0.05")
+            # Km is off by up to 0.005: 5.6 V in B.1 and 4.9 V in B.2.
+            carried = Fraction("0.005") * per_km.lower
+            self.assert_near(self.ends(case).mesh, printed, carried + Fraction("0.05"))
+
+    def test_step_voltage(self):
+        self.assert_near(calc.ks_ends(self.B2, self.K), "0.406", "0.0005")
+        per_ks = calc.driving(self.B2) / calc.step_length(self.B2)
+        # The Annex puts in the rounded Ks: half a digit of 0.1 V.
+        self.assert_near(Fraction("0.406") * per_ks, "548.9", "0.05")
+        # Ks is off by up to 0.0005: 0.7 V.
+        carried = Fraction("0.0005") * per_ks
+        self.assert_near(self.ends(self.B2).step, "548.9", carried + Fraction("0.05"))
+
+    def test_conductor(self):
+        """6.814 kA, hard-drawn copper: 34.02 kcmil, half a digit of 0.01."""
+        case = self.B1._replace(fault=6814, xr=17)
+        size = calc.root_ends(calc.size_squared(case), 2, self.K)
+        self.assert_near(size, "34.02", "0.005")
+        self.assertEqual(calc.conductor_kcmil(case), 35)
+
+    def test_verdicts(self):
+        self.assertEqual(calc.row_at(self.B1, self.K)[2], calc.UNSAFE)
+        self.assertEqual(calc.row_at(self.B2, self.K)[2], calc.SAFE)
+
+
+class Command(unittest.TestCase):
+    def run_command(self, sheet, *arguments):
+        done = subprocess.run([sys.executable, str(COMMAND), *arguments], input=sheet,
+                              capture_output=True, check=True)
+        return done.stdout.decode("ascii")
+
+    def test_sample_sheet(self):
+        lines = self.run_command(sheet_of(*SAMPLE_LINES)).splitlines()
+        self.assertEqual(len(lines), 3)
+        first = dict(zip(lines[0].split(","), lines[1].split(",")))
+        self.assertEqual(first["kcmil"], "16")
+        self.assertEqual(first["df_thousandths"], "1000")
+        self.assertEqual(first["current_microamperes"], "1908000000")
+        self.assertEqual(first["mesh_lower"], "1001614.323503")
+        self.assertEqual(first["mesh_upper"], "1001614.323504")
+        self.assertEqual(first["tolerable_touch_lower"], "840547.932321")
+        self.assertEqual(first["resistance_lower"][:8], "2775693.")
+
+    def test_refusals(self):
+        sheet = sheet_of(*SAMPLE_LINES)
+        self.assertEqual(self.run_command(sheet, "--table", "33"), "refused,8,0,0\n")
+        self.assertEqual(self.run_command(sheet[:-1]), "refused,1,0,0\n")
+
+    def test_depth(self):
+        sheet = sheet_of(*SAMPLE_LINES)
+        self.assertEqual(self.run_command(sheet, "--depth", "4"), calc.answer_text(sheet, 4))
+        self.assertEqual(calc.answer_text(sheet), calc.answer_text(sheet, 12))
+        self.assertNotEqual(calc.answer_text(sheet, 4), calc.answer_text(sheet, 12))
+        lines = calc.answer_text(sheet_of(SAMPLE_LINES[0]), 3).splitlines()
+        shallow = dict(zip(lines[0].split(","), lines[1].split(",")))
+        # (1000 + 1.5 * 13000/7) * 0.157 V over 0.708 and 0.707, by hand
+        self.assertEqual(shallow["tolerable_touch_lower"], "839487.489911")
+        self.assertEqual(shallow["tolerable_touch_upper"], "840674.883815")
+        with mock.patch("sys.stderr", io.StringIO()):
+            self.assertRaises(SystemExit, calc.main, ["--depth", "2"])
+
+    def test_decimals_round_outward_below_zero(self):
+        pair = Pair(Fraction(-1, 3), Fraction(1, 3))
+        self.assertEqual(calc.shown_ends(pair, 1), ("-0.333334", "0.333334"))
+        self.assertEqual(calc.shown_ends(-2 * pair, 1), ("-0.666667", "0.666667"))
+
+
+if __name__ == "__main__":
+    unittest.main()
