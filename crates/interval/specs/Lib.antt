@@ -1,1 +1,4 @@
 pub mod Signed
+pub mod Whole
+pub mod Operations
+pub mod Root

@@ -1,0 +1,1 @@
+// What intervals enclose: definitions in specs/, laws in proofs/. No code.

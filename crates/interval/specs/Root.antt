@@ -1,0 +1,16 @@
+-- The ends of a square root in whole numbers: the greatest whole number whose square is not above x, and the next one.
+-- Assumes nothing.
+use Prim.Native.Nat.{ℕ, _+_, _*_, _≤_, _<_}
+use mathlib.Core.Path.{_≡_}
+use Rattle.interval.specs.declared.Interval.{Interval}
+use Rattle.interval.specs.Operations.{natural}
+
+pub record IsRoot (x r : ℕ) : Type 0 where
+  pub low : r * r ≤ x
+  pub high : x < (r + 1) * (r + 1)
+
+-- the pair of a root and the next number
+pub record RootEnds (x : ℕ) (a : Interval) : Type 0 where
+  pub root : ℕ
+  pub is-root : IsRoot x root
+  pub ends : a ≡ natural root (root + 1)

@@ -1,0 +1,25 @@
+-- Signed whole numbers rounded down and up, and the lesser and the greater of two.
+-- Assumes nothing.
+use Prim.Native.Nat.{ℕ}
+use mathlib.Core.Bool.{cond}
+use lib.IntN.{ℤ, pos, negsuc, negℤ}
+use lib.Signed.{shrZ, leZ}
+
+-- −1 − z
+abbrev pub flipZ : ℤ → ℤ
+flipZ (pos n) = negsuc n
+flipZ (negsuc n) = pos n
+
+-- z / d rounded toward the lower end, also below 0
+unfoldable pub floorZ : ℤ → ℕ → ℤ
+floorZ z d = shrZ z d
+
+-- z / d rounded toward the upper end
+unfoldable pub ceilZ : ℤ → ℕ → ℤ
+ceilZ z d = negℤ (floorZ (negℤ z) d)
+
+unfoldable pub minZ : ℤ → ℤ → ℤ
+minZ a b = cond (leZ a b) a b
+
+unfoldable pub maxZ : ℤ → ℤ → ℤ
+maxZ a b = cond (leZ a b) b a
