@@ -9,36 +9,16 @@ use lib.ListN.{length, getD}
 use lib.Dec.{T, leb, eqb, leb→le, le→leb, nleb→lt, eqb→eq}
 use Rattle.case.specs.declared.Case.{Case}
 use Rattle.case.specs.Bounds.{Between, Bounds}
+use Rattle.formulas.proofs.Tables.{and-left, and-right, inside, entry-inside}
 use Rattle.formulas.specs.Decrement.{Row, ratios, rows, rowAt, columnAt, factor, Df}
-
--- every number of a list lies in the range
-inside : List ℕ → Bool
-inside [] = true
-inside (x ∷ xs) = leb 1000 x && leb x 1688 && inside xs
 
 -- a row of four such numbers
 sound : List ℕ → Bool
-sound xs = eqb (length xs) 4 && inside xs
+sound xs = eqb (length xs) 4 && inside 1000 1688 xs
 
 allSound : List Row → Bool
 allSound [] = true
 allSound (r ∷ rs) = sound (r .factors) && allSound rs
-
-and-left : (p q : Bool) → T (p && q) → T p
-and-left true q t = tt
-and-left false q t = t
-
-and-right : (p q : Bool) → T (p && q) → T q
-and-right true q t = t
-and-right false q t = absurd t
-
-entry-inside : (xs : List ℕ) (i : ℕ) → T (inside xs) → i < length xs → Between 1000 (getD xs i 0) 1688
-unfolding inside
-entry-inside [] i t l = absurd (omega arith)
-entry-inside (x ∷ xs) zero t l =
-    let h = and-left (leb 1000 x && leb x 1688) (inside xs) t in
-    record { low = leb→le 1000 x (and-left (leb 1000 x) (leb x 1688) h); high = leb→le x 1688 (and-right (leb 1000 x) (leb x 1688) h) }
-entry-inside (x ∷ xs) (suc i) t l = entry-inside xs i (and-right (leb 1000 x && leb x 1688) (inside xs) t) (omega arith)
 
 row-sound : (ms : ℕ) (above : List ℕ) (rs : List Row) → T (sound above) → T (allSound rs) → T (sound (rowAt ms above rs))
 unfolding rowAt allSound
@@ -94,8 +74,8 @@ entry-bounds : (ms xr : ℕ) → 9 ≤ ms → xr ≤ 40 → Between 1000 (getD (
 unfolding rows allSound sound inside
 entry-bounds ms xr h l =
     let s : T (sound (rowAt ms [] rows)) = first-row ms _ _ h tt in
-    let e : length (rowAt ms [] rows) ≡ 4 = eqb→eq _ 4 (and-left (eqb (length (rowAt ms [] rows)) 4) (inside (rowAt ms [] rows)) s) in
-    entry-inside (rowAt ms [] rows) (columnAt xr ratios) (and-right (eqb (length (rowAt ms [] rows)) 4) (inside (rowAt ms [] rows)) s) (omega (arith, last-column xr l))
+    let e : length (rowAt ms [] rows) ≡ 4 = eqb→eq _ 4 (and-left (eqb (length (rowAt ms [] rows)) 4) (inside 1000 1688 (rowAt ms [] rows)) s) in
+    entry-inside 1000 1688 (rowAt ms [] rows) (columnAt xr ratios) (and-right (eqb (length (rowAt ms [] rows)) 4) (inside 1000 1688 (rowAt ms [] rows)) s) (omega (arith, last-column xr l))
 
 pub factor-bounds : {c : Case} → Bounds c → Between 1000 (Df c) 1688
 unfolding Df factor

@@ -2,5 +2,6 @@ pub mod Positive
 pub mod MeshArgument
 pub mod Consistent
 pub mod Yards
-pub mod Size
+pub mod Tables
 pub mod Decrement
+pub mod Size

@@ -5,9 +5,10 @@ use mathlib.Core.Path.{_≡_, refl, ap}
 use mathlib.Core.Bool.{Bool, true, false, cond, not}
 use mathlib.Core.Logic.{_⊎_, inl, inr}
 use native.Mathlib.Omega.{arith}
-use native.Mathlib.Nat.{add-zero, zero-add, eq-or-lt-of-le, mul-le-mul-right, mul-le-mul-left, mul-pos, pow-suc, pow-zero}
+use native.Mathlib.Nat.{add-zero, zero-add, eq-or-lt-of-le, mul-le-mul, lt-of-le-of-lt, mul-pos, pow-suc, pow-zero}
 use lib.IntN.{pos}
-use lib.Dec.{T, leb, leb→le, le→leb, nleb→lt}
+use lib.ListN.{drop}
+use lib.Dec.{T, lit<, leb, leb→le, le→leb, nleb→lt}
 use Rattle.exact.specs.Fraction.{Fraction, _≤f_, _<f_, _≈f_, whole, decimal, _·f_, top}
 use Rattle.exact.specs.Exact.{Exact, exactly, _·x_, Above, AtOrBelow}
 use Rattle.exact.specs.Root.{root}
@@ -18,8 +19,11 @@ use Rattle.exact.proofs.Consistency.{consistent-exactly}
 use Rattle.exact.proofs.Roots.{consistent-root}
 use Rattle.exact.proofs.AboveRoot.{above-root, not-above-root, above-multiple, not-above-multiple}
 use Rattle.case.specs.declared.Case.{Case}
+use Rattle.case.specs.Bounds.{Between, Bounds}
+use Rattle.formulas.proofs.Tables.{inside, entry-inside}
+use Rattle.formulas.proofs.Decrement.{factor-bounds}
 use Rattle.formulas.specs.Decrement.{Df}
-use Rattle.formulas.specs.Size.{Kf, smallest, duty, enough, required, size}
+use Rattle.formulas.specs.Size.{constants, Kf, smallest, duty, enough, required, size}
 
 -- ---- the smallest number that passes a test
 
@@ -52,7 +56,7 @@ module _ (test : ℕ → Bool) where
 
 -- ---- the size by squares
 
-square : (n : ℕ) → n ^ 2 ≡ n * n
+pub square : (n : ℕ) → n ^ 2 ≡ n * n
 square n = rw (pow-suc n 1, pow-suc n 0, pow-zero n) (omega arith)
 
 square-grows : (n : ℕ) → n ≤ n ^ 2 * 10 ^ 19
@@ -123,3 +127,22 @@ module _ (c : Case) (d : 0 < duty c) where
   size-smallest m l =
       above-multiple load (whole m) (share m) consistent-time load-pos (load-share m .fro)
       (above-root 2 time (m * 10 ^ 8) unit (omega arith) (high m (size-least c m l)))
+
+-- ---- the bounds of Kf and of I·Kf
+
+pub kf-bounds : {metal : ℕ} → Between 1 metal 11 → Between 700 (Kf metal) 3005
+unfolding Kf constants inside
+kf-bounds {metal = zero} h = absurd (omega (arith, h .low))
+kf-bounds {metal = suc m} h = entry-inside 700 3005 (drop 1 constants) m tt (omega (arith, h .high))
+
+pub duty-pos : {c : Case} → Bounds c → 0 < duty c
+unfolding duty
+duty-pos {c} b =
+    mul-pos
+    (mul-pos {m = c .fault} {n = Df c} (omega (arith, b .fault .low)) (omega (arith, factor-bounds b .low)))
+    (omega (arith, kf-bounds (b .metal) .low))
+
+pub duty-bound : {c : Case} → Bounds c → duty c < 10 ^ 12
+unfolding duty
+duty-bound {c} b =
+    lt-of-le-of-lt (mul-le-mul (mul-le-mul (b .fault .high) (factor-bounds b .high)) (kf-bounds (b .metal) .high)) (lit< tt)

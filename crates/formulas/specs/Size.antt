@@ -1,6 +1,6 @@
 -- Conductor size. Document 01, 'The formulas' (IEEE Std 80-2013, equations 47 and 48, Table 2).
 -- Assumes nothing.
-use Prim.Native.Nat.{ℕ, zero, suc, _+_, _-_, _*_, _^_}
+use Prim.Native.Nat.{ℕ, zero, suc, _*_, _^_}
 use mathlib.Core.Bool.{Bool, cond}
 use mathlib.Core.List.{List, [], _∷_}
 use lib.ListN.{getD}
@@ -11,13 +11,13 @@ use Rattle.exact.specs.Root.{root}
 use Rattle.case.specs.declared.Case.{Case}
 use Rattle.formulas.specs.Decrement.{Df}
 
--- "Each metal has its own Kf constant", in hundredths, metals 1 to 11
+-- "Each metal has its own Kf constant", in hundredths; no metal has the number 0
 unfoldable pub constants : List ℕ
 constants =
-    700 ∷ 706 ∷ 1178 ∷ 1045 ∷ 1206 ∷ 1464 ∷ 1726 ∷ 1839 ∷ 1472 ∷ 2896 ∷ 3005 ∷ []
+    0 ∷ 700 ∷ 706 ∷ 1178 ∷ 1045 ∷ 1206 ∷ 1464 ∷ 1726 ∷ 1839 ∷ 1472 ∷ 2896 ∷ 3005 ∷ []
 
 unfoldable pub Kf : ℕ → ℕ
-Kf metal = getD constants (metal - 1) 0
+Kf metal = getD constants metal 0
 
 -- the smallest number from `first` on that passes a test, of `tries` numbers
 unfoldable pub smallest : (ℕ → Bool) → ℕ → ℕ → ℕ

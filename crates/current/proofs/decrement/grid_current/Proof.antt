@@ -1,0 +1,49 @@
+-- `grid_current` is the product of fault, split and Df.
+-- Assumes nothing.
+use Prim.Native.Nat.{ℕ, _≤_}
+use mathlib.Core.Path.{_≡_, ap}
+use borrow.Author.Needs.{needs}
+use lib.Dec.{lit<}
+use Rattle.case.specs.Bounds.{Bounds}
+use Rattle.formulas.specs.Decrement.{Df}
+use Rattle.formulas.specs.Lengths.{gridCurrent}
+use Rattle.formulas.proofs.Decrement.{factor-bounds}
+use Rattle.current.proofs.Fits.{fits-product, fits-triple}
+use Rattle.current.proofs.decrement.grid_current.Statement.{statement}
+use Rattle.current.proofs.decrement.grid_current.Tie as tie
+
+decrement-factor-requires : tie.Need-decrement-factor-requires
+decrement-factor-requires c κs = search needs
+
+cast-result : tie.Need-cast-result
+cast-result c = search needs
+
+cast-result-2 : tie.Need-cast-result-2
+cast-result-2 c = search needs
+
+-- the factor of the case
+factor-is : (c : tie.After-decrement-factor) → c .decrement-factor .result ≡ Df (c .before .args .c)
+unfolding Df
+factor-is c = c .decrement-factor .ensures
+
+mul-result : tie.Need-mul-result
+mul-result c =
+    let b = c .before .before .before .pre in
+    fits-product (b .fault .high) (b .split .high) (lit< tt)
+
+cast-result-3 : tie.Need-cast-result-3
+cast-result-3 c = search needs
+
+mul-result-2 : tie.Need-mul-result-2
+mul-result-2 c =
+    let f = c .before .before in
+    let b = f .before .pre in
+    rw (factor-is f) (fits-triple (b .fault .high) (b .split .high) (factor-bounds b .high) (lit< tt))
+
+returns : tie.Need-returns
+unfolding gridCurrent
+returns c = rw (factor-is (c .before .before))
+
+pub grid-current-spec : {M : Type 1} → statement M
+grid-current-spec =
+    tie.close (tie.spec decrement-factor-requires cast-result cast-result-2 mul-result cast-result-3 mul-result-2 returns)

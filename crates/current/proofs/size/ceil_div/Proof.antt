@@ -1,0 +1,23 @@
+-- `ceil_div` rounds up.
+-- Assumes nothing.
+use mathlib.Core.Path.{refl}
+use borrow.Author.Needs.{needs}
+use Rattle.current.specs.Size.{ceilDiv}
+use Rattle.current.proofs.size.ceil_div.Statement.{statement}
+use Rattle.current.proofs.size.ceil_div.Tie as tie
+
+sub-result : tie.Need-sub-result
+sub-result c = search needs
+
+add-result : tie.Need-add-result
+add-result c = search needs
+
+div-result : tie.Need-div-result
+div-result c = search needs
+
+returns : tie.Need-returns
+unfolding ceilDiv
+returns c = refl
+
+pub ceil-div-spec : {M : Type 1} → statement M
+ceil-div-spec = tie.close (tie.spec sub-result add-result div-result returns)

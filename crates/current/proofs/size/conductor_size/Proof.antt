@@ -1,0 +1,38 @@
+-- `conductor_size` is the smallest number for the rounded square.
+-- Assumes nothing.
+use Prim.Native.Nat.{_≤_}
+use native.Mathlib.Omega.{arith}
+use native.Mathlib.Nat.{mul-le-mul}
+use borrow.Author.Needs.{needs}
+use Rattle.case.specs.Bounds.{Bounds}
+use Rattle.formulas.specs.Size.{duty, size}
+use Rattle.formulas.proofs.Size.{duty-bound}
+use Rattle.current.proofs.SquareLoad.{load-bound}
+use Rattle.current.proofs.Smallest.{size-is}
+use Rattle.current.proofs.size.conductor_size.Statement.{statement}
+use Rattle.current.proofs.size.conductor_size.Tie as tie
+
+load-requires : tie.Need-load-requires
+load-requires c κs = search needs
+
+cast-square-load : tie.Need-cast-square-load
+cast-square-load c = search needs
+
+square-load-requires : tie.Need-square-load-requires
+square-load-requires c κs =
+    let s = c .before .before in
+    rw (c .before .load .ensures) (duty-bound (s .pre), s .pre .ms .high)
+
+smallest-square-requires : tie.Need-smallest-square-requires
+smallest-square-requires c κs =
+    let s = c .before .before .before in
+    rw (c .square-load .ensures, c .before .before .load .ensures) (load-bound _ _ (duty-bound (s .pre)) (s .pre .ms .high))
+
+returns : tie.Need-returns
+returns c =
+    let q = c .before in
+    let s = q .before .before .before in
+    size-is (s .args .c) (c .smallest-square .result) (rw (q .square-load .ensures, q .before .before .load .ensures) at (c .smallest-square .ensures))
+
+pub conductor-size-spec : {M : Type 1} → statement M
+conductor-size-spec = tie.close (tie.spec load-requires cast-square-load square-load-requires smallest-square-requires returns)

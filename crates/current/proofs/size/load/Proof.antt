@@ -1,0 +1,54 @@
+-- `load` is the product of fault, Df and Kf.
+-- Assumes nothing.
+use mathlib.Core.Path.{_≡_}
+use borrow.Author.Needs.{needs}
+use lib.Dec.{lit<}
+use Rattle.case.specs.Bounds.{Bounds}
+use Rattle.formulas.specs.Decrement.{Df}
+use Rattle.formulas.specs.Size.{duty}
+use Rattle.formulas.proofs.Decrement.{factor-bounds}
+use Rattle.formulas.proofs.Size.{kf-bounds}
+use Rattle.current.proofs.Fits.{fits-product, fits-triple}
+use Rattle.current.proofs.size.load.Statement.{statement}
+use Rattle.current.proofs.size.load.Tie as tie
+
+decrement-factor-requires : tie.Need-decrement-factor-requires
+decrement-factor-requires c κs = search needs
+
+kf-requires : tie.Need-kf-requires
+kf-requires c κs = search needs
+
+cast-result : tie.Need-cast-result
+cast-result c = search needs
+
+cast-result-2 : tie.Need-cast-result-2
+cast-result-2 c = search needs
+
+-- the factor of the case
+factor-is : (c : tie.After-decrement-factor) → c .decrement-factor .result ≡ Df (c .before .args .c)
+unfolding Df
+factor-is c = c .decrement-factor .ensures
+
+mul-result : tie.Need-mul-result
+mul-result c =
+    let f = c .before .before in
+    let b = f .before .pre in
+    rw (factor-is f) (fits-product (b .fault .high) (factor-bounds b .high) (lit< tt))
+
+cast-result-3 : tie.Need-cast-result-3
+cast-result-3 c = search needs
+
+mul-result-2 : tie.Need-mul-result-2
+mul-result-2 c =
+    let f = c .before .before in
+    let b = f .before .pre in
+    rw (factor-is f, c .before .kf .ensures)
+    (fits-triple (b .fault .high) (factor-bounds b .high) (kf-bounds (b .metal) .high) (lit< tt))
+
+returns : tie.Need-returns
+unfolding duty
+returns c = rw (factor-is (c .before .before), c .before .kf .ensures)
+
+pub load-spec : {M : Type 1} → statement M
+load-spec =
+    tie.close (tie.spec decrement-factor-requires kf-requires cast-result cast-result-2 mul-result cast-result-3 mul-result-2 returns)
