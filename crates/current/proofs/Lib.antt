@@ -1,3 +1,3 @@
-pub mod Fits
 pub mod SquareLoad
 pub mod Smallest
+pub mod DrivingProduct

@@ -1,1 +1,2 @@
 pub mod Enclosure
+pub mod SquareRoot

@@ -41,17 +41,17 @@ one : Quantity (exactly (whole 1))
 one = quantity-exactly (whole-pos (omega arith))
 
 module _ {c : Case} (b : Bounds c) where
-  q-rootTime : Quantity (rootTime c)
+  pub quantity-rootTime : Quantity (rootTime c)
   unfolding rootTime
-  q-rootTime = quantity-root 2 (omega arith) (millisecond (omega (arith, b .ms .low)))
+  quantity-rootTime = quantity-root 2 (omega arith) (millisecond (omega (arith, b .ms .low)))
 
   pub consistent-touch : Consistent (tolerableTouch c)
   unfolding tolerableTouch
-  consistent-touch = consistent-quotient (q-rootTime .positive) (consistent-exactly _) (q-rootTime .consistent)
+  consistent-touch = consistent-quotient (quantity-rootTime .positive) (consistent-exactly _) (quantity-rootTime .consistent)
 
   pub consistent-tolerable-step : Consistent (tolerableStep c)
   unfolding tolerableStep
-  consistent-tolerable-step = consistent-quotient (q-rootTime .positive) (consistent-exactly _) (q-rootTime .consistent)
+  consistent-tolerable-step = consistent-quotient (quantity-rootTime .positive) (consistent-exactly _) (quantity-rootTime .consistent)
 
   q-side : Quantity (exactly (side c))
   q-side = quantity-exactly (side-pos b)

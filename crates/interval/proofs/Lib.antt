@@ -1,1 +1,14 @@
 pub mod Signed
+pub mod Bits
+pub mod Choice
+pub mod Rounding
+pub mod Sizes
+pub mod Natural
+pub mod Roots
+pub mod Corners
+pub mod Order
+pub mod Width
+pub mod ProductWidth
+pub mod QuotientWidth
+pub mod Span
+pub mod Fits

@@ -2,3 +2,4 @@ pub mod Signed
 pub mod Whole
 pub mod Operations
 pub mod Root
+pub mod Span

@@ -25,6 +25,10 @@ sumOf a b = record { lower = a .lower +ℤ b .lower; upper = a .upper +ℤ b .up
 unfoldable pub differenceOf : Interval → Interval → Interval
 differenceOf a b = record { lower = a .lower -ℤ b .upper; upper = a .upper -ℤ b .lower }
 
+-- z · a: below 0 the ends are turned round
+unfoldable pub timesOf : ℤ → Interval → Interval
+timesOf z a = record { lower = minZ (z *ℤ a .lower) (z *ℤ a .upper); upper = maxZ (z *ℤ a .lower) (z *ℤ a .upper) }
+
 -- the least and the greatest of the four products of ends
 unfoldable pub cornersOf : Interval → Interval → Interval
 cornersOf a b =

@@ -1,6 +1,6 @@
 -- Signed whole numbers rounded down and up, and the lesser and the greater of two.
 -- Assumes nothing.
-use Prim.Native.Nat.{ℕ}
+use Prim.Native.Nat.{ℕ, _+_, _-_, _/_}
 use mathlib.Core.Bool.{cond}
 use lib.IntN.{ℤ, pos, negsuc, negℤ}
 use lib.Signed.{shrZ, leZ}
@@ -17,6 +17,10 @@ floorZ z d = shrZ z d
 -- z / d rounded toward the upper end
 unfoldable pub ceilZ : ℤ → ℕ → ℤ
 ceilZ z d = negℤ (floorZ (negℤ z) d)
+
+-- n / d rounded up, for naturals
+unfoldable pub ceilDiv : ℕ → ℕ → ℕ
+ceilDiv n d = (n + (d - 1)) / d
 
 unfoldable pub minZ : ℤ → ℤ → ℤ
 minZ a b = cond (leZ a b) a b

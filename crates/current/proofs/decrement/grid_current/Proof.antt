@@ -8,7 +8,7 @@ use Rattle.case.specs.Bounds.{Bounds}
 use Rattle.formulas.specs.Decrement.{Df}
 use Rattle.formulas.specs.Lengths.{gridCurrent}
 use Rattle.formulas.proofs.Decrement.{factor-bounds}
-use Rattle.current.proofs.Fits.{fits-product, fits-triple}
+use Rattle.interval.proofs.Fits.{fits-product, fits-triple}
 use Rattle.current.proofs.decrement.grid_current.Statement.{statement}
 use Rattle.current.proofs.decrement.grid_current.Tie as tie
 

@@ -8,7 +8,7 @@ use Rattle.formulas.specs.Decrement.{Df}
 use Rattle.formulas.specs.Size.{duty}
 use Rattle.formulas.proofs.Decrement.{factor-bounds}
 use Rattle.formulas.proofs.Size.{kf-bounds}
-use Rattle.current.proofs.Fits.{fits-product, fits-triple}
+use Rattle.interval.proofs.Fits.{fits-product, fits-triple}
 use Rattle.current.proofs.size.load.Statement.{statement}
 use Rattle.current.proofs.size.load.Tie as tie
 

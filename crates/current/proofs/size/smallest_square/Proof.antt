@@ -8,7 +8,7 @@ use native.Mathlib.Nat.{mul-le-mul, eq-or-lt-of-le}
 use native.Mathlib.Decide.{decLt}
 use lib.Dec.{lit<}
 use Rattle.current.specs.Loop.{TooSmall}
-use Rattle.current.proofs.Fits.{fits-product, fits-triple}
+use Rattle.interval.proofs.Fits.{fits-product, fits-triple}
 use Rattle.current.proofs.size.smallest_square.Statement.{statement}
 use Rattle.current.proofs.size.smallest_square.Tie as tie
 

@@ -5,7 +5,7 @@ use native.Mathlib.Omega.{arith}
 use native.Mathlib.Nat.{le-refl, le-trans, lt-of-le-of-lt}
 use lib.Dec.{lit<}
 use Rattle.current.specs.Size.{squareLoad}
-use Rattle.current.proofs.Fits.{fits-product, fits-triple}
+use Rattle.interval.proofs.Fits.{fits-product, fits-triple}
 use Rattle.current.proofs.SquareLoad.{ceil-small, upper, lower, lower-square, upper-square, twice}
 use Rattle.current.proofs.size.square_load.Statement.{statement}
 use Rattle.current.proofs.size.square_load.Tie as tie

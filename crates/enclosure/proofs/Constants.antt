@@ -1,0 +1,29 @@
+-- π and √20, computed.
+-- Assumes nothing.
+use mathlib.Core.Path.{refl}
+use lib.Dec.{lit<, lit≤}
+use Rattle.interval.specs.Operations.{natural}
+use Rattle.exact.specs.Fraction.{whole, top}
+use Rattle.exact.specs.Exact.{exactly}
+use Rattle.exact.specs.Root.{root}
+use Rattle.exact.specs.Pi.{π}
+use Rattle.exact.specs.Reported.{ten, over, reported}
+use Rattle.exact.proofs.Computed.{within-π}
+use Rattle.exact.proofs.Inclusion.{within-trans}
+use Rattle.enclosure.specs.Enclosure.{Encloses}
+use Rattle.enclosure.proofs.Roots.{encloses-root-of}
+
+-- in 10^-9
+pub π-encloses : Encloses π (ten 9) (natural 3141592653 3141592654)
+unfolding natural reported over ten
+π-encloses = record { within = within-trans within-π (record { low = record { le = lit≤ tt }; high = record { le = lit≤ tt } }) }
+
+-- in 10^-12
+pub π-encloses-fine : Encloses π (ten 12) (natural 3141592653589 3141592653590)
+unfolding natural reported over ten
+π-encloses-fine = record { within = within-trans within-π (record { low = record { le = lit≤ tt }; high = record { le = lit≤ tt } }) }
+
+-- in 10^-9
+pub √20-encloses : Encloses (root 2 (exactly (whole 20))) (ten 9) (natural 4472135954 4472135955)
+unfolding whole top ten
+√20-encloses = encloses-root-of 2 (whole 20) (ten 9) 4472135954 4472135955 1000 (lit≤ tt) refl (lit≤ tt) (lit< tt)

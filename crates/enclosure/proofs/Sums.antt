@@ -1,0 +1,70 @@
+-- Sums, differences and whole multiples.
+-- Assumes nothing.
+use Prim.Native.Nat.{ℕ}
+use lib.Dec.{lit≤}
+use lib.IntN.{pos, _-ℤ_, +ℤ-idl}
+use Rattle.interval.specs.Operations.{point, sumOf, differenceOf, scaledOf}
+use Rattle.interval.specs.declared.Interval.{Interval}
+use Rattle.exact.specs.Fraction.{_≤f_, whole, neg}
+use Rattle.exact.specs.Ends.{minusEnds}
+use Rattle.exact.specs.Exact.{Exact, exactly, _+x_, _−x_, _·x_, minus}
+use Rattle.exact.specs.Depth.{Consistent, Within}
+use Rattle.exact.specs.Reported.{Scale, over, reported}
+use Rattle.exact.proofs.Order.{trans≤, nonneg}
+use Rattle.exact.proofs.Products.{mul-left≤}
+use Rattle.exact.proofs.Consistency.{proper-at}
+use Rattle.exact.proofs.Inclusion.{within-sum, within-difference, within-minus, within-trans, within-same}
+use Rattle.exact.proofs.KnownEnds.{sumEnds, differenceEnds, sum-ends, difference-ends, scaled-ends}
+use Rattle.exact.proofs.Reported.{over-neg, over-sum, over-difference}
+use Rattle.enclosure.specs.Enclosure.{Encloses, workDepth}
+use Rattle.enclosure.proofs.Counts.{over-times}
+use Rattle.enclosure.proofs.Basics.{encloses-proper}
+
+module _ (u : Scale) (a b : Interval) where
+  sum-within : Within (sumEnds (reported u a) (reported u b)) (reported u (sumOf a b))
+  unfolding reported sumOf
+  sum-within = record { low = over-sum (a .lower) (b .lower) u .to; high = over-sum (a .upper) (b .upper) u .fro }
+
+  difference-within : Within (differenceEnds (reported u a) (reported u b)) (reported u (differenceOf a b))
+  unfolding reported differenceOf
+  difference-within =
+      record { low = over-difference (a .lower) (b .upper) u .to; high = over-difference (a .upper) (b .lower) u .fro }
+
+module _ {x y : Exact} {u : Scale} {a b : Interval} (cx : Consistent x) (cy : Consistent y) (ex : Encloses x u a) (ey : Encloses y u b) where
+  pub encloses-sum : Encloses (x +x y) u (sumOf a b)
+  encloses-sum =
+      record {
+        within =
+            within-trans (within-sum cx cy (lit≤ tt) (ex .within) (ey .within))
+            (within-trans (within-same (sum-ends (encloses-proper cx ex) (encloses-proper cy ey))) (sum-within u a b));
+      }
+
+  pub encloses-difference : Encloses (x −x y) u (differenceOf a b)
+  encloses-difference =
+      record {
+        within =
+            within-trans (within-difference cx cy (lit≤ tt) (ex .within) (ey .within))
+            (within-trans (within-same (difference-ends (encloses-proper cx ex) (encloses-proper cy ey))) (difference-within u a b));
+      }
+
+-- k times a value, in the same unit
+pub encloses-times : {x : Exact} {u : Scale} {a : Interval} (k : ℕ) → Consistent x → Encloses x u a → Encloses (exactly (whole k) ·x x) u (scaledOf a k)
+unfolding reported scaledOf _·x_
+encloses-times {x} {u} {a} k c e =
+    let s = scaled-ends workDepth (nonneg k) (proper-at c (lit≤ tt)) in
+    record {
+      within =
+          within-trans (within-same s)
+          (record {
+            low = trans≤ (over-times (a .lower) u k .to) (mul-left≤ (nonneg k) (e .within .low));
+            high = trans≤ (mul-left≤ (nonneg k) (e .within .high)) (over-times (a .upper) u k .fro);
+          });
+    }
+
+-- minus a value: 0 − a
+pub encloses-minus : {x : Exact} {u : Scale} {a : Interval} → Encloses x u a → Encloses (minus x) u (differenceOf (point (pos 0)) a)
+unfolding reported differenceOf point minusEnds
+encloses-minus {x} {u} {a} e =
+    let below : over (pos 0 -ℤ a .upper) u ≤f neg (over (a .upper) u) = rw +ℤ-idl (over-neg (a .upper) u .to) in
+    let above : neg (over (a .lower) u) ≤f over (pos 0 -ℤ a .lower) u = rw +ℤ-idl (over-neg (a .lower) u .fro) in
+    record { within = within-trans (within-minus x workDepth (e .within)) (record { low = below; high = above }) }

@@ -1,0 +1,13 @@
+-- The whole part of a square root, and the pair of it and the next number.
+-- Assumes nothing.
+use Prim.Native.Nat.{ℕ, _+_, _*_}
+use Rattle.interval.specs.declared.Interval.{Interval}
+use Rattle.interval.specs.Operations.{natural}
+use Rattle.exact.specs.Root.{greatestBelow}
+
+-- the greatest number whose square is not above x
+unfoldable pub squareRoot : ℕ → ℕ
+squareRoot x = greatestBelow (λ r. r * r) x x
+
+unfoldable pub rootPair : ℕ → Interval
+rootPair x = natural (squareRoot x) (squareRoot x + 1)

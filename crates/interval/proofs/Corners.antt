@@ -1,0 +1,46 @@
+-- The corners are in order with each of the four products of ends.
+-- Assumes nothing.
+use lib.IntN.{ℤ, _*ℤ_}
+use lib.Signed.{_≤ℤ_}
+use Rattle.interval.specs.Operations.{cornersOf}
+use Rattle.interval.specs.declared.Interval.{Interval}
+use Rattle.interval.proofs.Choice.{≤ℤ-trans, min-cases, max-cases, min-left, min-right, max-left, max-right}
+
+-- a property of each product: lower and lower, lower and upper, upper and lower, upper and upper
+pub record Corners (P : ℤ → Type 0) (a b : Interval) : Type 0 where
+  pub first : P (a .lower *ℤ b .lower)
+  pub second : P (a .lower *ℤ b .upper)
+  pub third : P (a .upper *ℤ b .lower)
+  pub fourth : P (a .upper *ℤ b .upper)
+
+module _ (a b : Interval) where
+  pub corners-below : Corners (λ z. cornersOf a b .lower ≤ℤ z) a b
+  unfolding cornersOf
+  corners-below =
+      record {
+        first = ≤ℤ-trans (min-left _ _) (min-left _ _);
+        second = ≤ℤ-trans (min-left _ _) (min-right _ _);
+        third = ≤ℤ-trans (min-right _ _) (min-left _ _);
+        fourth = ≤ℤ-trans (min-right _ _) (min-right _ _);
+      }
+
+  pub corners-above : Corners (λ z. z ≤ℤ cornersOf a b .upper) a b
+  unfolding cornersOf
+  corners-above =
+      record {
+        first = ≤ℤ-trans (max-left _ _) (max-left _ _);
+        second = ≤ℤ-trans (max-right _ _) (max-left _ _);
+        third = ≤ℤ-trans (max-left _ _) (max-right _ _);
+        fourth = ≤ℤ-trans (max-right _ _) (max-right _ _);
+      }
+
+  -- what holds of each product holds of the corners
+  pub corners-lower : (P : ℤ → Type 0) → Corners P a b → P (cornersOf a b .lower)
+  unfolding cornersOf
+  corners-lower P c =
+      min-cases P _ _ (λ _. min-cases P _ _ (λ _. c .first) (λ _. c .second)) (λ _. min-cases P _ _ (λ _. c .third) (λ _. c .fourth))
+
+  pub corners-upper : (P : ℤ → Type 0) → Corners P a b → P (cornersOf a b .upper)
+  unfolding cornersOf
+  corners-upper P c =
+      max-cases P _ _ (λ _. max-cases P _ _ (λ _. c .fourth) (λ _. c .third)) (λ _. max-cases P _ _ (λ _. c .second) (λ _. c .first))

@@ -1,0 +1,34 @@
+-- `Interval::hull` takes the lesser lower end and the greater upper one.
+-- Assumes nothing.
+use borrow.Author.Needs.{needs}
+use mir.Facts.{toZ-ofZ}
+use Rattle.interval.specs.Operations.{hullOf}
+use Rattle.interval.proofs.Bits.{Held, back}
+use Rattle.interval.proofs.Interval.hull.Statement.{statement}
+use Rattle.interval.proofs.Interval.hull.Tie as tie
+
+held : (s : tie.Start) → Held (s .args .self) × Held (s .args .other)
+held s = search needs
+
+least-requires : tie.Need-least-requires
+least-requires c κs = search needs
+
+most-requires : tie.Need-most-requires
+most-requires c κs = search needs
+
+returns : tie.Need-returns
+unfolding hullOf
+returns c =
+    let l = c .before .before .before in
+    let h = held (l .before .before .before) in
+    cc (
+      toZ-ofZ (h .0 .0),
+      toZ-ofZ (h .0 .1),
+      toZ-ofZ (h .1 .0),
+      toZ-ofZ (h .1 .1),
+      back (l .least .result) (l .least .ok),
+      back (c .most .result) (c .most .ok),
+    )
+
+pub hull-spec : {M : Type 1} → statement M
+hull-spec = tie.close (tie.spec least-requires most-requires returns)

@@ -1,0 +1,27 @@
+-- `rod_length` fits by the bound of the rods.
+-- Assumes nothing.
+use mathlib.Core.Path.{refl}
+use lib.Dec.{lit<}
+use Rattle.interval.proofs.Fits.{fits-below}
+use Rattle.lengths.specs.Lengths.{rodLength}
+use Rattle.lengths.proofs.Lengths.{rod-bound}
+use borrow.Author.Needs.{needs}
+use Rattle.lengths.proofs.rod_length.Statement.{statement}
+use Rattle.lengths.proofs.rod_length.Tie as tie
+
+cast-result : tie.Need-cast-result
+cast-result c = search needs
+
+cast-result-2 : tie.Need-cast-result-2
+cast-result-2 c = search needs
+
+mul-result : tie.Need-mul-result
+unfolding rodLength
+mul-result c = fits-below (rod-bound (c .before .before .pre)) (lit< tt)
+
+returns : tie.Need-returns
+unfolding rodLength
+returns c = refl
+
+pub rod-length-spec : {M : Type 1} → statement M
+rod-length-spec = tie.close (tie.spec cast-result cast-result-2 mul-result returns)

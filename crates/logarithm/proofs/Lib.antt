@@ -1,0 +1,12 @@
+pub mod Ratio
+pub mod Digits
+pub mod Sizes
+pub mod Sums
+pub mod Rounding
+pub mod SeriesEnds
+pub mod Rest
+pub mod ArgumentEnds
+pub mod UpEnds
+pub mod Width
+pub mod LnEnds
+pub mod RightEnds

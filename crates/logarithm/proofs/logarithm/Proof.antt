@@ -1,0 +1,52 @@
+-- `logarithm::logarithm` meets its contract.
+-- Assumes nothing.
+use mathlib.Core.Path.{_≡_, sym, ap, _∙_}
+use mathlib.Core.Bool.{true, false}
+use borrow.Author.Needs.{needs}
+use borrow.Author.Tests.{not-true, not-false}
+use Rattle.logarithm.specs.declared.Answer.the-variants.{Ends}
+use Rattle.logarithm.specs.Asked.{inside, refused, answerOf}
+use Rattle.logarithm.proofs.RightEnds.{right-ends, inside-known}
+use Rattle.logarithm.proofs.logarithm.Statement.{statement}
+use Rattle.logarithm.proofs.logarithm.Tie as tie
+
+-- what the two tests found
+upper-outside : (c : tie.Then1) → inside (c .before .before .args .p) ≡ false
+upper-outside c = sym (c .before .is-inside .ensures) ∙ not-true _ (c .if1 .taken)
+
+upper-inside : (c : tie.Else1) → inside (c .before .before .args .p) ≡ true
+upper-inside c = sym (c .before .is-inside .ensures) ∙ not-false _ (c .if1 .left)
+
+lower-outside : (c : tie.Then2) → inside (c .before .before .before .before .args .q) ≡ false
+lower-outside c = sym (c .before .is-inside2 .ensures) ∙ not-true _ (c .if2 .taken)
+
+lower-inside : (c : tie.Else2) → inside (c .before .before .before .before .args .q) ≡ true
+lower-inside c = sym (c .before .is-inside2 .ensures) ∙ not-false _ (c .if2 .left)
+
+is-inside-requires : tie.Need-is-inside-requires
+is-inside-requires c κs = search needs
+
+returns : tie.Need-returns
+unfolding answerOf refused
+returns c = record { answer = rw (upper-outside c); right = right-ends }
+
+is-inside-requires-2 : tie.Need-is-inside-requires-2
+is-inside-requires-2 c κs = search needs
+
+returns-2 : tie.Need-returns-2
+unfolding answerOf refused
+returns-2 c = record { answer = rw (upper-inside (c .before .before), lower-outside c); right = right-ends }
+
+ln-ends-requires : tie.Need-ln-ends-requires
+ln-ends-requires c κs = (inside-known _ (upper-inside (c .before .before)), inside-known _ (lower-inside c))
+
+returns-3 : tie.Need-returns-3
+unfolding answerOf
+returns-3 c =
+    let e = c .before in
+    record { answer = rw (upper-inside (e .before .before), lower-inside e) (ap Ends (c .ln-ends .ensures)); right = right-ends }
+
+pub logarithm-spec : {M : Type 1} → statement M
+logarithm-spec =
+    tie.close
+    (tie.spec is-inside-requires returns is-inside-requires-2 returns-2 ln-ends-requires returns-3)

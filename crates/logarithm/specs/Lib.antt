@@ -1,0 +1,4 @@
+pub mod Series
+pub mod Ends
+pub mod Asked
+pub mod Examples

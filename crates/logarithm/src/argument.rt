@@ -1,0 +1,42 @@
+// The argument z = (p − b) / (p + b) of the logarithm's series, with b = q · 2^m.
+ghost use mathlib.Core.Path.{_≡_};
+ghost use Prim.Native.Nat.{_*_, _/_, _≤_, _<_};
+ghost use Rattle.logarithm.specs.Series.{unit};
+ghost use Rattle.logarithm.specs.Ends.{Inside, halvingsOf, baseOf};
+
+// m and q · 2^m.
+pub struct Halved {
+    pub times: u64,
+    pub base: u64,
+}
+
+// By doubling q while it does not pass p.
+pub fn halve(p: u64, q: u64) -> Halved
+    requires { ⌜ Inside p × (Inside q × (q ≤ p)) ⌝ }
+    ensures { λ r. ⌜ r ≡ record { times = halvingsOf p q; base = baseOf p q } ⌝ }
+{
+    let mut times: u64 = 0;
+    let mut base = q;
+    while 2 * base <= p {
+        base = 2 * base;
+        times += 1;
+    }
+    Halved { times, base }
+}
+
+// n / d in units of 2^-33, rounded down: long division in three digits of 11 bits.
+pub fn quotient(n: u64, d: u64) -> u64
+    requires { ⌜ (n < d) × (d ≤ 2000000000000000) ⌝ }
+    ensures { λ r. ⌜ r ≡ n * unit / d ⌝ }
+{
+    let mut z: u64 = 0;
+    let mut rest = n;
+    let mut i: u64 = 0;
+    while i < 3 {
+        let next = rest * 2048;
+        z = z * 2048 + next / d;
+        rest = next % d;
+        i += 1;
+    }
+    z
+}

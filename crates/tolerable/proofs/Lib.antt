@@ -1,0 +1,5 @@
+pub mod Layer
+pub mod Surface
+pub mod Spans
+pub mod Widths
+pub mod Enclosed

@@ -1,0 +1,29 @@
+-- `tolerable` divides by √t.
+-- Assumes nothing.
+use native.Mathlib.Omega.{arith}
+use lib.Dec.{lit≤, lit<}
+use Rattle.interval.proofs.Span.{span-size, span-divisor}
+use Rattle.tolerable.specs.Ends.{tolerableEnds}
+use Rattle.tolerable.proofs.Spans.{top-span, time-span}
+use borrow.Author.Needs.{needs}
+use Rattle.tolerable.proofs.tolerable.Statement.{statement}
+use Rattle.tolerable.proofs.tolerable.Tie as tie
+
+top-requires : tie.Need-top-requires
+top-requires c κs = search needs
+
+time-root-requires : tie.Need-time-root-requires
+time-root-requires c κs = search needs
+
+quotient-requires : tie.Need-quotient-requires
+quotient-requires c κs =
+    let s = c .before .before in
+    rw (c .time-root .ensures, c .before .top .ensures)
+    (span-divisor (lit≤ tt) (time-span (s .pre .0)), (lit< tt, omega (arith, span-size (top-span (s .pre .0) (s .args .weight) (s .pre .1)))))
+
+returns : tie.Need-returns
+unfolding tolerableEnds
+returns c = cc
+
+pub tolerable-spec : {M : Type 1} → statement M
+tolerable-spec = tie.close (tie.spec top-requires time-root-requires quotient-requires returns)

@@ -1,0 +1,70 @@
+-- `top` keeps within 64 bits by the spans of its parts.
+-- Assumes nothing.
+use Prim.Native.Nat.{_≤_}
+use native.Mathlib.Omega.{arith}
+use native.Mathlib.Nat.{le-trans}
+use native.Mathlib.Nat.{mul-le-mul}
+use lib.Dec.{lit<}
+use lib.IntN.{pos}
+use Rattle.interval.specs.Operations.{point, size, sumOf, scaledOf}
+use Rattle.interval.proofs.Sizes.{size-point, size-sum, size-scaled}
+use Rattle.interval.proofs.Span.{span-size}
+use Rattle.case.specs.Bounds.{Bounds}
+use Rattle.tolerable.specs.Ends.{layerEnds, bodyFactor, topEnds}
+use Rattle.tolerable.proofs.Layer.{layer-span}
+use Rattle.tolerable.proofs.Spans.{body-bounds}
+use borrow.Author.Needs.{needs}
+use Rattle.tolerable.proofs.top.Statement.{statement}
+use Rattle.tolerable.proofs.top.Tie as tie
+
+-- the sizes after each step
+effect-size : (s : tie.Start) → size (scaledOf (layerEnds (s .args .c)) (s .args .weight)) ≤ 120000000
+effect-size s =
+    le-trans (size-scaled (layerEnds (s .args .c)) (s .args .weight)) (mul-le-mul (span-size (layer-span (s .pre .0))) (s .pre .1))
+
+sum-size : (s : tie.Start) → size (sumOf (point (pos 2000000)) (scaledOf (layerEnds (s .args .c)) (s .args .weight))) ≤ 122000000
+sum-size s =
+    omega (arith, size-sum (point (pos 2000000)) (scaledOf (layerEnds (s .args .c)) (s .args .weight)), size-point 2000000, effect-size s)
+
+layer-effect-requires : tie.Need-layer-effect-requires
+layer-effect-requires c κs = search needs
+
+scaled-requires : tie.Need-scaled-requires
+scaled-requires c κs =
+    let s = c .before in
+    rw (c .layer-effect .ensures) (omega arith, omega (arith, mul-le-mul (span-size (layer-span (s .pre .0))) (s .pre .1)))
+
+point-requires : tie.Need-point-requires
+point-requires c κs = search needs
+
+sum-requires : tie.Need-sum-requires
+sum-requires c κs =
+    let l = c .before .before in
+    rw (c .point .ensures, c .before .scaled .ensures, l .layer-effect .ensures, size-point 2000000) (omega (arith, effect-size (l .before)))
+
+body-factor-requires : tie.Need-body-factor-requires
+body-factor-requires c κs = search needs
+
+scaled-requires-2 : tie.Need-scaled-requires-2
+scaled-requires-2 c κs =
+    let m = c .before in
+    let l = m .before .before .before in
+    let k = body-bounds (l .before .pre .0) in
+    rw (c .body-factor .ensures, m .sum .ensures, m .before .point .ensures, m .before .before .scaled .ensures, l .layer-effect .ensures)
+    (omega (arith, k .high), omega (arith, mul-le-mul (sum-size (l .before)) (k .high)))
+
+returns : tie.Need-returns
+unfolding topEnds
+returns c = cc
+
+pub top-spec : {M : Type 1} → statement M
+top-spec =
+    tie.close
+    (tie.spec
+    layer-effect-requires
+    scaled-requires
+    point-requires
+    sum-requires
+    body-factor-requires
+    scaled-requires-2
+    returns)
