@@ -8,3 +8,4 @@ pub mod Verdicts
 pub mod Constants
 pub mod Example
 pub mod SquareRoot
+pub mod Multiples

@@ -33,11 +33,11 @@ pub by-place : {A : Type 0} (P : A → Type 0) (b : Bool) {x y : A} → (b ≡ t
 by-place P true h k = h refl
 by-place P false h k = k refl
 
-q20 : Quantity √20
+pub q20 : Quantity √20
 unfolding √20
 q20 = quantity-root 2 (omega arith) (one-thousandth (whole≤ (omega arith)))
 
-one : Quantity (exactly (whole 1))
+pub one : Quantity (exactly (whole 1))
 one = quantity-exactly (whole-pos (omega arith))
 
 module _ {c : Case} (b : Bounds c) where
@@ -64,7 +64,7 @@ module _ {c : Case} (b : Bounds c) where
       (quantity-quotient
       (quantity-sum one
       (quantity-quotient one (quantity-sum one (quantity-quotient (quantity-product (quantity-exactly (h-pos b)) q20) q-side))))
-      (quantity-product q20 q-side)))
+      (quantity-product q-side q20)))
 
   pub consistent-rise : Consistent (potentialRise c)
   unfolding potentialRise

@@ -18,7 +18,7 @@ module _ (c : Case) where
   resistance =
       exactly (ρ c)
       ·x (one ÷x exactly (LT c)
-      +x (one +x one ÷x (one +x exactly (h c) ·x √20 ÷x exactly (side c))) ÷x (√20 ·x exactly (side c)))
+      +x (one +x one ÷x (one +x exactly (h c) ·x √20 ÷x exactly (side c))) ÷x (exactly (side c) ·x √20))
 
   -- "Ground potential rise = IG times resistance."
   unfoldable pub potentialRise : Exact

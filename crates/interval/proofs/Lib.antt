@@ -12,3 +12,4 @@ pub mod ProductWidth
 pub mod QuotientWidth
 pub mod Span
 pub mod Fits
+pub mod SpanFits

@@ -9,8 +9,9 @@ use lib.Signed.{_≤ℤ_}
 use Rattle.interval.specs.Whole.{ceilDiv}
 use Rattle.interval.specs.Operations.{natural, point, size, sumOf, outwardOf, scaledOf, productOf, quotientOf, Ordered}
 use Rattle.interval.specs.declared.Interval.{Interval}
-use Rattle.interval.specs.Span.{Span}
-use Rattle.interval.proofs.Natural.{natural-sum, natural-scaled, natural-outward, natural-product, natural-quotient}
+use Rattle.interval.specs.Signed.{plus}
+use Rattle.interval.specs.Span.{Span, Relative}
+use Rattle.interval.proofs.Natural.{point-natural, natural-sum, natural-scaled, natural-outward, natural-product, natural-quotient}
 use Rattle.interval.proofs.Rounding.{floorDiv-below, floorDiv-above, ceilDiv-above, ceilDiv-below, ceilDiv-by, floorDiv-by}
 use Rattle.interval.proofs.Signed.{halves-le}
 use Rattle.interval.proofs.Sizes.{size-natural}
@@ -147,9 +148,40 @@ span-quotient k low high m p q r t s u =
       near = quotient-near (s .a) (s .b) (u .a) (u .b) k m c (u .order) (omega (arith, mul-le-mul-right k x, t, y));
     }
 
+-- by one number
+pub span-divide : {i : Interval} {l h w : ℕ} (d k low high m : ℕ) → 0 < d → low * d ≤ l * k → h * k ≤ high * d → w * k ≤ m * d → Span i l h w
+    → Span (quotientOf i (point (pos d)) k) low high (m + 1)
+span-divide d k low high m p q r t s =
+    record {
+      a = s .a * k / d;
+      b = ceilDiv (s .b * k) d;
+      is = rw (s .is, point-natural d) (natural-quotient (s .a) (s .b) k p (omega arith));
+      from = floorDiv-by (s .a * k) p (le-trans q (mul-le-mul-right k (s .from)));
+      order = floor≤ceil (s .a * k) (s .b * k) d p (mul-le-mul-right k (s .order));
+      to = ceilDiv-by (s .b * k) p (le-trans (mul-le-mul-right k (s .to)) r);
+      near = round-near (s .a * k) (s .b * k) d m p (omega (arith, mul-le-mul-right k (s .near)));
+    }
+
 -- ---- what a divisor asks
 
 pub span-divisor : {i : Interval} {l h w : ℕ} → 1 ≤ l → Span i l h w → (pos 1 ≤ℤ i .lower) × (i .lower ≤ℤ i .upper)
 unfolding natural
 span-divisor p s =
     rw (s .is) (halves-le (pos 1) (pos (s .a)) (omega (arith, s .from)), halves-le (pos (s .a)) (pos (s .b)) (omega (arith, s .order)))
+
+-- ---- two ways to speak of one interval
+
+abbrev lowerOf : Interval → ℕ
+lowerOf i = plus (i .lower)
+
+abbrev upperOf : Interval → ℕ
+upperOf i = plus (i .upper)
+
+module _ {i : Interval} {l h w per extra : ℕ} (s : Span i l h w) (r : Relative i per extra) where
+  pub relative-lower : r .a ≡ s .a
+  unfolding natural
+  relative-lower = ap lowerOf (sym (r .is) ∙ s .is)
+
+  pub relative-upper : r .b ≡ s .b
+  unfolding natural
+  relative-upper = ap upperOf (sym (r .is) ∙ s .is)

@@ -1,0 +1,34 @@
+-- `shape_term` keeps within 64 bits by the spans of its parts.
+-- Assumes nothing.
+use lib.Dec.{lit≤, lit<}
+use Rattle.interval.proofs.SpanFits.{sum-fits, quotient-fits}
+use Rattle.resistance.specs.Ends.{shapeEnds}
+use Rattle.resistance.proofs.Spans.{one-span, depth-span, inverse-span}
+use borrow.Author.Needs.{needs}
+use Rattle.resistance.proofs.shape_term.Statement.{statement}
+use Rattle.resistance.proofs.shape_term.Tie as tie
+
+point-requires : tie.Need-point-requires
+point-requires c κs = search needs
+
+depth-term-requires : tie.Need-depth-term-requires
+depth-term-requires c κs = search needs
+
+quotient-requires : tie.Need-quotient-requires
+quotient-requires c κs =
+    rw (c .depth-term .ensures, c .before .point .ensures)
+    (quotient-fits (lit< tt) (lit< tt) (lit≤ tt) one-span (depth-span (c .before .before .pre)))
+
+sum-requires : tie.Need-sum-requires
+sum-requires c κs =
+    let d = c .before in
+    rw (c .quotient .ensures, d .depth-term .ensures, d .before .point .ensures)
+    (sum-fits (lit< tt) one-span (inverse-span (d .before .before .pre)))
+
+returns : tie.Need-returns
+unfolding shapeEnds
+returns c = cc
+
+pub shape-term-spec : {M : Type 1} → statement M
+shape-term-spec =
+    tie.close (tie.spec point-requires depth-term-requires quotient-requires sum-requires returns)

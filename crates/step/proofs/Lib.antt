@@ -1,0 +1,5 @@
+pub mod HalfPowers
+pub mod Spans
+pub mod Ratios
+pub mod Enclosed
+pub mod Widths

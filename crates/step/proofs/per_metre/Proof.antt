@@ -1,0 +1,29 @@
+-- `per_metre` is a quotient of two whole numbers.
+-- Assumes nothing.
+use native.Mathlib.Omega.{arith}
+use lib.Dec.{lit<}
+use Rattle.interval.proofs.Sizes.{size-point}
+use Rattle.step.specs.Ends.{perMetre}
+use Rattle.step.proofs.Spans.{point-divisor}
+use borrow.Author.Needs.{needs}
+use Rattle.step.proofs.per_metre.Statement.{statement}
+use Rattle.step.proofs.per_metre.Tie as tie
+
+point-requires : tie.Need-point-requires
+point-requires c κs = search needs
+
+point-requires-2 : tie.Need-point-requires-2
+point-requires-2 c κs = search needs
+
+quotient-requires : tie.Need-quotient-requires
+quotient-requires c κs =
+    let s = c .before .before in
+    rw (c .point2 .ensures, c .before .point .ensures, size-point (s .args .a))
+    (point-divisor (s .args .d) (omega arith), (lit< tt, omega arith))
+
+returns : tie.Need-returns
+unfolding perMetre
+returns c = cc
+
+pub per-metre-spec : {M : Type 1} → statement M
+per-metre-spec = tie.close (tie.spec point-requires point-requires-2 quotient-requires returns)

@@ -1,0 +1,49 @@
+-- The ends of the step voltage, by whole-number intervals. Names for the free part: callers use their laws.
+-- Assumes nothing.
+use Prim.Native.Nat.{ℕ, _+_, _-_, _*_, _^_}
+use lib.IntN.{pos}
+use lib.ListN.{getD}
+use Rattle.interval.specs.declared.Interval.{Interval}
+use Rattle.interval.specs.Operations.{natural, point, sumOf, productOf, quotientOf}
+use Rattle.case.specs.declared.Case.{Case}
+use Rattle.formulas.specs.Step.{halfPowers}
+use Rattle.current.specs.Drive.{driveOf}
+use Rattle.lengths.specs.Lengths.{conductorLength, rodLength}
+
+-- π, in 10^−9
+unfoldable pub πEnds : Interval
+πEnds = natural 3141592653 3141592654
+
+-- a / d per millimetre, in 10^−9 per metre
+unfoldable pub perMetre : ℕ → ℕ → Interval
+perMetre a d = quotientOf (point (pos a)) (point (pos d)) (10 ^ 12)
+
+module _ (c : Case) where
+  -- 2^(n−2)
+  unfoldable pub halfPowerOf : ℕ
+  halfPowerOf = getD halfPowers (c .lines - 2) 1
+
+  -- D + h, in millimetres
+  unfoldable pub reach : ℕ
+  reach = c .space + c .depth
+
+  -- 1/(2h) + 1/(D+h) + (1 − 0.5^(n−2))/D, in 10^−9 per metre
+  unfoldable pub spacingSum : Interval
+  spacingSum =
+      sumOf (sumOf (perMetre 1 (2 * c .depth)) (perMetre 1 reach)) (perMetre (halfPowerOf - 1) (halfPowerOf * c .space))
+
+  -- Ks, in 10^−7 per metre
+  unfoldable pub spacingFactor : Interval
+  spacingFactor = quotientOf spacingSum πEnds (10 ^ 7)
+
+  -- LS, in twentieths of a millimetre
+  unfoldable pub effectiveLength : ℕ
+  effectiveLength = 15 * conductorLength c + 17 * rodLength c
+
+  -- ρ·Ki·IG/LS, in mV
+  unfoldable pub driveEnds : Interval
+  driveEnds = quotientOf (point (pos (driveOf c))) (point (pos (50 * effectiveLength))) 1
+
+  -- step voltage, in mV
+  unfoldable pub stepVoltageEnds : Interval
+  stepVoltageEnds = productOf driveEnds spacingFactor (10 ^ 7)
