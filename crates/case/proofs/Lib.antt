@@ -1,3 +1,6 @@
 pub mod Ranges
 pub mod Agreement
 pub mod Bounds
+pub mod RangeTable
+pub mod Leftmost
+pub mod Verdict

@@ -2,4 +2,5 @@ pub mod Columns
 pub mod Case
 pub mod Check
 pub mod Bounds
+pub mod Parts
 pub mod Examples

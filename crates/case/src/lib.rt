@@ -1,4 +1,12 @@
-// One case: the values of one value line.
+// One case: the values of one value line, and their checks.
+mod parts;
+mod range;
+
+ghost use mathlib.Core.Path.{_≡_};
+ghost use Rattle.case.specs.Case.{values, caseOf};
+ghost use Rattle.case.specs.Check.{caseFault, recordFault};
+use parts::disagreement;
+use parts::out_of_range;
 
 // The eighteen numbers of document 01's table of names, in its order and units.
 pub struct Case {
@@ -27,4 +35,97 @@ pub enum Fault {
     Sound,
     OutOfRange(usize),
     Disagreement(usize),
+}
+
+// The case of eighteen values in the order of the names.
+pub fn case_of(v: [u32; 18]) -> Case
+    ensures { λ r. ⌜ r ≡ caseOf v ⌝ }
+{
+    Case {
+        station: v[0],
+        season: v[1],
+        soil: v[2],
+        layer: v[3],
+        thick: v[4],
+        ms: v[5],
+        body: v[6],
+        fault: v[7],
+        split: v[8],
+        xr: v[9],
+        lines: v[10],
+        space: v[11],
+        depth: v[12],
+        dia: v[13],
+        rods: v[14],
+        rodlen: v[15],
+        place: v[16],
+        metal: v[17],
+    }
+}
+
+// The values of a case in the order of the names.
+fn values_of(c: Case) -> [u32; 18]
+    ensures { λ r. ⌜ r ≡ values c ⌝ }
+{
+    [
+        c.station,
+        c.season,
+        c.soil,
+        c.layer,
+        c.thick,
+        c.ms,
+        c.body,
+        c.fault,
+        c.split,
+        c.xr,
+        c.lines,
+        c.space,
+        c.depth,
+        c.dia,
+        c.rods,
+        c.rodlen,
+        c.place,
+        c.metal,
+    ]
+}
+
+// Refusals 5 and 6 of a case; at holds the columns of the names.
+pub fn check_case(at: [usize; 18], c: Case) -> Fault
+    ensures { λ r. ⌜ r ≡ caseFault at c ⌝ }
+{
+    let v = values_of(c);
+    let column = out_of_range(at, v);
+    if column != 0 {
+        return Fault::OutOfRange(column);
+    }
+    disagreement(at, c)
+}
+
+// Refusals 5 and 6 of a record, whose columns are the places of the names.
+pub fn check(c: Case) -> Fault
+    ensures { λ r. ⌜ r ≡ recordFault c ⌝ }
+{
+    check_case(
+        [
+            1,
+            2,
+            3,
+            4,
+            5,
+            6,
+            7,
+            8,
+            9,
+            10,
+            11,
+            12,
+            13,
+            14,
+            15,
+            16,
+            17,
+            18,
+        ],
+        c,
+    )
 }

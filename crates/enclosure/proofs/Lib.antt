@@ -9,3 +9,4 @@ pub mod Constants
 pub mod Example
 pub mod SquareRoot
 pub mod Multiples
+pub mod Reporting

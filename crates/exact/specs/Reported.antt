@@ -3,10 +3,12 @@
 use Prim.Native.Nat.{ℕ, _^_, _<_}
 use native.Mathlib.Nat.{zero-lt-suc, one-le-pow}
 use lib.IntN.{ℤ}
+use lib.Signed.{_≤ℤ_}
 use Rattle.interval.specs.Signed.{plus, minus}
 use Rattle.interval.specs.declared.Interval.{Interval}
-use Rattle.exact.specs.Fraction.{Fraction}
+use Rattle.exact.specs.Fraction.{Fraction, _≤f_, _−f_}
 use Rattle.exact.specs.Ends.{Ends}
+use Rattle.exact.specs.Exact.{Exact, Holds}
 
 -- the scale of a unit: how many of it make one
 pub record Scale : Type 0 where
@@ -24,3 +26,13 @@ over z u = record { plus = plus z; minus = minus z; den = u .count; pos = u .pos
 -- a reported pair
 unfoldable pub reported : Scale → Interval → Ends
 reported u i = record { lower = over (i .lower) u; upper = over (i .upper) u }
+
+-- the ends are at most a width apart
+pub record AtMost (width : Fraction) (A : Ends) : Type 0 where
+  pub apart : A .upper −f A .lower ≤f width
+
+-- a pair reported in a unit for an exact value, no wider than allowed for its ends
+pub record Reports (x : Exact) (u : Scale) (width : Ends → Fraction) (i : Interval) : Type 0 where
+  pub ordered : i .lower ≤ℤ i .upper
+  pub holds : Holds (reported u i) x
+  pub narrow : AtMost (width (reported u i)) (reported u i)

@@ -1,25 +1,19 @@
 -- How far apart the two ends of a reported pair may be. Document 01, 'What exact means'.
 -- Assumes nothing.
-use Rattle.exact.specs.Fraction.{Fraction, _≤f_, whole, decimal, _+f_, _−f_, _·f_, _÷f_}
+use Rattle.exact.specs.Fraction.{Fraction, decimal, _+f_, _·f_, _÷f_}
 use Rattle.exact.specs.Ends.{Ends}
 use Rattle.exact.specs.Reported.{Scale, ten}
+pub use Rattle.exact.specs.Reported.{AtMost}
 use Rattle.case.specs.declared.Case.{Case}
 use Rattle.formulas.specs.Lengths.{ρ, LT, IG, Ki}
 use Rattle.formulas.specs.Step.{LS}
 
--- millivolts, micro-ohms and billionths
+-- millivolts and micro-ohms
 unfoldable pub mV : Scale
 mV = ten 3
 
 unfoldable pub μΩ : Scale
 μΩ = ten 6
-
-unfoldable pub billionths : Scale
-billionths = ten 9
-
--- the ends are at most a width apart
-pub record AtMost (width : Fraction) (A : Ends) : Type 0 where
-  pub apart : A .upper −f A .lower ≤f width
 
 -- "Tolerable voltages: at most 1/10,000 of the lower end plus 10 mV."
 unfoldable pub tolerableWidth : Ends → Fraction
@@ -40,7 +34,3 @@ meshWidth c = decimal 1 4 ·f (ρ c ·f Ki c ·f IG c ÷f LT c) +f decimal 10 3
 -- "Step: 1/10,000 of ρ·Ki·IG/LS plus 10 mV."
 unfoldable pub stepWidth : Case → Fraction
 stepWidth c = decimal 1 4 ·f (ρ c ·f Ki c ·f IG c ÷f LS c) +f decimal 10 3
-
--- "The logarithm is answered as a pair in signed billionths .. at most 2,000 apart."
-unfoldable pub logarithmWidth : Fraction
-logarithmWidth = decimal 2000 9

@@ -8,17 +8,18 @@ use borrow.Author.Tests.{leb-true}
 use lib.Dec.{leb, lit≤}
 use Rattle.interval.specs.declared.Interval.{Interval}
 use Rattle.interval.specs.Operations.{Narrow}
-use Rattle.exact.specs.Fraction.{_≤f_, decimal, _+f_, neg, _−f_}
-use Rattle.exact.specs.Reported.{ten, over}
+use Rattle.exact.specs.Fraction.{_≤f_, whole, decimal, _+f_, neg, _−f_, _÷f_}
+use Rattle.exact.specs.Logarithm.{lnOf}
+use Rattle.exact.specs.Reported.{ten, over, reported, AtMost, Reports}
 use Rattle.logarithm.specs.Ends.{most, Inside, lnEnds}
-use Rattle.logarithm.specs.Asked.{width, inside, RightEnds}
+use Rattle.logarithm.specs.Asked.{width, inside}
 use Rattle.logarithm.proofs.LnEnds.{ln-holds, ln-ordered, ln-narrow}
 
-narrow-width : (i : Interval) → Narrow i 2000 → over (i .upper) (ten 9) −f over (i .lower) (ten 9) ≤f width
-unfolding over ten decimal width _+f_ neg _−f_
-narrow-width i h = record { le = omega (arith, h .narrow) }
+narrow-width : (i : Interval) → Narrow i 2000 → AtMost width (reported (ten 9) i)
+unfolding reported over ten decimal width _+f_ neg _−f_
+narrow-width i h = record { apart = record { le = omega (arith, h .narrow) } }
 
-pub right-ends : {p q : ℕ} → Inside p → Inside q → RightEnds p q (lnEnds p q)
+pub right-ends : {p q : ℕ} → Inside p → Inside q → Reports (lnOf (whole p ÷f whole q)) (ten 9) (λ A. width) (lnEnds p q)
 right-ends {p} {q} hp hq =
     record {
       ordered = ln-ordered hp hq .ordered;

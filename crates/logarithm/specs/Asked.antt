@@ -5,12 +5,9 @@ use Prim.Native.Nat.{ℕ}
 use mathlib.Core.Path.{_≡_}
 use mathlib.Core.Bool.{Bool, cond, _&&_}
 use lib.Dec.{leb}
-use lib.Signed.{_≤ℤ_}
-use Rattle.interval.specs.declared.Interval.{Interval}
-use Rattle.exact.specs.Fraction.{Fraction, _≤f_, whole, decimal, _−f_, _÷f_}
-use Rattle.exact.specs.Exact.{Holds}
+use Rattle.exact.specs.Fraction.{Fraction, whole, decimal, _÷f_}
 use Rattle.exact.specs.Logarithm.{lnOf}
-use Rattle.exact.specs.Reported.{ten, over, reported}
+use Rattle.exact.specs.Reported.{ten, Reports}
 use Rattle.logarithm.specs.declared.Answer.{Answer}
 use Rattle.logarithm.specs.declared.Answer.the-variants.{Ends, Refused}
 use Rattle.logarithm.specs.Ends.{most, Inside, lnEnds}
@@ -30,13 +27,7 @@ refused column = Refused 5 0 column
 unfoldable pub answerOf : ℕ → ℕ → Answer
 answerOf p q = cond (inside p) (cond (inside q) (Ends (lnEnds p q)) (refused 2)) (refused 1)
 
--- what binds the pair of ends, the free part of the answer
-pub record RightEnds (p q : ℕ) (i : Interval) : Type 0 where
-  pub ordered : i .lower ≤ℤ i .upper
-  pub holds : Holds (reported (ten 9) i) (lnOf (whole p ÷f whole q))
-  pub narrow : over (i .upper) (ten 9) −f over (i .lower) (ten 9) ≤f width
-
--- Two wrong programs: one that refuses all fractions breaks `answer`; one that answers −35 and 35 to all of them breaks `narrow`.
+-- the answer, and what holds of the pair of ends, its free part. Two wrong programs: one that refuses all fractions breaks `answer`; one that answers −35 and 35 to all of them breaks `narrow`.
 pub record Answered (p q : ℕ) (r : Answer) : Type 0 where
   pub answer : r ≡ answerOf p q
-  pub right : Inside p → Inside q → RightEnds p q (lnEnds p q)
+  pub right : Inside p → Inside q → Reports (lnOf (whole p ÷f whole q)) (ten 9) (λ A. width) (lnEnds p q)

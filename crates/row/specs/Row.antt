@@ -7,12 +7,8 @@ use mathlib.Core.Logic.{_⊎_}
 use mathlib.Core.List.{List, [], _∷_}
 use lib.IntN.{ℤ, pos}
 use lib.ListN.{length}
-use lib.Signed.{_≤ℤ_}
-use Rattle.interval.specs.declared.Interval.{Interval}
-use Rattle.exact.specs.Fraction.{Fraction}
-use Rattle.exact.specs.Ends.{Ends}
-use Rattle.exact.specs.Exact.{Exact, Holds, Above, AtOrBelow}
-use Rattle.exact.specs.Reported.{Scale, reported}
+use Rattle.exact.specs.Exact.{Above, AtOrBelow}
+use Rattle.exact.specs.Reported.{Reports}
 use Rattle.case.specs.declared.Case.{Case}
 use Rattle.formulas.specs.Lengths.{gridCurrent}
 use Rattle.formulas.specs.Size
@@ -20,17 +16,11 @@ use Rattle.formulas.specs.Tolerable
 use Rattle.formulas.specs.Mesh
 use Rattle.formulas.specs.Step
 use Rattle.formulas.specs.Resistance
-use Rattle.formulas.specs.Width.{mV, μΩ, AtMost, tolerableWidth, resistanceWidth, riseWidth, meshWidth, stepWidth}
+use Rattle.formulas.specs.Width.{mV, μΩ, tolerableWidth, resistanceWidth, riseWidth, meshWidth, stepWidth}
 use Rattle.row.specs.declared.Row.{Row}
 use Rattle.row.specs.declared.Verdict.{Verdict}
 use Rattle.row.specs.declared.Verdict.the-variants.{Safe, Unsafe}
 use Rattle.row.specs.Verdict.{verdict, verdictNumber}
-
--- a pair reported in a unit for an exact value, no wider than allowed for its ends
-pub record Reports (x : Exact) (u : Scale) (width : Ends → Fraction) (i : Interval) : Type 0 where
-  pub ordered : i .lower ≤ℤ i .upper
-  pub holds : Holds (reported u i) x
-  pub narrow : AtMost (width (reported u i)) (reported u i)
 
 -- the verdict of a row's ends
 unfoldable pub verdictOf : Row → Verdict

@@ -3,5 +3,8 @@ pub mod Refusal
 pub mod Header
 pub mod Line
 pub mod Sheet
+pub mod Parts
+pub mod Accepted
 pub mod Table
+pub mod Rows
 pub mod Examples

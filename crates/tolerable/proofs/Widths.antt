@@ -17,7 +17,7 @@ use Rattle.exact.specs.Reported.{ten, over, reported}
 use Rattle.case.specs.declared.Case.{Case}
 use Rattle.case.specs.Bounds.{Bounds}
 use Rattle.formulas.specs.Width.{mV, AtMost, tolerableWidth}
-use Rattle.tolerable.specs.Ends.{tolerableEnds}
+use Rattle.tolerable.specs.Ends.{tolerableEnds, touchEnds, stepEnds}
 use Rattle.tolerable.proofs.Spans.{top-span, time-span}
 
 -- U c < b k + c, a k < (L + 1) d, with b at most 1884 above a, a from 232,000,000 and d at most 1 above c, c from 9,000,000
@@ -61,3 +61,12 @@ pub tolerable-narrow : {c : Case} → Bounds c → (weight : ℕ) → weight ≤
 tolerable-narrow b weight h =
     let r = tolerable-near b weight h in
     rw (r .is) (within-allowed (r .a) (r .b) (r .near))
+
+module _ {c : Case} (b : Bounds c) where
+  pub touch-narrow : AtMost (tolerableWidth (reported mV (touchEnds c))) (reported mV (touchEnds c))
+  unfolding touchEnds
+  touch-narrow = tolerable-narrow b 3 (lit≤ tt)
+
+  pub step-narrow : AtMost (tolerableWidth (reported mV (stepEnds c))) (reported mV (stepEnds c))
+  unfolding stepEnds
+  step-narrow = tolerable-narrow b 12 (lit≤ tt)

@@ -1,0 +1,53 @@
+-- What is asked of one case as a record. Document 01, 'The result table': "Decrement factor (in thousandths), conductor size, tolerable touch,
+-- tolerable step and resistance may each be asked alone, from a record, with the same checks."
+-- Assumes nothing.
+use Prim.Native.Nat.{ℕ}
+use mathlib.Core.Path.{_≡_}
+use Rattle.interval.specs.declared.Interval.{Interval}
+use Rattle.exact.specs.Fraction.{Fraction}
+use Rattle.exact.specs.Ends.{Ends}
+use Rattle.exact.specs.Exact.{Exact}
+use Rattle.exact.specs.Reported.{Scale, Reports}
+use Rattle.case.specs.declared.Case.{Case}
+use Rattle.case.specs.declared.Fault.the-variants.{Sound}
+use Rattle.case.specs.Check.{recordFault, recordAnswer}
+use Rattle.formulas.specs.Decrement.{Df}
+use Rattle.formulas.specs.Size.{size}
+use Rattle.formulas.specs.Tolerable.{tolerableTouch, tolerableStep}
+use Rattle.formulas.specs.Resistance as R
+use Rattle.formulas.specs.Width.{mV, μΩ, tolerableWidth, resistanceWidth}
+use Rattle.tolerable.specs.Ends.{touchEnds, stepEnds}
+use Rattle.resistance.specs.Ends.{resistanceEnds}
+use Rattle.hocsimbur.specs.declared.Number.{Number}
+use Rattle.hocsimbur.specs.declared.Number.the-variants as number
+use Rattle.hocsimbur.specs.declared.Pair.{Pair}
+use Rattle.hocsimbur.specs.declared.Pair.the-variants as pair
+
+-- a settled number, or refusal 5 or 6 with line 0
+unfoldable pub numberAnswer : (Case → ℕ) → Case → Number
+numberAnswer asked c = recordAnswer number.Refused (number.Is (asked c)) (recordFault c)
+
+unfoldable pub factorAnswer : Case → Number
+factorAnswer = numberAnswer Df
+
+unfoldable pub sizeAnswer : Case → Number
+sizeAnswer = numberAnswer size
+
+-- a pair, or refusal 5 or 6 with line 0
+unfoldable pub pairAnswer : (Case → Interval) → Case → Pair
+pairAnswer ends c = recordAnswer pair.Refused (pair.Ends (ends c)) (recordFault c)
+
+-- the answer by the name of its ends, and what holds of them. Two wrong programs: one that refuses every record breaks `answer`; one whose
+-- ends run from 0 to the largest number breaks `right`.
+pub record PairAnswered (x : Exact) (u : Scale) (width : Ends → Fraction) (ends : Case → Interval) (c : Case) (r : Pair) : Type 0 where
+  pub answer : r ≡ pairAnswer ends c
+  pub right : recordFault c ≡ Sound → Reports x u width (ends c)
+
+abbrev pub TouchAnswered : Case → Pair → Type 0
+TouchAnswered c = PairAnswered (tolerableTouch c) mV tolerableWidth touchEnds c
+
+abbrev pub StepAnswered : Case → Pair → Type 0
+StepAnswered c = PairAnswered (tolerableStep c) mV tolerableWidth stepEnds c
+
+abbrev pub ResistanceAnswered : Case → Pair → Type 0
+ResistanceAnswered c = PairAnswered (R.resistance c) μΩ resistanceWidth resistanceEnds c

@@ -1,0 +1,6 @@
+pub mod Searching
+pub mod Comparing
+pub mod Digits
+pub mod Form
+pub mod Fields
+pub mod Lines
