@@ -5,6 +5,7 @@ use mathlib.Core.Path.{_≡_, refl, ap}
 use mathlib.Core.Bool.{Bool, true, false, cond, not}
 use mathlib.Core.Logic.{_⊎_, inl, inr}
 use native.Mathlib.Omega.{arith}
+use native.Mathlib.Decide.{decLe}
 use native.Mathlib.Nat.{add-zero, zero-add, eq-or-lt-of-le, mul-le-mul, lt-of-le-of-lt, mul-pos, pow-suc, pow-zero}
 use lib.IntN.{pos}
 use lib.ListN.{drop}
@@ -146,3 +147,14 @@ pub duty-bound : {c : Case} → Bounds c → duty c < 10 ^ 12
 unfolding duty
 duty-bound {c} b =
     lt-of-le-of-lt (mul-le-mul (mul-le-mul (b .fault .high) (factor-bounds b .high)) (kf-bounds (b .metal) .high)) (lit< tt)
+
+-- a size above 10^6 would be too small for its own square
+pub size-bound : {c : Case} → Bounds c → size c ≤ 1000000
+size-bound {c} b = go (decLe (size c) 1000000)
+  where
+    go : Dec (size c ≤ 1000000) → size c ≤ 1000000
+    go (yes h) = h
+    go (no h) =
+        let l : 1000000 < size c = omega arith in
+        let d : duty c ≤ 10 ^ 12 = omega (arith, duty-bound b) in
+        absurd (omega (arith, size-least c 1000000 l, mul-le-mul (mul-le-mul d d) (b .ms .high), ap (λ t. t * c .ms) (square (duty c))))

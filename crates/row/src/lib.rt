@@ -1,4 +1,12 @@
 // The row of a case.
+mod decide;
+mod put;
+mod work;
+
+pub use decide::{verdict_number, verdict_of};
+pub use put::put_row;
+pub use work::work_row;
+
 use interval::Interval;
 
 pub enum Verdict {

@@ -1,0 +1,111 @@
+-- The mesh voltage's ends include the exact value's ends.
+-- Assumes nothing.
+use Prim.Native.Nat.{ℕ, _*_, _^_}
+use mathlib.Core.Path.{refl}
+use native.Mathlib.Omega.{arith}
+use lib.Dec.{eqb, lit≤}
+use lib.IntN.{pos}
+use Rattle.interval.specs.Operations.{point}
+use Rattle.interval.proofs.Span.{span-divisor}
+use Rattle.exact.specs.Fraction.{Fraction, _≈f_, whole, decimal, _·f_}
+use Rattle.exact.specs.Exact.{exactly, _+x_, _·x_, _÷x_}
+use Rattle.exact.specs.Root.{root}
+use Rattle.exact.specs.Reported.{ten, over}
+use Rattle.exact.proofs.Order.{refl≈, trans≈}
+use Rattle.exact.proofs.Products.{cong·}
+use Rattle.exact.proofs.Reported.{decimal-over}
+use Rattle.exact.proofs.Consistency.{consistent-exactly, consistent-quotient}
+use Rattle.exact.proofs.Quantity.{quantity-exactly, quantity-product}
+use Rattle.enclosure.specs.Enclosure.{Encloses}
+use Rattle.enclosure.proofs.SquareRoot.{pair-ends}
+use Rattle.enclosure.proofs.Counts.{decimal-count}
+use Rattle.enclosure.proofs.Basics.{encloses-count, encloses-decimal}
+use Rattle.enclosure.proofs.Sums.{encloses-sum}
+use Rattle.enclosure.proofs.Products.{encloses-product}
+use Rattle.enclosure.proofs.Quotients.{encloses-quotient}
+use Rattle.enclosure.proofs.Roots.{encloses-sqrt-even}
+use Rattle.case.specs.declared.Case.{Case}
+use Rattle.case.specs.Bounds.{Bounds, Rodded}
+use Rattle.formulas.specs.Lengths.{ρ, Lr, side, Lc, LR, IG, Ki}
+use Rattle.formulas.specs.Mesh.{LM, mesh}
+use Rattle.formulas.specs.Width.{mV}
+use Rattle.formulas.proofs.Consistent.{consistent-Km}
+use Rattle.formulas.proofs.Positive.{LR-pos}
+use Rattle.current.specs.Drive.{driveOf}
+use Rattle.current.proofs.DrivingProduct.{drive-is}
+use Rattle.lengths.specs.Lengths.{sideLength, conductorLength, rodLength, totalLength}
+use Rattle.lengths.proofs.Lengths.{side-is, conductor-is, rod-is, total-is}
+use Rattle.mesh.specs.Ends.{diagonal, rodWeight, weighedLength, effectiveLength, drivenEnds, meshEnds}
+use Rattle.mesh.proofs.LengthSpans.{diagonal-span, effective-span, effective-low}
+use Rattle.mesh.proofs.Quantities.{quantity-diagonal, quantity-weight, quantity-LM, place-rodded, by-both}
+use Rattle.mesh.proofs.FactorEnclosed.{factor-encloses}
+
+-- ---- fractions as counts
+
+twice-square : (m : ℕ) → whole 2 ·f (decimal m 3 ·f decimal m 3) ≈f over (pos (2 * (m * m))) (ten 6)
+unfolding whole decimal over ten _·f_
+twice-square m = omega arith
+
+rod-share : (m : ℕ) → decimal 122 2 ·f decimal m 3 ≈f over (pos (122 * m)) (ten 5)
+unfolding decimal over ten _·f_
+rod-share m = omega arith
+
+-- a length of k mm in 10^−6 m
+length-encloses : {q : Fraction} (k : ℕ) → q ≈f decimal k 3 → Encloses (exactly q) (ten 6) (point (pos (1000 * k)))
+unfolding ten
+length-encloses k e = encloses-count (pos (1000 * k)) (ten 6) (trans≈ e (decimal-count k 3 1000 (ten 6) refl (omega arith)))
+
+module _ {c : Case} (b : Bounds c) where
+  -- ---- LM
+
+  diagonal-encloses : Encloses (root 2 (exactly (whole 2 ·f (side c ·f side c)))) (ten 6) (diagonal c)
+  unfolding diagonal ten
+  diagonal-encloses =
+      let s = sideLength c in
+      encloses-sqrt-even (ten 6) {v = ten 6} (2 * (s * s)) (10 ^ 6) refl (omega arith) (pair-ends (2 * (s * s) * 10 ^ 6))
+      (encloses-count (pos (2 * (s * s))) (ten 6)
+      (trans≈ (cong· (refl≈ (whole 2)) (cong· (side-is c) (side-is c))) (twice-square s)))
+
+  weight-encloses : Encloses (exactly (decimal 155 2) +x exactly (decimal 122 2 ·f Lr c) ÷x root 2 (exactly (whole 2 ·f (side c ·f side c)))) (ten 9) (rodWeight c)
+  unfolding rodWeight Lr ten
+  weight-encloses =
+      encloses-sum (consistent-exactly _)
+      (consistent-quotient (quantity-diagonal b .positive) (consistent-exactly _) (quantity-diagonal b .consistent))
+      (encloses-decimal 155 2 10000000 (ten 9) refl refl)
+      (encloses-quotient (ten 9) {a = point (pos (122 * c .rodlen))} 10000000000 refl (span-divisor (lit≤ tt) (diagonal-span b) .0)
+      (consistent-exactly _) (quantity-diagonal b .consistent)
+      (encloses-count (pos (122 * c .rodlen)) (ten 5) (rod-share (c .rodlen))) diagonal-encloses)
+
+  weighed-encloses : Rodded c
+      → Encloses (exactly (Lc c)
+      +x (exactly (decimal 155 2) +x exactly (decimal 122 2 ·f Lr c) ÷x root 2 (exactly (whole 2 ·f (side c ·f side c)))) ·x exactly (LR c))
+      (ten 6) (weighedLength c)
+  unfolding weighedLength ten
+  weighed-encloses r =
+      let weight = quantity-weight b r in
+      let rods = encloses-count (pos (rodLength c)) (ten 3) (trans≈ (rod-is c) (decimal-over (rodLength c) 3)) in
+      encloses-sum (consistent-exactly _) (quantity-product weight (quantity-exactly (LR-pos r)) .consistent)
+      (length-encloses (conductorLength c) (conductor-is c))
+      (encloses-product (ten 6) 1000000 refl (weight .consistent) (consistent-exactly _) weight-encloses rods)
+
+  effective-encloses : Encloses (LM c) (ten 6) (effectiveLength c)
+  unfolding LM effectiveLength
+  effective-encloses =
+      by-both (λ x i. Encloses x (ten 6) i) (eqb (c .place) 1) (λ e. weighed-encloses (place-rodded b e))
+      (λ e. length-encloses (totalLength c) (total-is c))
+
+  -- ---- the mesh voltage
+
+  driven-encloses : Encloses (exactly (ρ c ·f Ki c ·f IG c) ÷x LM c) mV (drivenEnds c)
+  unfolding drivenEnds mV ten
+  driven-encloses =
+      let m = quantity-LM b in
+      encloses-quotient (ten 3) 1 refl (span-divisor (omega (arith, effective-low b)) (effective-span b) .0) (consistent-exactly _) (m .consistent)
+      (encloses-count (pos (driveOf c)) (ten 9) (trans≈ (drive-is c) (decimal-over (driveOf c) 9))) effective-encloses
+
+  pub mesh-encloses : Encloses (mesh c) mV (meshEnds c)
+  unfolding mesh meshEnds mV ten
+  mesh-encloses =
+      let m = quantity-LM b in
+      encloses-product mV 10000000 refl (consistent-quotient (m .positive) (consistent-exactly _) (m .consistent)) (consistent-Km b)
+      driven-encloses (factor-encloses b)

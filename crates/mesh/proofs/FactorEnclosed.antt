@@ -1,0 +1,115 @@
+-- The ends of Km include the exact value's ends.
+-- Assumes nothing.
+use Prim.Native.Nat.{ℕ, _+_, _-_, _*_, _^_}
+use mathlib.Core.Path.{_≡_, refl}
+use native.Mathlib.Omega.{arith}
+use lib.Dec.{eqb, lit≤}
+use lib.IntN.{pos}
+use Rattle.interval.specs.Operations.{natural}
+use Rattle.interval.proofs.Span.{span-divisor}
+use Rattle.exact.specs.Fraction.{_≈f_, whole, decimal, _+f_, _·f_, top}
+use Rattle.exact.specs.Exact.{exactly, _·x_, _÷x_}
+use Rattle.exact.specs.Root.{root}
+use Rattle.exact.specs.Pi.{π}
+use Rattle.exact.specs.Logarithm.{ln}
+use Rattle.exact.specs.Depth.{Consistent}
+use Rattle.exact.specs.Reported.{ten, over}
+use Rattle.exact.proofs.Consistency.{consistent-exactly, consistent-sum, consistent-product}
+use Rattle.exact.proofs.Inclusion.{within-trans, within-same}
+use Rattle.exact.proofs.Logarithm.{ln-value, ln-exactly, consistent-ln}
+use Rattle.exact.proofs.Positive.{positive-exactly}
+use Rattle.exact.proofs.Quantity.{Quantity, quantity-π, quantity-quotient}
+use Rattle.enclosure.specs.Enclosure.{Encloses, workDepth}
+use Rattle.enclosure.proofs.SquareRoot.{pair-ends}
+use Rattle.enclosure.proofs.Basics.{encloses-count, encloses-whole}
+use Rattle.enclosure.proofs.Sums.{encloses-sum, encloses-times}
+use Rattle.enclosure.proofs.Products.{encloses-product}
+use Rattle.enclosure.proofs.Quotients.{encloses-quotient}
+use Rattle.enclosure.proofs.Roots.{encloses-root-of, encloses-sqrt-even}
+use Rattle.enclosure.proofs.Constants.{π-encloses}
+use Rattle.logarithm.proofs.LnEnds.{ln-encloses}
+use Rattle.case.specs.declared.Case.{Case}
+use Rattle.case.specs.Bounds.{Bounds}
+use Rattle.formulas.specs.Lengths.{n, h}
+use Rattle.formulas.specs.Mesh.{G, Kh, Kii, Km}
+use Rattle.formulas.proofs.MeshArgument.{G-pos}
+use Rattle.mesh.specs.Factor.{rootOf, argumentLog, depthFactor, innerFactor, innerTerm, geometricFactor}
+use Rattle.mesh.proofs.Argument.{top-inside, bottom-inside, G-is}
+use Rattle.mesh.proofs.LineTables.{root-known}
+use Rattle.mesh.proofs.FactorSpans.{turn-span, depth-span, line-root-span}
+use Rattle.mesh.proofs.Quantities.{quantity-turn, quantity-Kh, quantity-line-root, quantity-Kii, quantity-spread, by-both}
+use Rattle.mesh.proofs.SpreadEnclosed.{spread-encloses}
+
+-- 4m² is a whole number
+squares-top : (m : ℕ) → top (whole 4 ·f whole m ·f whole m) ≡ 4 * (m * m)
+unfolding top whole _·f_
+squares-top m = omega arith
+
+squares-den : (m : ℕ) → (whole 4 ·f whole m ·f whole m) .den ≡ 1
+unfolding whole _·f_
+squares-den m = refl
+
+module _ {c : Case} (b : Bounds c) where
+  -- ---- ln G
+
+  log-encloses : Encloses (ln (exactly (G c))) (ten 9) (argumentLog c)
+  unfolding argumentLog
+  log-encloses =
+      record {
+        within =
+            rw (ln-exactly (G c) workDepth)
+            (within-trans (within-same (ln-value (G-pos b) (G-is b) workDepth)) (ln-encloses (top-inside b) (bottom-inside b)));
+      }
+
+  -- ---- Kh and Kii
+
+  depth-count : whole 1 +f h c ≈f over (pos (1000 + c .depth)) (ten 3)
+  unfolding h whole decimal over ten _+f_
+  depth-count = omega arith
+
+  depth-encloses : Encloses (Kh c) (ten 9) (depthFactor c)
+  unfolding Kh depthFactor ten
+  depth-encloses =
+      encloses-sqrt-even (ten 9) {v = ten 3} (1000 + c .depth) 1000 refl (omega arith) (pair-ends ((1000 + c .depth) * 10 ^ 15))
+      (encloses-count (pos (1000 + c .depth)) (ten 3) depth-count)
+
+  root-encloses : Encloses (root (c .lines) (exactly (whole 4 ·f n c ·f n c))) (ten 9) (natural (rootOf (c .lines)) (rootOf (c .lines) + 1))
+  unfolding n ten
+  root-encloses =
+      let m = c .lines in
+      let r = rootOf m in
+      let k = root-known (b .lines) in
+      encloses-root-of m (whole 4 ·f whole m ·f whole m) (ten 9) r (r + 1) 1000 (omega (arith, b .lines .low)) refl
+      (rw (squares-top m, squares-den m) (omega (arith, k .low))) (rw (squares-top m, squares-den m) (omega (arith, k .high)))
+
+  inner-encloses : Encloses (Kii c) (ten 9) (innerFactor c)
+  unfolding Kii innerFactor ten
+  inner-encloses =
+      by-both (λ x i. Encloses x (ten 9) i) (eqb (c .place) 1) (λ e. encloses-whole 1 (ten 9) refl)
+      (λ e.
+      encloses-quotient (ten 9) 1000000000 refl (span-divisor (lit≤ tt) (line-root-span b) .0) (consistent-exactly (whole 1))
+      (quantity-line-root b .consistent) (encloses-whole 1 (ten 9) refl) root-encloses)
+
+  -- ---- Km
+
+  ratio-consistent : Quantity (Kii c ÷x Kh c)
+  ratio-consistent = quantity-quotient (quantity-Kii b) (quantity-Kh b)
+
+  log-consistent : Consistent (ln (exactly (whole 8) ÷x (π ·x exactly (whole (2 * c .lines - 1)))))
+  log-consistent = consistent-ln (quantity-spread b .positive) (quantity-spread b .consistent)
+
+  term-encloses : Encloses (Kii c ÷x Kh c ·x ln (exactly (whole 8) ÷x (π ·x exactly (whole (2 * c .lines - 1))))) (ten 9) (innerTerm c)
+  unfolding innerTerm ten
+  term-encloses =
+      encloses-product (ten 9) 1000000000 refl (ratio-consistent .consistent) log-consistent
+      (encloses-quotient (ten 9) 1000000000 refl (span-divisor (lit≤ tt) (depth-span b) .0) (quantity-Kii b .consistent)
+      (quantity-Kh b .consistent) inner-encloses depth-encloses)
+      (spread-encloses b)
+
+  pub factor-encloses : Encloses (Km c) (ten 7) (geometricFactor c)
+  unfolding Km geometricFactor ten
+  factor-encloses =
+      let log = consistent-ln (positive-exactly (G-pos b)) (consistent-exactly (G c)) in
+      let term = consistent-product (ratio-consistent .consistent) log-consistent in
+      encloses-quotient (ten 7) 10000000 refl (span-divisor (lit≤ tt) turn-span .0) (consistent-sum log term) (quantity-turn .consistent)
+      (encloses-sum log term log-encloses term-encloses) (encloses-times 2 (quantity-π .consistent) π-encloses)

@@ -1,0 +1,31 @@
+-- The span of a square root's pair, by squares.
+-- Assumes nothing.
+use Prim.Native.Nat.{ℕ, _+_, _*_, _≤_, _<_}
+use native.Mathlib.Omega.{arith}
+use native.Mathlib.Nat.{mul-le-mul}
+use native.Mathlib.Decide.{decLe}
+use Rattle.interval.specs.Root.{IsRoot}
+use Rattle.interval.specs.Span.{Span}
+use Rattle.interval.proofs.Span.{span-natural}
+use Rattle.enclosure.specs.SquareRoot.{squareRoot, rootPair}
+use Rattle.enclosure.proofs.SquareRoot.{square-root}
+
+root-from : {x r : ℕ} (l : ℕ) → IsRoot x r → l * l ≤ x → l ≤ r
+root-from {x} {r} l h k = go (decLe l r)
+  where
+    go : Dec (l ≤ r) → l ≤ r
+    go (yes p) = p
+    go (no p) = let q : r + 1 ≤ l = omega arith in absurd (omega (arith, h .high, mul-le-mul q q))
+
+root-to : {x r : ℕ} (u : ℕ) → IsRoot x r → x < u * u → r + 1 ≤ u
+root-to {x} {r} u h k = go (decLe (r + 1) u)
+  where
+    go : Dec (r + 1 ≤ u) → r + 1 ≤ u
+    go (yes p) = p
+    go (no p) = let q : u ≤ r = omega arith in absurd (omega (arith, h .low, mul-le-mul q q))
+
+pub root-span : (x l u : ℕ) → l * l ≤ x → x < u * u → Span (rootPair x) l u 1
+unfolding rootPair
+root-span x l u h k =
+    let r = square-root x in
+    span-natural (squareRoot x) (squareRoot x + 1) (root-from l r h) (omega arith) (root-to u r k) (omega arith)

@@ -1,0 +1,32 @@
+-- `mesh_voltage` multiplies by Km.
+-- Assumes nothing.
+use native.Mathlib.Omega.{arith}
+use native.Mathlib.Nat.{mul-le-mul}
+use lib.Dec.{lit<}
+use Rattle.interval.proofs.Span.{span-size}
+use Rattle.mesh.specs.Ends.{meshEnds}
+use Rattle.mesh.proofs.FactorSpans.{factor-span}
+use Rattle.mesh.proofs.LengthSpans.{driven-span}
+use borrow.Author.Needs.{needs}
+use Rattle.mesh.proofs.mesh_voltage.Statement.{statement}
+use Rattle.mesh.proofs.mesh_voltage.Tie as tie
+
+driven-requires : tie.Need-driven-requires
+driven-requires c κs = search needs
+
+geometric-factor-requires : tie.Need-geometric-factor-requires
+geometric-factor-requires c κs = search needs
+
+product-requires : tie.Need-product-requires
+product-requires c κs =
+    let s = c .before .before in
+    rw (c .geometric-factor .ensures, c .before .driven .ensures)
+    (lit< tt, omega (arith, mul-le-mul (span-size (driven-span (s .pre))) (span-size (factor-span (s .pre)))))
+
+returns : tie.Need-returns
+unfolding meshEnds
+returns c = cc
+
+pub mesh-voltage-spec : {M : Type 1} → statement M
+mesh-voltage-spec =
+    tie.close (tie.spec driven-requires geometric-factor-requires product-requires returns)

@@ -1,0 +1,39 @@
+-- The ends of LM and of the mesh voltage, by whole-number intervals. Names for the free part: callers use their laws.
+-- Assumes nothing.
+use Prim.Native.Nat.{_*_, _^_}
+use mathlib.Core.Bool.{cond}
+use lib.Dec.{eqb}
+use lib.IntN.{pos}
+use Rattle.interval.specs.declared.Interval.{Interval}
+use Rattle.interval.specs.Operations.{point, sumOf, productOf, quotientOf}
+use Rattle.enclosure.specs.SquareRoot.{rootPair}
+use Rattle.case.specs.declared.Case.{Case}
+use Rattle.current.specs.Drive.{driveOf}
+use Rattle.lengths.specs.Lengths.{sideLength, conductorLength, rodLength, totalLength}
+use Rattle.mesh.specs.Factor.{geometricFactor}
+
+module _ (c : Case) where
+  -- √(2s²) in 10^−6 m
+  unfoldable pub diagonal : Interval
+  diagonal = rootPair (2 * (sideLength c * sideLength c) * 10 ^ 6)
+
+  -- 1.55 + 1.22·Lr/√(2s²) in 10^−9
+  unfoldable pub rodWeight : Interval
+  rodWeight = sumOf (point (pos 1550000000)) (quotientOf (point (pos (122 * c .rodlen))) diagonal 10000000000)
+
+  -- LM with rods along the perimeter, in 10^−6 m
+  unfoldable pub weighedLength : Interval
+  weighedLength =
+      sumOf (point (pos (1000 * conductorLength c))) (productOf rodWeight (point (pos (rodLength c))) 1000000)
+
+  -- LM in 10^−6 m
+  unfoldable pub effectiveLength : Interval
+  effectiveLength = cond (eqb (c .place) 1) weighedLength (point (pos (1000 * totalLength c)))
+
+  -- ρ·Ki·IG/LM in mV
+  unfoldable pub drivenEnds : Interval
+  drivenEnds = quotientOf (point (pos (driveOf c))) effectiveLength 1
+
+  -- the mesh voltage in mV
+  unfoldable pub meshEnds : Interval
+  meshEnds = productOf drivenEnds (geometricFactor c) 10000000

@@ -1,0 +1,49 @@
+// LM, the effective length of conductors and rods.
+ghost use mathlib.Core.Path.{_≡_};
+ghost use Rattle.case.specs.Bounds.{Bounds};
+ghost use Rattle.mesh.specs.Ends.{diagonal as diagonalEnds, rodWeight, weighedLength, effectiveLength};
+use case::Case;
+use interval::Interval;
+use interval::root::root_ends;
+use lengths::conductor_length;
+use lengths::rod_length;
+use lengths::side_length;
+use lengths::total_length;
+
+// √(2s²) in micrometres.
+fn diagonal(c: Case) -> Interval
+    requires { ⌜ Bounds c ⌝ }
+    ensures { λ r. ⌜ r ≡ diagonalEnds c ⌝ }
+{
+    let side = side_length(c);
+    root_ends(2 * (side * side) * 1000000)
+}
+
+// 1.55 + 1.22·Lr/√(2s²) in 10^-9.
+fn rod_weight(c: Case) -> Interval
+    requires { ⌜ Bounds c ⌝ }
+    ensures { λ r. ⌜ r ≡ rodWeight c ⌝ }
+{
+    let share = Interval::point(122 * (c.rodlen as u64)).quotient(diagonal(c), 10000000000);
+    Interval::point(1550000000).sum(share)
+}
+
+// LM with rods along the perimeter, in micrometres.
+fn weighed_length(c: Case) -> Interval
+    requires { ⌜ Bounds c ⌝ }
+    ensures { λ r. ⌜ r ≡ weighedLength c ⌝ }
+{
+    let rods = rod_weight(c).product(Interval::point(rod_length(c)), 1000000);
+    Interval::point(1000 * conductor_length(c)).sum(rods)
+}
+
+// LM in micrometres.
+pub fn effective_length(c: Case) -> Interval
+    requires { ⌜ Bounds c ⌝ }
+    ensures { λ r. ⌜ r ≡ effectiveLength c ⌝ }
+{
+    if c.place == 1 {
+        return weighed_length(c);
+    }
+    Interval::point(1000 * total_length(c))
+}

@@ -1,0 +1,59 @@
+-- The row of a case within its bounds is right: the ends are right reports, and the verdict is true of the exact values.
+-- Assumes nothing.
+use mathlib.Core.Path.{_≡_, refl}
+use Rattle.exact.specs.Reported.{Reports}
+use Rattle.enclosure.proofs.Reporting.{reports}
+use Rattle.case.specs.declared.Case.{Case}
+use Rattle.case.specs.Bounds.{Bounds}
+use Rattle.formulas.specs.Width.{mV, μΩ, tolerableWidth, resistanceWidth, riseWidth, meshWidth, stepWidth}
+use Rattle.formulas.specs.Tolerable as Tolerable
+use Rattle.formulas.specs.Mesh as Mesh
+use Rattle.formulas.specs.Step as Step
+use Rattle.formulas.proofs.Consistent.{consistent-touch, consistent-tolerable-step, consistent-mesh, consistent-step, quantity-resistance, consistent-rise}
+use Rattle.tolerable.specs.Ends.{touchEnds, stepEnds}
+use Rattle.tolerable.proofs.Enclosed as T
+use Rattle.tolerable.proofs.Widths as TW
+use Rattle.mesh.specs.Ends.{meshEnds}
+use Rattle.mesh.proofs.Enclosed.{mesh-encloses}
+use Rattle.mesh.proofs.Widths.{mesh-narrow}
+use Rattle.step.specs.Ends.{stepVoltageEnds}
+use Rattle.step.proofs.Enclosed as S
+use Rattle.step.proofs.Widths as SW
+use Rattle.resistance.proofs.Enclosed.{resistance-encloses}
+use Rattle.resistance.proofs.Widths.{resistance-narrow}
+use Rattle.resistance.proofs.Rise.{rise-encloses, rise-narrow}
+use Rattle.row.specs.Row.{RightRow, verdictOf}
+use Rattle.row.specs.Ends.{rowOf}
+use Rattle.row.proofs.Verdicts.{Enclosed, safe-true, unsafe-true}
+
+module _ {c : Case} (b : Bounds c) where
+  touch-enclosed : Enclosed mV (Tolerable.tolerableTouch c) (touchEnds c)
+  touch-enclosed = record { consistent = consistent-touch b; encloses = T.touch-encloses b }
+
+  limit-enclosed : Enclosed mV (Tolerable.tolerableStep c) (stepEnds c)
+  limit-enclosed = record { consistent = consistent-tolerable-step b; encloses = T.step-encloses b }
+
+  mesh-enclosed : Enclosed mV (Mesh.mesh c) (meshEnds c)
+  mesh-enclosed = record { consistent = consistent-mesh b; encloses = mesh-encloses b }
+
+  step-enclosed : Enclosed mV (Step.step c) (stepVoltageEnds c)
+  step-enclosed = record { consistent = consistent-step b; encloses = S.step-encloses b }
+
+  pub right-row : RightRow c (rowOf c)
+  unfolding rowOf verdictOf
+  right-row =
+      record {
+        station = refl;
+        season = refl;
+        verdict = refl;
+        size = refl;
+        current = refl;
+        tolerable-touch = reports tolerableWidth (consistent-touch b) (T.touch-encloses b) (TW.touch-narrow b);
+        tolerable-step = reports tolerableWidth (consistent-tolerable-step b) (T.step-encloses b) (TW.step-narrow b);
+        mesh = reports (λ A. meshWidth c) (consistent-mesh b) (mesh-encloses b) (mesh-narrow b);
+        step = reports (λ A. stepWidth c) (consistent-step b) (S.step-encloses b) (SW.step-narrow b);
+        resistance = reports resistanceWidth (quantity-resistance b .consistent) (resistance-encloses b) (resistance-narrow b);
+        rise = reports riseWidth (consistent-rise b) (rise-encloses b) (rise-narrow b);
+        safe-true = safe-true touch-enclosed limit-enclosed mesh-enclosed step-enclosed;
+        unsafe-true = unsafe-true touch-enclosed limit-enclosed mesh-enclosed step-enclosed;
+      }

@@ -1,0 +1,61 @@
+-- What the verdict of four pairs says of the exact values that they enclose.
+-- Assumes nothing.
+use mathlib.Core.Path.{_≡_, refl}
+use mathlib.Core.Bool.{Bool, true, false, cond, _&&_, _||_}
+use mathlib.Core.Logic.{_⊎_, inl, inr, ⊎-elim}
+use native.Mathlib.Omega.{arith}
+use Prim.Native.Nat.{ℕ}
+use lib.Dec.{T}
+use lib.Signed.{leZ, ltZ, leZ-yes, ltZ-yes}
+use Rattle.interval.specs.declared.Interval.{Interval}
+use Rattle.exact.specs.Exact.{Exact, Above, AtOrBelow}
+use Rattle.exact.specs.Reported.{Scale}
+use Rattle.exact.specs.Depth.{Consistent}
+use Rattle.enclosure.specs.Enclosure.{Encloses}
+use Rattle.enclosure.proofs.Verdicts.{encloses-at-or-below, encloses-above}
+use Rattle.row.specs.declared.Verdict.{Verdict}
+use Rattle.row.specs.declared.Verdict.the-variants.{Safe, Unsafe, Undecided}
+use Rattle.row.specs.Verdict.{safe, unsafe, verdict}
+
+-- ---- the tests that led to a verdict
+
+safe-tested : (s u : Bool) → cond s Safe (cond u Unsafe Undecided) ≡ Safe → T s
+safe-tested true u e = tt
+safe-tested false true e = let z : _≡_ {A = ℕ} 0 1 = cc in absurd (omega arith)
+safe-tested false false e = let z : _≡_ {A = ℕ} 0 1 = cc in absurd (omega arith)
+
+unsafe-tested : (s u : Bool) → cond s Safe (cond u Unsafe Undecided) ≡ Unsafe → T u
+unsafe-tested true u e = let z : _≡_ {A = ℕ} 0 1 = cc in absurd (omega arith)
+unsafe-tested false true e = tt
+unsafe-tested false false e = let z : _≡_ {A = ℕ} 0 1 = cc in absurd (omega arith)
+
+both : (a b : Bool) → T (a && b) → T a × T b
+both true b t = (tt, t)
+both false b t = absurd t
+
+one-of : (a b : Bool) → T (a || b) → T a ⊎ T b
+one-of true b t = inl tt
+one-of false b t = inr t
+
+-- ---- the exact values
+
+-- an exact value and a pair in mV that encloses it
+pub record Enclosed (u : Scale) (x : Exact) (i : Interval) : Type 0 where
+  pub consistent : Consistent x
+  pub encloses : Encloses x u i
+
+module _ {u : Scale} {touch limit mesh step : Exact} {t l m s : Interval}
+    (et : Enclosed u touch t) (el : Enclosed u limit l) (em : Enclosed u mesh m) (es : Enclosed u step s) where
+  pub safe-true : verdict t l m s ≡ Safe → AtOrBelow mesh touch × AtOrBelow step limit
+  unfolding verdict safe
+  safe-true e =
+      let p = both (leZ (m .upper) (t .lower)) (leZ (s .upper) (l .lower)) (safe-tested (safe t l m s) (unsafe t l m s) e) in
+      (encloses-at-or-below (em .consistent) (et .consistent) (em .encloses) (et .encloses) (leZ-yes (p .0)),
+      encloses-at-or-below (es .consistent) (el .consistent) (es .encloses) (el .encloses) (leZ-yes (p .1)))
+
+  pub unsafe-true : verdict t l m s ≡ Unsafe → Above mesh touch ⊎ Above step limit
+  unfolding verdict unsafe
+  unsafe-true e =
+      ⊎-elim (λ h. inl (encloses-above (em .encloses) (et .encloses) (ltZ-yes h)))
+      (λ h. inr (encloses-above (es .encloses) (el .encloses) (ltZ-yes h)))
+      (one-of (ltZ (t .upper) (m .lower)) (ltZ (l .upper) (s .lower)) (unsafe-tested (safe t l m s) (unsafe t l m s) e))

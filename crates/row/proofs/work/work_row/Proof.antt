@@ -1,0 +1,92 @@
+-- `work_row` puts the parts together.
+-- Assumes nothing.
+use mathlib.Core.Path.{_≡_}
+use native.Mathlib.Omega.{arith}
+use mir.Syntax.{w64}
+use mir.Val.{SFits}
+use mir.Facts.{toZ-ofZ, toZ-pos}
+use Rattle.row.specs.Ends.{rowOf}
+use borrow.Author.Needs.{needs}
+use Rattle.row.proofs.work.work_row.Statement.{statement}
+use Rattle.row.proofs.work.work_row.Tie as tie
+
+verdict-held : (c : tie.After-verdict-number) → SFits w64 (c .verdict-number .result)
+verdict-held c = search needs
+
+size-held : (c : tie.After-size-number) → SFits w64 (c .size-number .result)
+size-held c = search needs
+
+current-held : (c : tie.After-current-number) → SFits w64 (c .current-number .result)
+current-held c = search needs
+
+tolerable-touch-requires : tie.Need-tolerable-touch-requires
+tolerable-touch-requires c κs = search needs
+
+tolerable-step-requires : tie.Need-tolerable-step-requires
+tolerable-step-requires c κs = search needs
+
+mesh-voltage-requires : tie.Need-mesh-voltage-requires
+mesh-voltage-requires c κs = search needs
+
+step-voltage-requires : tie.Need-step-voltage-requires
+step-voltage-requires c κs = search needs
+
+cast-t6 : tie.Need-cast-t6
+cast-t6 c = search needs
+
+cast-t7 : tie.Need-cast-t7
+cast-t7 c = search needs
+
+verdict-of-requires : tie.Need-verdict-of-requires
+verdict-of-requires c κs = search needs
+
+verdict-number-requires : tie.Need-verdict-number-requires
+verdict-number-requires c κs = search needs
+
+size-number-requires : tie.Need-size-number-requires
+size-number-requires c κs = search needs
+
+current-number-requires : tie.Need-current-number-requires
+current-number-requires c κs = search needs
+
+resistance-requires : tie.Need-resistance-requires
+resistance-requires c κs = search needs
+
+potential-rise-requires : tie.Need-potential-rise-requires
+potential-rise-requires c κs = search needs
+
+returns : tie.Need-returns
+unfolding rowOf
+returns c = 
+    let p = c .before in
+    let q = p .before in
+    let z = q .before in
+    let n = z .before in
+    let o = n .before in
+    let m = o .before .before .before in
+    let k = m .before in
+    let h = k .before in
+    let g = h .before in
+    let s = g .before in
+    let v = verdict-held n in
+    let f = size-held z in
+    let i = current-held q in
+    rw (toZ-pos w64 {n = s .args .c .station} (omega arith), toZ-pos w64 {n = s .args .c .season} (omega arith), toZ-ofZ v, toZ-ofZ f, toZ-ofZ i, c .potential-rise .ensures, p .resistance .ensures, q .current-number .ensures, z .size-number .ensures, n .verdict-number .ensures, o .verdict-of .ensures, m .step-voltage .ensures, k .mesh-voltage .ensures, h .tolerable-step .ensures, g .tolerable-touch .ensures)
+
+pub work-row-spec : {M : Type 1} → statement M
+work-row-spec =
+    tie.close
+    (tie.spec
+    tolerable-touch-requires
+    tolerable-step-requires
+    mesh-voltage-requires
+    step-voltage-requires
+    cast-t6
+    cast-t7
+    verdict-of-requires
+    verdict-number-requires
+    size-number-requires
+    current-number-requires
+    resistance-requires
+    potential-rise-requires
+    returns)

@@ -1,0 +1,28 @@
+-- The row of a case by the names of its ends: the free part of a row has a name for each pair.
+-- Assumes nothing.
+use lib.IntN.{pos}
+use Rattle.case.specs.declared.Case.{Case}
+use Rattle.formulas.specs.Lengths.{gridCurrent}
+use Rattle.formulas.specs.Size as Size
+use Rattle.tolerable.specs.Ends.{touchEnds, stepEnds}
+use Rattle.mesh.specs.Ends.{meshEnds}
+use Rattle.step.specs.Ends.{stepVoltageEnds}
+use Rattle.resistance.specs.Ends.{resistanceEnds, riseEnds}
+use Rattle.row.specs.declared.Row.{Row}
+use Rattle.row.specs.Verdict.{verdict, verdictNumber}
+
+unfoldable pub rowOf : Case → Row
+rowOf c =
+    record {
+      station = pos (c .station);
+      season = pos (c .season);
+      verdict = pos (verdictNumber (verdict (touchEnds c) (stepEnds c) (meshEnds c) (stepVoltageEnds c)));
+      size = pos (Size.size c);
+      current = pos (gridCurrent c);
+      «tolerable_touch» = touchEnds c;
+      «tolerable_step» = stepEnds c;
+      mesh = meshEnds c;
+      step = stepVoltageEnds c;
+      resistance = resistanceEnds c;
+      rise = riseEnds c;
+    }

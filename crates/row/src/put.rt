@@ -1,0 +1,50 @@
+// A row into its seventeen numbers of the table.
+ghost use mathlib.Core.Path.{_≡_};
+ghost use lib.ListN.{length};
+ghost use Rattle.row.specs.Row.{numbers, rowLength};
+
+use crate::Row;
+
+// The seventeen numbers in the table's order.
+fn row_numbers(r: Row) -> [i64; 17]
+    ensures { λ a. ⌜ a ≡ numbers r ⌝ }
+{
+    [
+        r.station,
+        r.season,
+        r.verdict,
+        r.size,
+        r.current,
+        r.tolerable_touch.lower,
+        r.tolerable_touch.upper,
+        r.tolerable_step.lower,
+        r.tolerable_step.upper,
+        r.mesh.lower,
+        r.mesh.upper,
+        r.step.lower,
+        r.step.upper,
+        r.resistance.lower,
+        r.resistance.upper,
+        r.rise.lower,
+        r.rise.upper,
+    ]
+}
+
+fn copy_row(a: [i64; 17], row: &mut [i64])
+    requires { ⌜ length (now row) ≡ 17 ⌝ }
+    ensures { λ _. ⌜ now (row .exit) ≡ a ⌝ }
+{
+    let mut i = 0;
+    while i < 17 {
+        let z = a[i];
+        row[i] = z;
+        i += 1;
+    }
+}
+
+pub fn put_row(r: Row, row: &mut [i64])
+    requires { ⌜ length (now row) ≡ rowLength ⌝ }
+    ensures { λ _. ⌜ now (row .exit) ≡ numbers r ⌝ }
+{
+    copy_row(row_numbers(r), row);
+}

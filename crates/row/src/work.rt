@@ -1,0 +1,50 @@
+// The row of a case that the checks found sound.
+ghost use mathlib.Core.Path.{_≡_};
+ghost use lib.IntN.{pos};
+ghost use Rattle.case.specs.Bounds.{Bounds};
+ghost use Rattle.formulas.specs.Lengths.{gridCurrent};
+ghost use Rattle.formulas.specs.Size as Size;
+ghost use Rattle.row.specs.Ends.{rowOf};
+
+use crate::decide::{verdict_number, verdict_of};
+use crate::Row;
+use case::Case;
+
+fn size_number(c: Case) -> i64
+    requires { ⌜ Bounds c ⌝ }
+    ensures { λ r. ⌜ r ≡ pos (Size.size c) ⌝ }
+{
+    let size = current::conductor_size(c);
+    size as i64
+}
+
+fn current_number(c: Case) -> i64
+    requires { ⌜ Bounds c ⌝ }
+    ensures { λ r. ⌜ r ≡ pos (gridCurrent c) ⌝ }
+{
+    let current = current::grid_current(c);
+    current as i64
+}
+
+pub fn work_row(c: Case) -> Row
+    requires { ⌜ Bounds c ⌝ }
+    ensures { λ r. ⌜ r ≡ rowOf c ⌝ }
+{
+    let touch = tolerable::tolerable_touch(c);
+    let limit = tolerable::tolerable_step(c);
+    let mesh = mesh::mesh_voltage(c);
+    let step = step::step_voltage(c);
+    Row {
+        station: c.station as i64,
+        season: c.season as i64,
+        verdict: verdict_number(verdict_of(touch, limit, mesh, step)),
+        size: size_number(c),
+        current: current_number(c),
+        tolerable_touch: touch,
+        tolerable_step: limit,
+        mesh,
+        step,
+        resistance: resistance::resistance(c),
+        rise: resistance::potential_rise(c),
+    }
+}
