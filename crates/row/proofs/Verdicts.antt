@@ -49,9 +49,10 @@ module _ {u : Scale} {touch limit mesh step : Exact} {t l m s : Interval}
   pub safe-true : verdict t l m s ≡ Safe → AtOrBelow mesh touch × AtOrBelow step limit
   unfolding verdict safe
   safe-true e =
-      let p = both (leZ (m .upper) (t .lower)) (leZ (s .upper) (l .lower)) (safe-tested (safe t l m s) (unsafe t l m s) e) in
-      (encloses-at-or-below (em .consistent) (et .consistent) (em .encloses) (et .encloses) (leZ-yes (p .0)),
-      encloses-at-or-below (es .consistent) (el .consistent) (es .encloses) (el .encloses) (leZ-yes (p .1)))
+      let p = both (leZ (m .upper) (t .lower)) (leZ (s .upper) (l .lower)) (safe-tested (safe t l m s) (unsafe t l m s) e) in (
+        encloses-at-or-below (em .consistent) (et .consistent) (em .encloses) (et .encloses) (leZ-yes (p .0)),
+        encloses-at-or-below (es .consistent) (el .consistent) (es .encloses) (el .encloses) (leZ-yes (p .1)),
+      )
 
   pub unsafe-true : verdict t l m s ≡ Unsafe → Above mesh touch ⊎ Above step limit
   unfolding verdict unsafe

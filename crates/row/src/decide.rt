@@ -3,7 +3,6 @@ ghost use mathlib.Core.Path.{_≡_};
 ghost use lib.IntN.{pos};
 ghost use lib.Signed.{leZ, ltZ};
 ghost use Rattle.row.specs.Verdict.{safe as safeEnds, unsafe as unsafeEnds, verdict, verdictNumber};
-
 use crate::Verdict;
 use interval::Interval;
 

@@ -3,11 +3,11 @@ mod decide;
 mod put;
 mod work;
 
-pub use decide::{verdict_number, verdict_of};
+pub use decide::verdict_number;
+pub use decide::verdict_of;
+use interval::Interval;
 pub use put::put_row;
 pub use work::work_row;
-
-use interval::Interval;
 
 pub enum Verdict {
     Safe,

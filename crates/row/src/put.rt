@@ -2,7 +2,6 @@
 ghost use mathlib.Core.Path.{_≡_};
 ghost use lib.ListN.{length};
 ghost use Rattle.row.specs.Row.{numbers, rowLength};
-
 use crate::Row;
 
 // The seventeen numbers in the table's order.

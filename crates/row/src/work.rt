@@ -5,9 +5,9 @@ ghost use Rattle.case.specs.Bounds.{Bounds};
 ghost use Rattle.formulas.specs.Lengths.{gridCurrent};
 ghost use Rattle.formulas.specs.Size as Size;
 ghost use Rattle.row.specs.Ends.{rowOf};
-
-use crate::decide::{verdict_number, verdict_of};
 use crate::Row;
+use crate::decide::verdict_number;
+use crate::decide::verdict_of;
 use case::Case;
 
 fn size_number(c: Case) -> i64

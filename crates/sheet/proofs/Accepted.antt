@@ -19,7 +19,7 @@ use Rattle.sheet.specs.Refusal.{textRefused, nameRefused, noLineRefused,
 use Rattle.sheet.specs.Header.{noColumns, nameFault, columnsOf}
 use Rattle.sheet.specs.Line.{lineCase}
 use Rattle.sheet.specs.Sheet.{names, valueLines, badText, roomAnswer, valuesAnswer, namesAnswer, answer}
-use Rattle.sheet.specs.Accepted.{Accepted}
+use Rattle.sheet.specs.Accepted.{SoundLines, Accepted}
 use Rattle.sheet.specs.Parts.{Header}
 use Rattle.sheet.proofs.HeaderAccepted.{header-accepted}
 use Rattle.sheet.proofs.LinesAccepted.{lines-sound}
@@ -63,6 +63,9 @@ accepted s room n e =
 pub accepted-bounds : {s : List ℕ} {room n : ℕ} (i : ℕ) → Accepted s room n → i < n
     → Bounds (lineCase (columnsOf (names s)) (fieldsOf (getD (valueLines s) i [])))
 accepted-bounds i a h = bounds (a .placed) (a .line i h .sound)
+
+pub accepted-lines : {s : List ℕ} {room n : ℕ} → Accepted s room n → SoundLines (columnsOf (names s)) (valueLines s)
+accepted-lines a = record { line = λ i h. a .line i (omega (arith, a .count)) }
 
 -- ---- for the writer of the rows: the header ends at e
 

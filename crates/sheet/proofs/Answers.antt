@@ -22,6 +22,6 @@ unfolding TableAfter
 answered-rows s t u p q f = record { answer-is = sym q ∙ p; table-is = f }
 
 pub answered-refused : {k l c : ℕ} {a : Answer} (s : List ℕ) (t : List ℤ) → a ≡ answer s (length t) → a ≡ Refused k l c
-    → Answered s t t (Refused k l c)
+    → Answered s t t a
 unfolding TableAfter
-answered-refused s t p q = record { answer-is = sym q ∙ p; table-is = refl }
+answered-refused s t p q = record { answer-is = p; table-is = rw q refl }

@@ -20,6 +20,9 @@ pub record SoundLine (at line : List ℕ) : Type 0 where
   pub form : formFault 1 (fieldsOf line) ≡ 0
   pub sound : caseFault at (lineCase at (fieldsOf line)) ≡ fault.Sound
 
+pub record SoundLines (at : List ℕ) (lines : List (List ℕ)) : Type 0 where
+  pub line : (i : ℕ) → i < length lines → SoundLine at (getD lines i [])
+
 -- a sheet of n rows that fit a table of `room` numbers
 pub record Accepted (s : List ℕ) (room n : ℕ) : Type 0 where
   pub text : badText s ≡ false

@@ -4,15 +4,20 @@ mod header;
 mod line;
 mod names;
 mod pass;
+mod rows;
 
 ghost use mathlib.Core.Path.{_≡_};
+ghost use lib.ListN.{length};
 ghost use Rattle.text.specs.Text.{linesOf};
 ghost use Rattle.case.specs.Bounds.{Placed};
-ghost use Rattle.sheet.specs.Sheet.{badText, valuesAnswer, answer};
+ghost use Rattle.sheet.specs.Sheet.{badText, valuesAnswer, answer, cases};
+ghost use Rattle.sheet.specs.Accepted.{Accepted};
+ghost use Rattle.sheet.specs.Table.{Filled, Answered};
 use header::read_header;
 use pass::check_lines;
 use pass::count_lines;
 use pass::skip;
+use rows::write_rows;
 use text::find;
 
 // The count of rows, or a refusal with number, line and column.
@@ -75,4 +80,28 @@ pub fn judge(s: &[u8], room: usize) -> Answer
     let at = h.at;
     let next = skip(e, s.len());
     judge_values(&s[next..], at, room)
+}
+
+// The rows of a sheet whose answer is n rows.
+fn fill(s: &[u8], n: usize, table: &mut [i64])
+    requires { ⌜ Accepted (now s) (length (now table)) n ⌝ }
+    ensures { λ _. ⌜ Filled (cases (now (s .entry))) (now (table .entry)) (now (table .exit)) ⌝ }
+{
+    let e = find(s, 10);
+    let h = read_header(&s[..e]);
+    let at = h.at;
+    let next = skip(e, s.len());
+    write_rows(&s[next..], at, table);
+}
+
+// The answer to a sheet, and its rows in the table.
+pub fn sheet(s: &[u8], table: &mut [i64]) -> Answer
+    ensures { λ r. ⌜ Answered (now (s .entry)) (now (table .entry)) (now (table .exit)) r ⌝ }
+{
+    let a = judge(s, table.len());
+    if let Answer::Rows(n) = a {
+        fill(s, n, table);
+        return Answer::Rows(n);
+    }
+    a
 }

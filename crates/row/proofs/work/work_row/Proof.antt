@@ -57,7 +57,7 @@ potential-rise-requires c κs = search needs
 
 returns : tie.Need-returns
 unfolding rowOf
-returns c = 
+returns c =
     let p = c .before in
     let q = p .before in
     let z = q .before in

@@ -1,0 +1,22 @@
+// Writing to standard output: bytes and numbers. A write that fails is passed over.
+use libc::STDOUT_FILENO;
+
+pub fn bytes(s: &[u8]) {
+    io::write_all(STDOUT_FILENO, s);
+}
+
+// n in decimal digits.
+pub fn number(n: u64) {
+    io::print_decimal(STDOUT_FILENO, n);
+}
+
+// z in decimal digits, with a minus sign below 0.
+pub fn signed(z: i64) {
+    if z < 0 {
+        bytes(b"-");
+        // !z is -z - 1, which is never too large.
+        number((!z as u64) + 1);
+    } else {
+        number(z as u64);
+    }
+}

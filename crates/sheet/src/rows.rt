@@ -1,0 +1,48 @@
+// The rows of the table.
+ghost use mathlib.Core.Path.{_≡_};
+ghost use Prim.Native.Nat.{_≤_, _+_, _*_};
+ghost use lib.ListN.{length};
+ghost use Rattle.text.specs.Text.{linesOf};
+ghost use Rattle.case.specs.Bounds.{Bounds, Placed};
+ghost use Rattle.row.specs.Row.{numbers, rowLength};
+ghost use Rattle.row.specs.Ends.{rowOf};
+ghost use Rattle.sheet.specs.Accepted.{SoundLine, SoundLines};
+ghost use Rattle.sheet.specs.Rows.{Written, casesOf};
+ghost use Rattle.sheet.specs.Table.{Filled};
+use crate::line::case_line;
+use crate::pass::skip;
+use case::Case;
+use row::put_row;
+use row::work_row;
+use text::find;
+
+// Row i of the table.
+fn write_row(c: Case, table: &mut [i64], i: usize)
+    requires { ⌜ Bounds c ⌝ }
+    requires { ⌜ rowLength * i + rowLength ≤ length (now table) ⌝ }
+    ensures { λ _. ⌜ Written i (numbers (rowOf c)) (now (table .entry)) (now (table .exit)) ⌝ }
+{
+    let row = work_row(c);
+    let a = 17 * i;
+    let b = a + 17;
+    put_row(row, &mut table[a..b]);
+}
+
+// The rows of the lines of s, which are sound.
+pub fn write_rows(s: &[u8], at: [usize; 18], table: &mut [i64])
+    requires { ⌜ Placed at ⌝ }
+    requires { ⌜ SoundLines at (linesOf (now s)) ⌝ }
+    requires { ⌜ rowLength * length (linesOf (now s)) ≤ length (now table) ⌝ }
+    ensures { λ _. ⌜ Filled (casesOf at (linesOf (now (s .entry)))) (now (table .entry)) (now (table .exit)) ⌝ }
+{
+    let mut rest = s;
+    let mut n: usize = 0;
+    while 0 < rest.len() {
+        let e = find(rest, 10);
+        let c = case_line(&rest[..e], at);
+        write_row(c, table, n);
+        let next = skip(e, rest.len());
+        rest = &rest[next..];
+        n += 1;
+    }
+}

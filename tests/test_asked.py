@@ -1,0 +1,300 @@
+"""Judges the questions asked alone: each line of crates/asked/stdout, which `rt check asked`
+holds to what the program prints, against the separately written calculator.
+
+    python3 -m unittest discover -s tests
+"""
+
+import unittest
+from collections import defaultdict
+from fractions import Fraction
+from itertools import product
+from pathlib import Path
+
+import calculator as calc
+from calculator import Case, Refusal
+
+STDOUT = Path(__file__).parents[1] / "crates" / "asked" / "stdout"
+DEPTHS = (3, 6, 9, 12)
+
+SETTLED = {"factor": calc.decrement_thousandths, "size": calc.conductor_kcmil}
+PAIRS = {"touch": "tolerable_touch", "step": "tolerable_step", "resistance": "resistance"}
+RECORD_KINDS = (*SETTLED, *PAIRS)
+# The least count of different questions of each kind.
+LEAST = {"factor": 160, "size": 200, "touch": 100, "step": 100, "resistance": 100, "ln": 300}
+
+# Both sides of each edge of Table 10.
+FACTOR_MS = (8, 9, 49, 50, 99, 100, 199, 200, 299, 300, 399, 400, 499, 500, 3000, 3001)
+FACTOR_XR = (0, 1, 10, 11, 20, 21, 30, 31, 40, 41)
+RESISTANCE_NAMES = ("soil", "lines", "space", "depth", "rods", "rodlen", "place")
+
+
+def whole(field):
+    """A number in decimal digits, with no sign but minus and no zero in front."""
+    number = int(field)
+    if str(number) != field:
+        raise ValueError(f"{field!r} is not in the form of a number")
+    return number
+
+
+def read_line(line):
+    """The kind of a line, what is asked, and the answer: a refusal or a tuple of numbers."""
+    kind, *fields = line.split(",")
+    if kind == "ln":
+        asked, answer = tuple(whole(field) for field in fields[:2]), fields[2:]
+    elif kind in RECORD_KINDS:
+        count = calc.COLUMN_COUNT
+        asked, answer = Case(*(whole(field) for field in fields[:count])), fields[count:]
+    else:
+        raise ValueError(f"no question is called {kind!r}")
+    if answer[:1] == ["refused"]:
+        return kind, asked, Refusal(*(whole(field) for field in answer[1:]))
+    return kind, asked, tuple(whole(field) for field in answer)
+
+
+def judge(kind, asked, answer):
+    """What is wrong with one answer; empty when right."""
+    wanted = calc.check_ln(*asked) if kind == "ln" else calc.check_record(asked)
+    if wanted or isinstance(answer, Refusal):
+        return [] if answer == wanted else [f"{answer}, not {wanted}"]
+    if kind in SETTLED:
+        number = SETTLED[kind](asked)
+        return [] if answer == (number,) else [f"{answer}, not {number}"]
+    if len(answer) != 2:
+        return [f"{answer} is no pair"]
+    if kind == "ln":
+        return calc.judge_ln(*asked, *answer, DEPTHS)
+    return judge_ends(PAIRS[kind], asked, answer)
+
+
+def judge_ends(name, case, pair):
+    """Order, exactness at each depth, and width, which hangs on the lower end."""
+    quantity = next(quantity for quantity in calc.QUANTITIES if quantity.name == name)
+    ends_at = {k: getattr(calc.exact_ends(case, k), name) for k in DEPTHS}
+    allowed = quantity.share * pair[0] + quantity.plus
+    return calc.judge_pair(name, pair, ends_at, quantity.units, allowed)
+
+
+def is_refused(answer):
+    return isinstance(answer, Refusal)
+
+
+class Asked(unittest.TestCase):
+    @classmethod
+    def setUpClass(cls):
+        cls.text = STDOUT.read_text(encoding="ascii")
+        cls.lines = cls.text.splitlines()
+        cls.questions = defaultdict(dict)  # by kind: what is asked, and its answer
+        for line in cls.lines:
+            kind, asked, answer = read_line(line)
+            cls.questions[kind][asked] = answer
+
+    def answered(self, kind):
+        """What is asked and answered, without the refused ones."""
+        return {a: r for a, r in self.questions[kind].items() if not is_refused(r)}
+
+    def refused(self, kind):
+        return {a: r for a, r in self.questions[kind].items() if is_refused(r)}
+
+    def assertHas(self, kind, test, what):
+        self.assertTrue(any(test(asked) for asked in self.answered(kind)), f"{kind}: {what}")
+
+
+class Answers(Asked):
+    def test_every_line_is_right(self):
+        wrong = []
+        for number, line in enumerate(self.lines, start=1):
+            for complaint in judge(*read_line(line)):
+                wrong.append(f"line {number}, {line}: {complaint}")
+        self.assertEqual([], wrong)
+
+    def test_each_line_ends_with_one_line_feed(self):
+        self.assertEqual(self.text, "".join(line + "\n" for line in self.lines))
+        self.assertNotIn("", self.lines)
+
+
+class Judging(Asked):
+    """Lines changed by a little are told from right ones."""
+
+    def test_a_changed_number_is_wrong(self):
+        for kind in SETTLED:
+            for case, (number,) in self.answered(kind).items():
+                self.assertTrue(judge(kind, case, (number + 1,)))
+                self.assertTrue(judge(kind, case, (number - 1,)))
+                self.assertTrue(judge(kind, case, Refusal(5, 0, 1)))
+
+    def test_a_changed_refusal_is_wrong(self):
+        for kind in LEAST:
+            for asked, refusal in self.refused(kind).items():
+                for changed in (refusal._replace(column=refusal.column + 1),
+                                refusal._replace(number=11 - refusal.number),
+                                refusal._replace(line=1), (0,), (0, 0)):
+                    self.assertTrue(judge(kind, asked, changed))
+
+    def test_a_changed_pair_is_wrong(self):
+        for kind in (*PAIRS, "ln"):
+            for asked, (lower, upper) in list(self.answered(kind).items())[::7]:
+                width = upper - lower
+                for changed in ((upper + width + 3, upper + 2 * width + 6),
+                                (lower - width - 3, lower - 3),
+                                (upper + 1, lower), (lower - 10**6, upper + 10**6),
+                                (lower,), (lower, upper, upper)):
+                    self.assertTrue(judge(kind, asked, changed), f"{kind} {asked} {changed}")
+
+
+class Yards(Asked):
+    """The yards of document 01 that its author worked by hand."""
+
+    def test_sizes(self):
+        sizes = {
+            (case.metal, case.fault, case.ms): answer
+            for case, answer in self.answered("size").items()
+        }
+        wanted = {
+            (1, 20000, 3000): (243,), (4, 20000, 3000): (362,), (8, 20000, 3000): (638,),
+            (1, 1000, 1000): (7,), (1, 1001, 1000): (8,),
+        }
+        self.assertEqual(wanted, {place: sizes.get(place) for place in wanted})
+
+    def test_voltages_over_bare_soil(self):
+        wanted = {
+            (50, 1000): (133400, 185600),
+            (50, 250): (266800, 371200),
+            (70, 1000): (180550, 251200),
+        }
+        for (body, ms), voltages in wanted.items():
+            for kind, voltage in zip(("touch", "step"), voltages):
+                pairs = [
+                    pair for case, pair in self.answered(kind).items()
+                    if (case.soil, case.layer, case.body, case.ms) == (100, 0, body, ms)
+                ]
+                self.assertTrue(pairs)
+                for lower, upper in pairs:
+                    self.assertTrue(lower <= voltage <= upper, f"{kind} {lower} {upper}")
+
+
+class Coverage(Asked):
+    def test_counts(self):
+        self.assertEqual(set(self.questions), set(LEAST))
+        for kind, least in LEAST.items():
+            self.assertGreaterEqual(len(self.questions[kind]), least, kind)
+
+    def test_table_10_with_its_edges(self):
+        factors = self.questions["factor"]
+        asked = {(case.ms, case.xr) for case in factors}
+        self.assertLessEqual(set(product(FACTOR_MS, FACTOR_XR)), asked)
+        answers = {(case.ms, case.xr): answer for case, answer in factors.items()}
+        entries = {
+            (from_ms, xr): (entry,)
+            for from_ms, row in calc.DECREMENT_ROWS
+            for xr, entry in zip(calc.DECREMENT_XR, row)
+        }
+        self.assertEqual(len(entries), 24)
+        self.assertEqual(entries, {place: answers[place] for place in entries})
+
+    def test_metals(self):
+        metals = {case.metal for case in self.answered("size")}
+        self.assertEqual(metals, set(range(1, 12)))
+        self.assertLessEqual({0, 12}, {case.metal for case in self.refused("size")})
+        for metal in metals:
+            cases = [case for case in self.answered("size") if case.metal == metal]
+            self.assertGreaterEqual(len({case.ms for case in cases}), 6)
+            self.assertLessEqual({100, 80000}, {case.fault for case in cases})
+
+    def test_sizes_where_one_ampere_more_takes_one_kcmil_more(self):
+        sizes = self.answered("size")
+        edges = defaultdict(int)
+        for case, (size,) in sizes.items():
+            if sizes.get(case._replace(fault=case.fault + 1)) == (size + 1,):
+                edges[case.metal] += 1
+        for metal in range(1, 12):
+            self.assertGreaterEqual(edges[metal], 3, f"metal {metal}")
+
+    def test_surfaces(self):
+        layers = {
+            "bare soil": lambda case: case.layer == 0,
+            "more resistive": lambda case: case.layer > case.soil,
+            "less resistive": lambda case: 0 < case.layer < case.soil,
+            "thin": lambda case: case.thick == 20,
+            "thick": lambda case: case.thick == 300,
+        }
+        for kind, (what, test), body, ms in product(
+            ("touch", "step"), layers.items(), (50, 70), (9, 3000)
+        ):
+            self.assertHas(
+                kind,
+                lambda case: test(case) and (case.body, case.ms) == (body, ms),
+                f"{what}, {body} kg, {ms} ms",
+            )
+
+    def test_resistance_at_both_ends_of_each_range(self):
+        for name in RESISTANCE_NAMES:
+            place = calc.NAMES.index(name)
+            asked = {case[place] for case in self.answered("resistance")}
+            for span in calc.RANGES[place]:
+                self.assertLessEqual(set(span), asked, name)
+        self.assertLessEqual({0, 1, 2}, {case.place for case in self.answered("resistance")})
+
+    def test_every_column_is_refused_below_and_above(self):
+        refused = self.refused("resistance")
+        for place, (name, spans) in enumerate(calc.COLUMNS):
+            values = {case[place] for case, r in refused.items() if r == (5, 0, place + 1)}
+            self.assertIn(spans[-1][1] + 1, values, name)
+            lowest = spans[-1][0] - 1
+            if lowest >= 0:
+                self.assertIn(lowest, values, name)
+
+    def test_both_refusals_in_their_order(self):
+        for kind in RECORD_KINDS:
+            refused = self.refused(kind)
+            self.assertLessEqual({5, 6}, {refusal.number for refusal in refused.values()})
+            self.assertLessEqual({(6, 0, 4), (6, 0, 15)}, set(refused.values()))
+            faults = {case: self.faults(case) for case in refused}
+            for wanted in ([5, 5], [5, 6], [6, 6]):
+                self.assertIn(wanted, list(faults.values()), kind)
+
+    @staticmethod
+    def faults(case):
+        """The numbers of all rules that a record breaks, least first."""
+        columns = [
+            place for place, spans in enumerate(calc.RANGES)
+            if not any(low <= case[place] <= high for low, high in spans)
+        ]
+        groups = [
+            group for group in calc.ZERO_GROUPS
+            if len({getattr(case, name) == 0 for name in group}) > 1
+        ]
+        return [5] * len(columns) + [6] * len(groups)
+
+    def test_logarithms(self):
+        answered, most = self.answered("ln"), calc.LN_MAX
+        self.assertGreaterEqual(len(answered), 100)
+        for q in (1, 3):
+            for k in range(1, 50):
+                for p in (2**k - 1, 2**k, 2**k + 1):
+                    self.assertIn((p, q), answered)
+        for k in range(16):
+            self.assertIn((10**k, 1), answered)
+            self.assertIn((1, 10**k), answered)
+        for fraction in ((most, most), (most - 1, most), (most, most - 1)):
+            self.assertIn(fraction, answered)
+
+    def test_logarithms_of_mesh_factors(self):
+        asked = {Fraction(p, q) for p, q in self.answered("ln")}
+        ends = product((2500, 30000), (250, 2500), (50, 300))
+        for space, depth, dia in (*ends, (7000, 500, 100)):
+            yard = Case(*[0] * calc.COLUMN_COUNT)._replace(space=space, depth=depth, dia=dia)
+            self.assertIn(calc.mesh_argument(yard), asked)
+
+    def test_refused_logarithms(self):
+        above = calc.LN_MAX + 1
+        wanted = {
+            (0, 1): 1, (above, 1): 1, (1, 0): 2, (1, above): 2,
+            (0, 0): 1, (above, above): 1, (0, above): 1, (above, 0): 1,
+        }
+        refused = self.refused("ln")
+        for fraction, column in wanted.items():
+            self.assertEqual(refused.get(fraction), (5, 0, column))
+
+
+if __name__ == "__main__":
+    unittest.main()
