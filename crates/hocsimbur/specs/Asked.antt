@@ -18,10 +18,14 @@ use Rattle.formulas.specs.Resistance as R
 use Rattle.formulas.specs.Width.{mV, μΩ, tolerableWidth, resistanceWidth}
 use Rattle.tolerable.specs.Ends.{touchEnds, stepEnds}
 use Rattle.resistance.specs.Ends.{resistanceEnds}
+use Rattle.row.specs.Row.{RightRow}
+use Rattle.row.specs.Ends.{rowOf}
 use Rattle.hocsimbur.specs.declared.Number.{Number}
 use Rattle.hocsimbur.specs.declared.Number.the-variants as number
 use Rattle.hocsimbur.specs.declared.Pair.{Pair}
 use Rattle.hocsimbur.specs.declared.Pair.the-variants as pair
+use Rattle.hocsimbur.specs.declared.RowAnswer.{RowAnswer}
+use Rattle.hocsimbur.specs.declared.RowAnswer.the-variants as row
 
 -- a settled number, or refusal 5 or 6 with line 0
 unfoldable pub numberAnswer : (Case → ℕ) → Case → Number
@@ -51,3 +55,13 @@ StepAnswered c = PairAnswered (tolerableStep c) mV tolerableWidth stepEnds c
 
 abbrev pub ResistanceAnswered : Case → Pair → Type 0
 ResistanceAnswered c = PairAnswered (R.resistance c) μΩ resistanceWidth resistanceEnds c
+
+-- a row, or refusal 5 or 6 with line 0
+unfoldable pub rowAnswer : Case → RowAnswer
+rowAnswer c = recordAnswer row.Refused (row.Is (rowOf c)) (recordFault c)
+
+-- the answer by the name of its row, and what holds of that row. Two wrong programs: one that answers the row of another case breaks
+-- `answer`; one whose verdict is decided by the potential rise breaks `right`.
+pub record RowAnswered (c : Case) (r : RowAnswer) : Type 0 where
+  pub answer : r ≡ rowAnswer c
+  pub right : recordFault c ≡ Sound → RightRow c (rowOf c)

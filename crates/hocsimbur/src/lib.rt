@@ -3,10 +3,12 @@ use case::Case;
 use case::Fault;
 use case::check;
 use interval::Interval;
+use row::Row;
 ghost use mathlib.Core.Path.{_≡_};
 ghost use Rattle.case.specs.Check.{recordAnswer};
-ghost use Rattle.hocsimbur.specs.Asked.{factorAnswer, sizeAnswer, TouchAnswered, StepAnswered, ResistanceAnswered};
+ghost use Rattle.hocsimbur.specs.Asked.{factorAnswer, sizeAnswer, TouchAnswered, StepAnswered, ResistanceAnswered, RowAnswered};
 pub use logarithm::logarithm;
+pub use sheet::sheet;
 
 // A number that the rules settle, or a refusal with number, line and column.
 pub enum Number {
@@ -17,6 +19,12 @@ pub enum Number {
 // A pair of ends, or a refusal with number, line and column.
 pub enum Pair {
     Ends(Interval),
+    Refused(u32, usize, usize),
+}
+
+// The row of a case, or a refusal with number, line and column.
+pub enum RowAnswer {
+    Is(Row),
     Refused(u32, usize, usize),
 }
 
@@ -38,6 +46,16 @@ fn refused_pair(fault: Fault) -> Pair
         Fault::Sound => Pair::Refused(0, 0, 0),
         Fault::OutOfRange(column) => Pair::Refused(5, 0, column),
         Fault::Disagreement(column) => Pair::Refused(6, 0, column),
+    }
+}
+
+fn refused_row(fault: Fault) -> RowAnswer
+    ensures { λ r. ⌜ r ≡ recordAnswer RowAnswer.Refused (RowAnswer.Refused 0 0 0) fault ⌝ }
+{
+    match fault {
+        Fault::Sound => RowAnswer::Refused(0, 0, 0),
+        Fault::OutOfRange(column) => RowAnswer::Refused(5, 0, column),
+        Fault::Disagreement(column) => RowAnswer::Refused(6, 0, column),
     }
 }
 
@@ -94,4 +112,15 @@ pub fn resistance(c: Case) -> Pair
         return Pair::Ends(resistance::resistance(c));
     }
     refused_pair(fault)
+}
+
+// The row of a case.
+pub fn row(c: Case) -> RowAnswer
+    ensures { λ r. ⌜ RowAnswered c r ⌝ }
+{
+    let fault = check(c);
+    if let Fault::Sound = fault {
+        return RowAnswer::Is(row::work_row(c));
+    }
+    refused_row(fault)
 }

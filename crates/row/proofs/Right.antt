@@ -8,6 +8,7 @@ use Rattle.case.specs.Bounds.{Bounds}
 use Rattle.formulas.specs.Width.{mV, μΩ, tolerableWidth, resistanceWidth, riseWidth, meshWidth, stepWidth}
 use Rattle.formulas.specs.Tolerable as Tolerable
 use Rattle.formulas.specs.Mesh as Mesh
+use Rattle.formulas.specs.Resistance as R
 use Rattle.formulas.specs.Step as Step
 use Rattle.formulas.proofs.Consistent.{consistent-touch, consistent-tolerable-step, consistent-mesh, consistent-step, quantity-resistance, consistent-rise}
 use Rattle.tolerable.specs.Ends.{touchEnds, stepEnds}
@@ -19,6 +20,7 @@ use Rattle.mesh.proofs.Widths.{mesh-narrow}
 use Rattle.step.specs.Ends.{stepVoltageEnds}
 use Rattle.step.proofs.Enclosed as S
 use Rattle.step.proofs.Widths as SW
+use Rattle.resistance.specs.Ends.{resistanceEnds}
 use Rattle.resistance.proofs.Enclosed.{resistance-encloses}
 use Rattle.resistance.proofs.Widths.{resistance-narrow}
 use Rattle.resistance.proofs.Rise.{rise-encloses, rise-narrow}
@@ -27,6 +29,15 @@ use Rattle.row.specs.Ends.{rowOf}
 use Rattle.row.proofs.Verdicts.{Enclosed, safe-true, unsafe-true}
 
 module _ {c : Case} (b : Bounds c) where
+  pub touch-reports : Reports (Tolerable.tolerableTouch c) mV tolerableWidth (touchEnds c)
+  touch-reports = reports tolerableWidth (consistent-touch b) (T.touch-encloses b) (TW.touch-narrow b)
+
+  pub limit-reports : Reports (Tolerable.tolerableStep c) mV tolerableWidth (stepEnds c)
+  limit-reports = reports tolerableWidth (consistent-tolerable-step b) (T.step-encloses b) (TW.step-narrow b)
+
+  pub resistance-reports : Reports (R.resistance c) μΩ resistanceWidth (resistanceEnds c)
+  resistance-reports = reports resistanceWidth (quantity-resistance b .consistent) (resistance-encloses b) (resistance-narrow b)
+
   touch-enclosed : Enclosed mV (Tolerable.tolerableTouch c) (touchEnds c)
   touch-enclosed = record { consistent = consistent-touch b; encloses = T.touch-encloses b }
 
@@ -48,11 +59,11 @@ module _ {c : Case} (b : Bounds c) where
         verdict = refl;
         size = refl;
         current = refl;
-        tolerable-touch = reports tolerableWidth (consistent-touch b) (T.touch-encloses b) (TW.touch-narrow b);
-        tolerable-step = reports tolerableWidth (consistent-tolerable-step b) (T.step-encloses b) (TW.step-narrow b);
+        tolerable-touch = touch-reports;
+        tolerable-step = limit-reports;
         mesh = reports (λ A. meshWidth c) (consistent-mesh b) (mesh-encloses b) (mesh-narrow b);
         step = reports (λ A. stepWidth c) (consistent-step b) (S.step-encloses b) (SW.step-narrow b);
-        resistance = reports resistanceWidth (quantity-resistance b .consistent) (resistance-encloses b) (resistance-narrow b);
+        resistance = resistance-reports;
         rise = reports riseWidth (consistent-rise b) (rise-encloses b) (rise-narrow b);
         safe-true = safe-true touch-enclosed limit-enclosed mesh-enclosed step-enclosed;
         unsafe-true = unsafe-true touch-enclosed limit-enclosed mesh-enclosed step-enclosed;

@@ -5,7 +5,7 @@ use Rattle.case.specs.Check.{recordAnswer}
 use Rattle.case.proofs.Bounds.{record-bounds}
 use Rattle.hocsimbur.specs.Asked.{pairAnswer}
 use Rattle.hocsimbur.proofs.Refusal.{same-refusal}
-use Rattle.hocsimbur.proofs.Right.{resistance-reports}
+use Rattle.row.proofs.Right.{resistance-reports}
 use borrow.Author.Needs.{needs}
 use Rattle.hocsimbur.proofs.resistance.Statement.{statement}
 use Rattle.hocsimbur.proofs.resistance.Tie as tie

@@ -5,7 +5,7 @@ use Rattle.case.specs.Check.{recordAnswer}
 use Rattle.case.proofs.Bounds.{record-bounds}
 use Rattle.hocsimbur.specs.Asked.{pairAnswer}
 use Rattle.hocsimbur.proofs.Refusal.{same-refusal}
-use Rattle.hocsimbur.proofs.Right.{step-reports}
+use Rattle.row.proofs.Right.{limit-reports}
 use borrow.Author.Needs.{needs}
 use Rattle.hocsimbur.proofs.tolerable_step.Statement.{statement}
 use Rattle.hocsimbur.proofs.tolerable_step.Tie as tie
@@ -24,7 +24,7 @@ unfolding pairAnswer recordAnswer
 returns c =
     record {
       answer = rw (sym (c .before .before .before .check .ensures) ∙ c .before .enum-told .given .1, c .tolerable-step .ensures);
-      right = λ e. step-reports (record-bounds e);
+      right = λ e. limit-reports (record-bounds e);
     }
 
 refused-pair-requires : tie.Need-refused-pair-requires
@@ -35,7 +35,7 @@ unfolding pairAnswer
 returns-2 c =
     record {
       answer = same-refusal _ _ _ (c .refused-pair .ensures) (c .before .before .check .ensures) (c .before .match .keys2);
-      right = λ e. step-reports (record-bounds e);
+      right = λ e. limit-reports (record-bounds e);
     }
 
 pub tolerable-step-spec : {M : Type 1} → statement M

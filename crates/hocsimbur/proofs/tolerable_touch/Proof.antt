@@ -5,7 +5,7 @@ use Rattle.case.specs.Check.{recordAnswer}
 use Rattle.case.proofs.Bounds.{record-bounds}
 use Rattle.hocsimbur.specs.Asked.{pairAnswer}
 use Rattle.hocsimbur.proofs.Refusal.{same-refusal}
-use Rattle.hocsimbur.proofs.Right.{touch-reports}
+use Rattle.row.proofs.Right.{touch-reports}
 use borrow.Author.Needs.{needs}
 use Rattle.hocsimbur.proofs.tolerable_touch.Statement.{statement}
 use Rattle.hocsimbur.proofs.tolerable_touch.Tie as tie
