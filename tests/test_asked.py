@@ -12,6 +12,7 @@ from pathlib import Path
 
 import calculator as calc
 from calculator import Case, Refusal
+from printed import whole
 
 STDOUT = Path(__file__).parents[1] / "crates" / "asked" / "stdout"
 DEPTHS = (3, 6, 9, 12)
@@ -26,14 +27,6 @@ LEAST = {"factor": 160, "size": 200, "touch": 100, "step": 100, "resistance": 10
 FACTOR_MS = (8, 9, 49, 50, 99, 100, 199, 200, 299, 300, 399, 400, 499, 500, 3000, 3001)
 FACTOR_XR = (0, 1, 10, 11, 20, 21, 30, 31, 40, 41)
 RESISTANCE_NAMES = ("soil", "lines", "space", "depth", "rods", "rodlen", "place")
-
-
-def whole(field):
-    """A number in decimal digits, with no sign but minus and no zero in front."""
-    number = int(field)
-    if str(number) != field:
-        raise ValueError(f"{field!r} is not in the form of a number")
-    return number
 
 
 def read_line(line):

@@ -7,13 +7,8 @@ use print::signed;
 
 // The end of a line whose question is refused.
 pub fn refused(why: u32, line: usize, column: usize) {
-    bytes(b",refused,");
-    number(why as u64);
     bytes(b",");
-    number(line as u64);
-    bytes(b",");
-    number(column as u64);
-    bytes(b"\n");
+    print::refused(why, line, column);
 }
 
 // The end of a line that a number answers.

@@ -20,3 +20,14 @@ pub fn signed(z: i64) {
         number(z as u64);
     }
 }
+
+// The line that says a refusal: its number, line and column.
+pub fn refused(why: u32, line: usize, column: usize) {
+    bytes(b"refused,");
+    number(why as u64);
+    bytes(b",");
+    number(line as u64);
+    bytes(b",");
+    number(column as u64);
+    bytes(b"\n");
+}

@@ -1,0 +1,46 @@
+-- `input::discard` is safe and ends: the measure is the number of turns that are left.
+-- Assumes nothing.
+use borrow.Author.Needs.{needs}
+use Rattle.input.proofs.discard.Statement.{statement}
+use Rattle.input.proofs.discard.Tie as tie
+
+abbrev Inv-loop : tie.InvT-loop
+Inv-loop turns₀ turns = Unit
+
+abbrev μ-loop : tie.MeasureT-loop
+μ-loop turns₀ turns = turns
+
+loop-holds : tie.Need-loop-holds Inv-loop μ-loop
+loop-holds c = search needs
+
+discard-some-requires : tie.Need-discard-some-requires Inv-loop μ-loop
+discard-some-requires c κs = search needs
+
+sub-turns : tie.Need-sub-turns Inv-loop μ-loop
+sub-turns c = search needs
+
+loop-less : tie.Need-loop-less Inv-loop μ-loop
+loop-less c = search needs
+
+loop-again : tie.Need-loop-again Inv-loop μ-loop
+loop-again c = search needs
+
+returns : tie.Need-returns Inv-loop μ-loop
+returns c = search needs
+
+returns-2 : tie.Need-returns-2 Inv-loop μ-loop
+returns-2 c = search needs
+
+pub discard-spec : {M : Type 1} → statement M
+discard-spec =
+    tie.close
+    (tie.spec
+    Inv-loop
+    μ-loop
+    loop-holds
+    discard-some-requires
+    sub-turns
+    loop-less
+    loop-again
+    returns
+    returns-2)

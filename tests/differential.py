@@ -1,0 +1,363 @@
+"""Runs random sheets, sound and damaged, through the compiled program `rows` and the calculator.
+
+    python3 tests/differential.py [--seed S] [--count N] [--program target/bin/rows]
+
+Any disagreement is printed with its sheet, and the exit status is then 1. crates/batch/stdin holds
+sheets made here, so that every check of the crates has a short run; `--batch` writes it anew.
+"""
+
+import argparse
+import random
+import subprocess
+import sys
+from collections import Counter
+from pathlib import Path
+
+import calculator as calc
+from calculator import Case, Refusal
+from printed import read_rows
+
+PROGRAM = "target/bin/rows"
+DEPTHS, DEEP_DEPTHS = (9,), (3, 6, 12)
+DEEP_EVERY = 20  # one row in so many is judged at the deeper, dearer depths too
+RUN_SECONDS = 10
+HEADER_NAMES = list(calc.NAMES)
+
+# The stored batch.
+BATCH_SEED, BATCH_COUNT = 14, 150
+BATCH_END = b"\0"
+BATCH_SHORT, BATCH_LONG, BATCH_LONGS = 2000, 16386, 5
+BATCH_FILE = Path(__file__).parents[1] / "crates" / "batch" / "stdin"
+
+
+# --------------------------------------------------------------------------
+# Sound sheets.
+# --------------------------------------------------------------------------
+
+def number_in(rng, spans):
+    """A number of the last span, at an end of it half the time."""
+    low, high = spans[-1]
+    return rng.choice((low, high, rng.randint(low, high), rng.randint(low, high)))
+
+
+def random_case(rng):
+    case = Case(*(number_in(rng, spans) for spans in calc.RANGES))
+    case = case._replace(station=rng.randint(1, 65535), season=rng.randint(1, 4),
+                         body=rng.choice((50, 70)), place=rng.randint(1, 2))
+    if rng.random() < 0.4:
+        case = case._replace(layer=0, thick=0)
+    if rng.random() < 0.4:
+        return case._replace(rods=0, rodlen=0, place=0)
+    return case._replace(rods=max(1, case.rods))
+
+
+class Sheet:
+    """Names and lines of values, all of them text, that a damage may change."""
+
+    def __init__(self, rng):
+        self.rng = rng
+        self.names = HEADER_NAMES[:]
+        if rng.random() < 0.5:
+            rng.shuffle(self.names)
+        cases = {}
+        for _ in range(rng.choice((1, 1, 2, 3, 5, 8))):
+            case = random_case(rng)
+            cases[case.station, case.season] = case
+        self.lines = [self.fields(case) for case in cases.values()]
+
+    def fields(self, case):
+        """The values of a case in the order of the names; 1 for a name that is unknown."""
+        return [str(getattr(case, name, 1)) for name in self.names]
+
+    def line(self):
+        return self.rng.choice(self.lines)
+
+    def set(self, line, name, value):
+        line[self.names.index(name)] = str(value)
+
+    def bytes(self):
+        lines = [",".join(fields) + "\n" for fields in (self.names, *self.lines)]
+        return "".join(lines).encode("latin-1")
+
+
+# --------------------------------------------------------------------------
+# Damages to names and values.  Each is named after what it does.
+# --------------------------------------------------------------------------
+
+def nothing(sheet, rng):
+    pass
+
+
+def unknown_name(sheet, rng):
+    at = rng.randrange(len(sheet.names))
+    name = sheet.names[at]
+    sheet.names[at] = rng.choice((
+        "", name.upper(), name.capitalize(), name + "s", name[:-1], " " + name, name + " ",
+        name + "\r", name + "\0", "\xff", "1", name[::-1], '"' + name + '"'))
+
+
+def repeated_name(sheet, rng):
+    a, b = rng.sample(range(len(sheet.names)), 2)
+    sheet.names[a] = sheet.names[b]
+
+
+def fewer_names(sheet, rng):
+    del sheet.names[rng.randrange(len(sheet.names)):]
+
+
+def nineteen_names(sheet, rng):
+    sheet.names.append(rng.choice(("", "soil", "extra", sheet.names[0])))
+
+
+def wrong_form(sheet, rng):
+    line = sheet.line()
+    at = rng.randrange(len(line))
+    value = line[at]
+    line[at] = rng.choice((
+        "", "0" + value, "00", "-" + value, "+" + value, value + " ", " " + value, value + ".0",
+        "1234567", "0000001", "9" * 40, "0x10", "1e2", value + "\r", value + "\0", "\xb2", "\xff",
+        "/", ":", value + ":", "a", "1_0", "18446744073709551617"))
+
+
+def too_few_values(sheet, rng):
+    line = sheet.line()
+    del line[rng.randrange(len(line)):]
+
+
+def too_many_values(sheet, rng):
+    sheet.line().append(rng.choice(("", "0", "1", "x", "1,1")))
+
+
+def empty_line(sheet, rng):
+    sheet.lines.insert(rng.randint(0, len(sheet.lines)), [""])
+
+
+def no_value_line(sheet, rng):
+    sheet.lines = []
+
+
+def many_lines(sheet, rng):
+    """63 to 66 value lines, sometimes with a fault in one of them."""
+    lines = rng.choice((63, 64, 64, 64, 65, 65, 66))
+    sheet.lines = [sheet.fields(random_case(rng)._replace(station=i + 1)) for i in range(lines)]
+    if rng.random() < 0.5:
+        rng.choice((out_of_range, wrong_form, repeated_key))(sheet, rng)
+
+
+def out_of_range(sheet, rng):
+    name, spans = rng.choice(calc.COLUMNS)
+    low, high = spans[-1]
+    values = [high + 1, max(low - 1, 0), 0, 999999, rng.randint(0, 999999), 51, 69]
+    sheet.set(sheet.line(), name, rng.choice(values))
+
+
+def disagreement(sheet, rng):
+    line = sheet.line()
+    for name in rng.sample(("layer", "thick", "rods", "rodlen", "place"), rng.randint(1, 3)):
+        spans = calc.RANGES[calc.NAMES.index(name)]
+        sheet.set(line, name, rng.choice((0, max(1, spans[-1][0]), spans[-1][1])))
+
+
+def repeated_key(sheet, rng):
+    copied = sheet.line()[:]
+    if rng.random() < 0.5:
+        copied = sheet.fields(random_case(rng))
+        other = sheet.line()
+        for name in ("station", "season")[: rng.choice((1, 2, 2))]:
+            sheet.set(copied, name, other[sheet.names.index(name)])
+    sheet.lines.insert(rng.randint(0, len(sheet.lines)), copied)
+
+
+def several(sheet, rng):
+    for damage in rng.sample(FIELD_DAMAGES[1:-1], rng.randint(2, 3)):
+        try:
+            damage(sheet, rng)
+        except (IndexError, ValueError):  # an earlier damage took away what it needs
+            pass
+
+
+FIELD_DAMAGES = (
+    nothing, unknown_name, repeated_name, fewer_names, nineteen_names, wrong_form, too_few_values,
+    too_many_values, empty_line, no_value_line, many_lines, out_of_range, disagreement,
+    repeated_key, several,
+)
+
+
+# --------------------------------------------------------------------------
+# Damages to bytes.
+# --------------------------------------------------------------------------
+
+def empty(text, rng):
+    return b""
+
+
+def no_last_line_end(text, rng):
+    return text[:-1]
+
+
+def carriage_returns(text, rng):
+    return text.replace(b"\n", b"\r\n")
+
+
+def byte_order_mark(text, rng):
+    return b"\xef\xbb\xbf" + text
+
+
+def only_one_byte_value(text, rng):
+    return rng.choice((b",", b"\n", b"0", b"\xff", b"\0")) * rng.choice((1, 2, 17, 18, 65, 66, 300))
+
+
+def near_the_most_bytes(text, rng):
+    """Filled up to a length about 16,384 and much above, with or without a last byte 10."""
+    size = rng.choice((16383, 16384, 16384, 16385, 16386, 20000, 65536, 300000))
+    fill = rng.choice((b"0", b",", b"\n", b"station,", b"\xc3"))
+    filled = (text + fill * size)[:size]
+    return rng.choice((filled, filled[:-1] + b"\n"))
+
+
+def last_value_filled_up(text, rng):
+    """Only the length is wrong, or only the last value."""
+    size = rng.choice((16384, 16385))
+    return text[:-1] + b"0" * (size - len(text)) + b"\n"
+
+
+def changed_byte(text, rng):
+    at = rng.randrange(len(text))
+    return text[:at] + bytes([rng.randrange(256)]) + text[at + 1 :]
+
+
+def high_byte(text, rng):
+    at = rng.randrange(len(text))
+    return text[:at] + bytes([rng.randrange(128, 256)]) + text[at + 1 :]
+
+
+def removed_byte(text, rng):
+    at = rng.randrange(len(text))
+    return text[:at] + text[at + 1 :]
+
+
+def added_byte(text, rng):
+    at = rng.randrange(len(text) + 1)
+    return text[:at] + rng.choice((b",", b"\n", b"0", b"1", b" ", b"\xe9", b"\0")) + text[at:]
+
+
+def cut_off(text, rng):
+    return text[: rng.randrange(len(text))]
+
+
+def noise(text, rng):
+    return bytes(rng.randrange(256) for _ in range(rng.randrange(200))) + b"\n"
+
+
+BYTE_DAMAGES = (
+    empty, no_last_line_end, carriage_returns, byte_order_mark, only_one_byte_value,
+    near_the_most_bytes, last_value_filled_up, changed_byte, high_byte, removed_byte, added_byte,
+    cut_off, noise,
+)
+
+
+# A third of the sheets is sound, and the rarer refusals come more often.
+CHOICES = (
+    FIELD_DAMAGES + BYTE_DAMAGES + (nothing,) * 16
+    + (many_lines, out_of_range, disagreement, repeated_key) * 3
+)
+
+
+def random_sheet(rng):
+    """A sheet, and the name of what was done to it."""
+    sheet = Sheet(rng)
+    damage = rng.choice(CHOICES)
+    if damage in FIELD_DAMAGES:
+        damage(sheet, rng)
+        return sheet.bytes(), damage.__name__
+    return damage(sheet.bytes(), rng), damage.__name__
+
+
+# --------------------------------------------------------------------------
+# The stored batch.
+# --------------------------------------------------------------------------
+
+def numbered_sheet(seed, number):
+    """The generator of a sheet, the sheet, and the name of what was done to it.
+
+    No sheet hangs on those before it.
+    """
+    rng = random.Random(f"{seed},{number}")
+    return rng, *random_sheet(rng)
+
+
+def batch():
+    """Sheets, each ended by a byte 0, which none of them has in it, and few of them long."""
+    sheets = [numbered_sheet(BATCH_SEED, number)[1] for number in range(BATCH_COUNT)]
+    sheets = [sheet for sheet in sheets if BATCH_END not in sheet and len(sheet) <= BATCH_LONG]
+    short = [sheet for sheet in sheets if len(sheet) <= BATCH_SHORT]
+    long = [sheet for sheet in sheets if len(sheet) > BATCH_SHORT][:BATCH_LONGS]
+    return b"".join(sheet + BATCH_END for sheet in short + long)
+
+
+# --------------------------------------------------------------------------
+# Comparing.
+# --------------------------------------------------------------------------
+
+def printed_by(program, sheet):
+    done = subprocess.run([program], input=sheet, stdout=subprocess.PIPE, timeout=RUN_SECONDS)
+    if done.returncode != 0:
+        raise ValueError(f"exit status {done.returncode}")
+    return done.stdout.decode("ascii")
+
+
+def judge(wanted, answer, deep):
+    """What is wrong with an answer where the calculator says wanted: a refusal, or the cases."""
+    if isinstance(wanted, Refusal) or isinstance(answer, Refusal):
+        return [] if wanted == answer else [f"{answer}, not {wanted}"]
+    if len(answer) != len(wanted):
+        return [f"{len(answer)} rows, not {len(wanted)}"]
+    wrong = []
+    for case, row in zip(wanted, answer):
+        depths = DEPTHS + (DEEP_DEPTHS if deep() else ())
+        wrong += [f"{case}: {complaint}" for complaint in calc.judge_row(case, row, depths)]
+    return wrong
+
+
+def disagreements(program, sheet, deep):
+    """What the calculator answers, and what is wrong with the program's answer."""
+    wanted = calc.read_sheet(sheet)
+    try:
+        return wanted, judge(wanted, read_rows(printed_by(program, sheet)), deep)
+    except (ValueError, TypeError, subprocess.TimeoutExpired) as error:
+        return wanted, [f"no answer: {error}"]
+
+
+def run(program, seed, count):
+    """The tallies of count sheets, and how many disagree."""
+    tally, rows, failed = Counter(), 0, 0
+    for number in range(count):
+        rng, sheet, damage = numbered_sheet(seed, number)
+        wanted, wrong = disagreements(program, sheet, lambda: rng.randrange(DEEP_EVERY) == 0)
+        tally[wanted.number if isinstance(wanted, Refusal) else 0] += 1
+        rows += 0 if isinstance(wanted, Refusal) else len(wanted)
+        if wrong:
+            failed += 1
+            print(f"seed {seed}, sheet {number} ({damage}): {sheet!r}", *wrong, sep="\n  ")
+    return tally, rows, failed
+
+
+def main():
+    parser = argparse.ArgumentParser(description=__doc__.split("\n")[0])
+    parser.add_argument("--seed", type=int, default=1)
+    parser.add_argument("--count", type=int, default=200)
+    parser.add_argument("--program", default=PROGRAM)
+    parser.add_argument("--batch", action="store_true", help="write the stored batch and end")
+    asked = parser.parse_args()
+    if asked.batch:
+        BATCH_FILE.write_bytes(batch())
+        return 0
+    tally, rows, failed = run(asked.program, asked.seed, asked.count)
+    refused = ", ".join(f"{tally[number]} with {number}" for number in range(1, 9))
+    print(f"seed {asked.seed}: {asked.count} sheets, {tally[0]} accepted, refused {refused}; "
+          f"{rows} rows compared; {failed} sheets disagree")
+    return 1 if failed else 0
+
+
+if __name__ == "__main__":
+    sys.exit(main())

@@ -1,0 +1,42 @@
+"""The program `verdict` is run on document 01's sample sheet, and prints what document 01 shows.
+
+`rt check verdict` holds the program to these files.
+"""
+
+import unittest
+from pathlib import Path
+
+import calculator as calc
+
+VERDICT = Path(__file__).parents[1] / "crates" / "verdict"
+
+SAMPLE = b"""\
+station,season,soil,layer,thick,ms,body,fault,split,xr,lines,space,depth,dia,rods,rodlen,place,metal
+7,1,400,2500,102,500,70,3180,600,10,11,7000,500,100,0,0,0,1
+7,2,100,2500,102,500,70,3180,600,10,11,7000,500,100,0,0,0,1
+"""
+SHOWN = b"""\
+station,season,verdict,kcmil
+7,1,unsafe,16
+7,2,safe,16
+"""
+WORDS = {calc.SAFE: "safe", calc.UNSAFE: "unsafe", calc.UNDECIDED: "undecided"}
+
+
+class Verdict(unittest.TestCase):
+    def test_the_sample_sheet(self):
+        self.assertEqual((VERDICT / "stdin").read_bytes(), SAMPLE)
+
+    def test_what_is_shown(self):
+        self.assertEqual((VERDICT / "stdout").read_bytes(), SHOWN)
+
+    def test_the_calculator_says_the_same(self):
+        lines = ["station,season,verdict,kcmil"]
+        for case in calc.read_sheet(SAMPLE):
+            station, season, verdict, kcmil = calc.row_at(case, calc.DEFAULT_DEPTH)[:4]
+            lines.append(f"{station},{season},{WORDS[verdict]},{kcmil}")
+        self.assertEqual("".join(line + "\n" for line in lines).encode("ascii"), SHOWN)
+
+
+if __name__ == "__main__":
+    unittest.main()
