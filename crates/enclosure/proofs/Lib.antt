@@ -8,5 +8,6 @@ pub mod Verdicts
 pub mod Constants
 pub mod Example
 pub mod SquareRoot
+pub mod RootSpan
 pub mod Multiples
 pub mod Reporting

@@ -1,5 +1,6 @@
 pub mod Positive
 pub mod MeshArgument
+pub mod Quantities
 pub mod Consistent
 pub mod Yards
 pub mod Tables

@@ -12,7 +12,7 @@ use Rattle.interval.proofs.Natural.{point-natural, natural-quotient}
 use Rattle.interval.proofs.Rounding.{floorDiv-below, floorDiv-above, ceilDiv-above, ceilDiv-below}
 use Rattle.case.specs.declared.Case.{Case}
 use Rattle.case.specs.Bounds.{Bounds}
-use Rattle.formulas.proofs.Consistent.{by-place}
+use Rattle.formulas.proofs.Quantities.{by-place}
 use Rattle.current.specs.Drive.{driveOf}
 use Rattle.lengths.specs.Lengths.{conductorLength, rodLength, totalLength}
 use Rattle.lengths.proofs.Lengths.{conductor-bounds}

@@ -37,7 +37,7 @@ use Rattle.lengths.specs.Lengths.{sideLength, conductorLength, rodLength, total
 use Rattle.lengths.proofs.Lengths.{side-is, conductor-is, rod-is, total-is}
 use Rattle.mesh.specs.Ends.{diagonal, rodWeight, weighedLength, effectiveLength, drivenEnds, meshEnds}
 use Rattle.mesh.proofs.LengthSpans.{diagonal-span, effective-span, effective-low}
-use Rattle.mesh.proofs.Quantities.{quantity-diagonal, quantity-weight, quantity-LM, place-rodded, by-both}
+use Rattle.formulas.proofs.Quantities.{quantity-diagonal, quantity-weight, quantity-LM, place-rodded, by-both}
 use Rattle.mesh.proofs.FactorEnclosed.{factor-encloses}
 
 -- ---- fractions as counts

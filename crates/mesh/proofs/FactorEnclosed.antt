@@ -37,7 +37,7 @@ use Rattle.mesh.specs.Factor.{rootOf, argumentLog, depthFactor, innerFac
 use Rattle.mesh.proofs.Argument.{top-inside, bottom-inside, G-is}
 use Rattle.mesh.proofs.LineTables.{root-known}
 use Rattle.mesh.proofs.FactorSpans.{turn-span, depth-span, line-root-span}
-use Rattle.mesh.proofs.Quantities.{quantity-turn, quantity-Kh, quantity-line-root, quantity-Kii, quantity-spread, by-both}
+use Rattle.formulas.proofs.Quantities.{quantity-turn, quantity-Kh, quantity-line-root, quantity-Kii, quantity-spread, by-both}
 use Rattle.mesh.proofs.SpreadEnclosed.{spread-encloses}
 
 -- 4m² is a whole number

@@ -11,12 +11,12 @@ use Rattle.interval.proofs.Span.{span-natural, span-point, span-wider, span-sca
 use Rattle.logarithm.specs.Ends.{minusOf}
 use Rattle.case.specs.declared.Case.{Case}
 use Rattle.case.specs.Bounds.{Bounds}
-use Rattle.formulas.proofs.Consistent.{by-place}
+use Rattle.formulas.proofs.Quantities.{by-place}
 use Rattle.mesh.specs.Factor.{πBelow, πAbove, spreadOf, rootOf, argumentLog, depthFactor, innerFactor, innerTerm, geometricFactor}
 use Rattle.mesh.proofs.Negated.{product-negated, sum-negated, span-difference, size-negated}
 use Rattle.mesh.proofs.Logarithms.{argument-span}
 use Rattle.mesh.proofs.LineTables.{root-known, spreadLow, spreadHigh, spread-span, spread-is}
-use Rattle.mesh.proofs.RootSpan.{root-span}
+use Rattle.enclosure.proofs.RootSpan.{root-span}
 
 -- π and 2π
 pub π-span : Span (natural πBelow πAbove) 3141592653 3141592654 1

@@ -11,13 +11,13 @@ use Rattle.interval.specs.Span.{Span}
 use Rattle.interval.proofs.Span.{span-point, span-wider, span-sum, span-product, span-quotient}
 use Rattle.case.specs.declared.Case.{Case}
 use Rattle.case.specs.Bounds.{Bounds}
-use Rattle.formulas.proofs.Consistent.{by-place}
+use Rattle.formulas.proofs.Quantities.{by-place}
 use Rattle.current.specs.Drive.{driveOf}
 use Rattle.current.proofs.DrivingProduct.{current-bounds}
 use Rattle.lengths.specs.Lengths.{sideLength, conductorLength, rodLength, totalLength}
 use Rattle.lengths.proofs.Lengths.{side-bounds, conductor-bounds, rodlen-high, rod-bound, total-bounds}
 use Rattle.mesh.specs.Ends.{diagonal, rodWeight, weighedLength, effectiveLength, drivenEnds}
-use Rattle.mesh.proofs.RootSpan.{root-span}
+use Rattle.enclosure.proofs.RootSpan.{root-span}
 
 module _ {c : Case} (b : Bounds c) where
   pub diagonal-span : Span (diagonal c) 3535000 1018300000 1

@@ -2,13 +2,11 @@ pub mod Argument
 pub mod Negated
 pub mod Logarithms
 pub mod LineTables
-pub mod RootSpan
 pub mod FactorSpans
 pub mod LengthSpans
 pub mod Relatives
 pub mod DrivenWidths
 pub mod Widths
-pub mod Quantities
 pub mod SpreadEnclosed
 pub mod FactorEnclosed
 pub mod Enclosed

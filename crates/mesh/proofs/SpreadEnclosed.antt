@@ -31,7 +31,7 @@ use Rattle.case.specs.declared.Case.{Case}
 use Rattle.case.specs.Bounds.{Bounds}
 use Rattle.formulas.specs.Lengths.{h}
 use Rattle.mesh.specs.Factor.{eight, πBelow, πAbove, spreadOf}
-use Rattle.mesh.proofs.Quantities.{quantity-spread}
+use Rattle.formulas.proofs.Quantities.{quantity-spread}
 
 -- ---- 8/(π(2n−1)), for odd m = 2n − 1
 

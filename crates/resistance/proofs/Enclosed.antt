@@ -26,7 +26,8 @@ use Rattle.formulas.specs.Lengths.{ρ, h, side, LT}
 use Rattle.formulas.specs.Resistance.{√20, resistance}
 use Rattle.formulas.specs.Width.{μΩ}
 use Rattle.formulas.proofs.Positive.{ρ-pos, h-pos, side-pos, LT-pos}
-use Rattle.formulas.proofs.Consistent.{q20, one}
+use Rattle.formulas.proofs.Quantities.{one}
+use Rattle.formulas.proofs.Consistent.{q20}
 use Rattle.lengths.specs.Lengths.{sideLength, totalLength}
 use Rattle.lengths.proofs.Lengths.{side-is, total-is}
 use Rattle.resistance.specs.Ends.{rootTwenty, depthEnds, shapeEnds, widthEnds, perSoilEnds, resistanceEnds}

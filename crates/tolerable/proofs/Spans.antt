@@ -1,28 +1,16 @@
 -- Sizes and widths of the tolerable voltages' ends.
 -- Assumes nothing.
-use Prim.Native.Nat.{ℕ, _+_, _*_, _/_, _^_, _≤_, _<_}
-use mathlib.Core.Path.{_≡_, refl, ap}
+use Prim.Native.Nat.{ℕ, _+_, _*_, _^_, _≤_}
 use mathlib.Core.Bool.{Bool, true, false, cond}
-use mathlib.Core.Logic.{_⊎_, ⊎-elim}
 use native.Mathlib.Omega.{arith}
-use native.Mathlib.Nat.{mul-le-mul, mul-le-mul-left, mul-le-mul-right, le-trans, lt-of-mul-lt-mul-right}
-use native.Mathlib.Decide.{decLe}
+use native.Mathlib.Nat.{mul-le-mul, le-trans}
 use lib.Dec.{lit≤, lit<, eqb}
-use lib.IntN.{pos}
-use borrow.Author.Tests.{eq-eqb, ne-eqb}
-use Rattle.interval.specs.Whole.{ceilDiv}
-use Rattle.interval.specs.Operations.{natural, point, sumOf, scaledOf, quotientOf}
-use Rattle.interval.specs.Span.{Span, Relative}
-use Rattle.interval.specs.Root.{IsRoot}
-use Rattle.interval.specs.declared.Interval.{Interval}
-use Rattle.interval.proofs.Natural.{natural-quotient}
-use Rattle.interval.proofs.Rounding.{floorDiv-above, ceilDiv-below}
-use Rattle.interval.proofs.Span.{span-natural, span-point, span-wider, span-sum, span-scaled, span-quotient}
-use Rattle.enclosure.specs.SquareRoot.{squareRoot, rootPair}
-use Rattle.enclosure.proofs.SquareRoot.{square-root}
+use Rattle.interval.specs.Span.{Span}
+use Rattle.interval.proofs.Span.{span-point, span-wider, span-sum, span-scaled, span-quotient}
+use Rattle.enclosure.proofs.RootSpan.{root-span}
 use Rattle.case.specs.declared.Case.{Case}
 use Rattle.case.specs.Bounds.{Between, Bounds}
-use Rattle.tolerable.specs.Ends.{layerEnds, bodyFactor, timeRoot, topEnds, tolerableEnds}
+use Rattle.tolerable.specs.Ends.{bodyFactor, timeRoot, topEnds, tolerableEnds}
 use Rattle.tolerable.proofs.Layer.{layer-span}
 
 pub body-bounds : {c : Case} → Bounds c → Between 116 (bodyFactor c) 157
@@ -49,27 +37,6 @@ top-span {c} b weight h =
     width w l = omega arith
 
 -- ---- √t
-
--- a root above a number, and below one, by squares
-root-from : {x r : ℕ} (l : ℕ) → IsRoot x r → l * l ≤ x → l ≤ r
-root-from {x} {r} l h k = go (decLe l r)
-  where
-    go : Dec (l ≤ r) → l ≤ r
-    go (yes p) = p
-    go (no p) = let q : r + 1 ≤ l = omega arith in absurd (omega (arith, h .high, mul-le-mul q q))
-
-root-to : {x r : ℕ} (u : ℕ) → IsRoot x r → x < u * u → r + 1 ≤ u
-root-to {x} {r} u h k = go (decLe (r + 1) u)
-  where
-    go : Dec (r + 1 ≤ u) → r + 1 ≤ u
-    go (yes p) = p
-    go (no p) = let q : u ≤ r = omega arith in absurd (omega (arith, h .low, mul-le-mul q q))
-
-pub root-span : (x l u : ℕ) → l * l ≤ x → x < u * u → Span (rootPair x) l u 1
-unfolding rootPair
-root-span x l u h k =
-    let r = square-root x in
-    span-natural (squareRoot x) (squareRoot x + 1) (root-from l r h) (omega arith) (root-to u r k) (omega arith)
 
 pub time-span : {c : Case} → Bounds c → Span (timeRoot c) 9000000 200000000 1
 unfolding timeRoot

@@ -15,10 +15,14 @@ use Rattle.exact.proofs.Products.{mul-pos}
 use Rattle.exact.proofs.Quantity.{Quantity, quantity-exactly, quantity-sum, quantity-product, quantity-quotient, quantity-root, quantity-π}
 use Rattle.case.specs.declared.Case.{Case}
 use Rattle.case.specs.Bounds.{Bounds, Rodded}
 use Rattle.formulas.specs.Lengths.{n, Lr, side}
 use Rattle.formulas.specs.Mesh.{Kh, Kii, LM}
 use Rattle.formulas.proofs.Positive.{decimal-pos, one-thousandth, four-squares, two-squares, h-pos, Lc-pos, LT-pos, side-metre, rodded, Lr-pos, LR-pos}
-use Rattle.formulas.proofs.Consistent.{by-place}
+
+-- a definition by two cases
+pub by-place : {A : Type 0} (P : A → Type 0) (b : Bool) {x y : A} → (b ≡ true → P x) → (b ≡ false → P y) → P (cond b x y)
+by-place P true h k = h refl
+by-place P false h k = k refl
 
 -- two definitions by one case
 pub by-both : {A B : Type 0} (P : A → B → Type 0) (t : Bool) {x y : A} {x′ y′ : B} → (t ≡ true → P x x′) → (t ≡ false → P y y′)
@@ -26,7 +30,7 @@ pub by-both : {A B : Type 0} (P : A → B → Type 0) (t : Bool) {x y : A} {x′
 by-both P true f g = f refl
 by-both P false f g = g refl
 
-one : Quantity (exactly (whole 1))
+pub one : Quantity (exactly (whole 1))
 one = quantity-exactly (whole-pos (omega arith))
 
 pub quantity-turn : Quantity (exactly (whole 2) ·x π)
