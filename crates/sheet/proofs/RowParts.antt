@@ -13,13 +13,9 @@ use borrow.Rule.Slice.PartMut.{putMid, postOf, same-len-mid, mid-len, take-put, 
 use Rattle.case.specs.declared.Case.{Case}
 use Rattle.case.specs.Case.{caseOf}
 use Rattle.row.specs.declared.Row.{Row}
-use Rattle.row.specs.Row.{rowLength, numbers}
+use Rattle.row.specs.Row.{rowLength, numbers, row-length}
 use Rattle.sheet.specs.Table.{rowAt, RowOf, Filled}
 use Rattle.sheet.specs.Rows.{Written, FilledTo}
-
-numbers-length : (r : Row) → length (numbers r) ≡ rowLength
-unfolding numbers rowLength
-numbers-length r = refl
 
 -- a part of rowLength numbers put in the place of row i
 pub put-written : (i : ℕ) (t row : List ℤ) → rowLength * i + rowLength ≤ length t → length row ≡ rowLength
@@ -39,7 +35,7 @@ put-written i t row h r =
 -- the numbers of a row put in the place of row i
 pub row-written : (i : ℕ) (t row : List ℤ) (r : Row) → rowLength * i + rowLength ≤ length t → row ≡ numbers r
     → Written i (numbers r) t (putMid (rowLength * i) (rowLength * i + rowLength - rowLength * i) t row)
-row-written i t row r h e = rw e (put-written i t (numbers r) h (numbers-length r))
+row-written i t row r h e = rw e (put-written i t (numbers r) h (row-length r))
 
 part-of-front : (k a m : ℕ) (l : List ℤ) → a + k ≤ m → take k (drop a (take m l)) ≡ take k (drop a l)
 part-of-front k zero m l h = take-take k m l (omega arith)
