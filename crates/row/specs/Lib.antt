@@ -1,3 +1,4 @@
 pub mod Verdict
 pub mod Row
 pub mod Ends
+pub mod Examples
