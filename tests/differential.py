@@ -11,6 +11,7 @@ import random
 import subprocess
 import sys
 from collections import Counter
+from fractions import Fraction
 from pathlib import Path
 
 import calculator as calc
@@ -22,9 +23,10 @@ DEPTHS, DEEP_DEPTHS = (9,), (3, 6, 12)
 DEEP_EVERY = 20  # one row in so many is judged at the deeper, dearer depths too
 RUN_SECONDS = 10
 HEADER_NAMES = list(calc.NAMES)
+LIMIT_DEPTH = 9
 
 # The stored batch.
-BATCH_SEED, BATCH_COUNT = 14, 150
+BATCH_SEED, BATCH_COUNT = 33, 150
 BATCH_END = b"\0"
 BATCH_SHORT, BATCH_LONG, BATCH_LONGS = 2000, 16386, 5
 BATCH_FILE = Path(__file__).parents[1] / "crates" / "batch" / "stdin"
@@ -49,6 +51,41 @@ def random_case(rng):
     if rng.random() < 0.4:
         return case._replace(rods=0, rodlen=0, place=0)
     return case._replace(rods=max(1, case.rods))
+
+
+def meeting(case, voltage, limit):
+    """The case with the fault and split at which a voltage is nearest its limit, or nothing."""
+    case = case._replace(fault=1000, split=1000)  # a voltage is in proportion to fault and split
+    ends = calc.exact_ends(case, LIMIT_DEPTH)
+    if getattr(ends, voltage).lower <= 0:
+        return None
+    wanted = float(getattr(ends, limit).lower / getattr(ends, voltage).lower) * 1000 * 1000
+    pairs = [(round(wanted / split), split) for split in range(1, 1001)]
+    (low, high), = calc.RANGES[calc.NAMES.index("fault")]
+    pairs = [(fault, split) for fault, split in pairs if low <= fault <= high]
+    if not pairs:
+        return None
+    fault, split = min(pairs, key=lambda pair: abs(pair[0] * pair[1] - wanted))
+    return case._replace(fault=fault, split=split)
+
+
+def undecided_for_all(case):
+    """Whether whole millivolts cannot tell a voltage from its limit, and the other is within."""
+    ends = calc.exact_ends(case, LIMIT_DEPTH)
+    met, within = [], []
+    for voltage, limit in ((ends.mesh, ends.tolerable_touch), (ends.step, ends.tolerable_step)):
+        met.append(len({int(end * 1000) for end in (*voltage, *limit)}) == 1)
+        within.append(voltage.upper < limit.lower * Fraction(99, 100))
+    return (met[0] and (met[1] or within[1])) or (met[1] and within[0])
+
+
+def case_at_limit(rng):
+    """A case that no right calculator calls safe or unsafe, by mesh or by step voltage."""
+    names = rng.choice((("mesh", "tolerable_touch"), ("step", "tolerable_step")))
+    while True:
+        case = meeting(random_case(rng), *names)
+        if case and undecided_for_all(case):
+            return case
 
 
 class Sheet:
@@ -86,6 +123,13 @@ class Sheet:
 
 def nothing(sheet, rng):
     pass
+
+
+def at_the_limit(sheet, rng):
+    """One to four yards, the last of them decided at times."""
+    makers = [case_at_limit] * rng.randint(1, 3) + [random_case] * rng.randint(0, 1)
+    sheet.lines = [
+        sheet.fields(make(rng)._replace(station=i + 1)) for i, make in enumerate(makers)]
 
 
 def unknown_name(sheet, rng):
@@ -169,7 +213,7 @@ def repeated_key(sheet, rng):
 
 
 def several(sheet, rng):
-    for damage in rng.sample(FIELD_DAMAGES[1:-1], rng.randint(2, 3)):
+    for damage in rng.sample(FIELD_DAMAGES[2:-1], rng.randint(2, 3)):
         try:
             damage(sheet, rng)
         except (IndexError, ValueError):  # an earlier damage took away what it needs
@@ -177,9 +221,9 @@ def several(sheet, rng):
 
 
 FIELD_DAMAGES = (
-    nothing, unknown_name, repeated_name, fewer_names, nineteen_names, wrong_form, too_few_values,
-    too_many_values, empty_line, no_value_line, many_lines, out_of_range, disagreement,
-    repeated_key, several,
+    nothing, at_the_limit, unknown_name, repeated_name, fewer_names, nineteen_names, wrong_form,
+    too_few_values, too_many_values, empty_line, no_value_line, many_lines, out_of_range,
+    disagreement, repeated_key, several,
 )
 
 
@@ -259,7 +303,7 @@ BYTE_DAMAGES = (
 # A third of the sheets is sound, and the rarer refusals come more often.
 CHOICES = (
     FIELD_DAMAGES + BYTE_DAMAGES + (nothing,) * 16
-    + (many_lines, out_of_range, disagreement, repeated_key) * 3
+    + (many_lines, out_of_range, disagreement, repeated_key, at_the_limit) * 3
 )
 
 

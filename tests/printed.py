@@ -12,6 +12,10 @@ ROW_NAMES = (
     "resistance_lower_uohm", "resistance_upper_uohm", "rise_lower_mV", "rise_upper_mV",
 )
 
+# The columns of the program `verdict`, and its words for the verdicts 1, 2 and 3.
+VERDICT_NAMES = ("station", "season", "verdict", "kcmil")
+WORDS = ("safe", "unsafe", "undecided")
+
 
 def whole(field):
     """A number in decimal digits, with no sign but minus and no zero in front."""
@@ -28,16 +32,36 @@ def lines_of(text):
     return text[:-1].split("\n")
 
 
-def read_rows(text):
-    """What the program `rows` printed: a refusal, or the rows, each a list of 17 numbers."""
+def read_answer(text, names, read_line):
+    """A refusal alone, or what is read of each line after the line of names."""
     first, *lines = lines_of(text)
     if first.startswith("refused,"):
         if lines:
             raise ValueError("more than a refusal is printed")
         return Refusal(*(whole(field) for field in first.split(",")[1:]))
-    if first != ",".join(ROW_NAMES):
+    if first != ",".join(names):
         raise ValueError(f"the names are {first!r}")
-    rows = [[whole(field) for field in line.split(",")] for line in lines]
-    if any(len(row) != calc.ROW_LENGTH for row in rows):
+    return [read_line(line.split(",")) for line in lines]
+
+
+def read_row(fields):
+    """The numbers of a row."""
+    if len(fields) != calc.ROW_LENGTH:
         raise ValueError(f"a row has not {calc.ROW_LENGTH} numbers")
-    return rows
+    return [whole(field) for field in fields]
+
+
+def read_rows(text):
+    """What the program `rows` printed: a refusal, or the rows, each a list of 17 numbers."""
+    return read_answer(text, ROW_NAMES, read_row)
+
+
+def read_verdict(fields):
+    """The first four numbers of a row, of which the verdict is a word."""
+    station, season, word, kcmil = fields
+    return [whole(station), whole(season), WORDS.index(word) + 1, whole(kcmil)]
+
+
+def read_verdicts(text):
+    """What the program `verdict` printed: a refusal, or each row's first four numbers."""
+    return read_answer(text, VERDICT_NAMES, read_verdict)

@@ -1,5 +1,5 @@
-"""Judges the questions asked alone: each line of crates/asked/stdout, which `rt check asked`
-holds to what the program prints, against the separately written calculator.
+"""Judges the questions asked alone: crates/asked/stdout, which `rt check asked` holds to what the
+program prints for crates/asked/stdin, against the separately written calculator.
 
     python3 -m unittest discover -s tests
 """
@@ -8,40 +8,43 @@ import unittest
 from collections import defaultdict
 from fractions import Fraction
 from itertools import product
-from pathlib import Path
 
 import calculator as calc
+import questions
 from calculator import Case, Refusal
-from printed import whole
+from printed import lines_of, whole
+from questions import FACTOR_MS, FACTOR_XR, RECORD_KINDS
 
-STDOUT = Path(__file__).parents[1] / "crates" / "asked" / "stdout"
+STDOUT = questions.FILE.with_name("stdout")
 DEPTHS = (3, 6, 9, 12)
 
 SETTLED = {"factor": calc.decrement_thousandths, "size": calc.conductor_kcmil}
 PAIRS = {"touch": "tolerable_touch", "step": "tolerable_step", "resistance": "resistance"}
-RECORD_KINDS = (*SETTLED, *PAIRS)
+COUNTS = {"ln": 2, **{kind: calc.COLUMN_COUNT for kind in RECORD_KINDS}}
+MOST_NUMBER = 2**64 - 1
 # The least count of different questions of each kind.
-LEAST = {"factor": 160, "size": 200, "touch": 100, "step": 100, "resistance": 100, "ln": 300}
-
-# Both sides of each edge of Table 10.
-FACTOR_MS = (8, 9, 49, 50, 99, 100, 199, 200, 299, 300, 399, 400, 499, 500, 3000, 3001)
-FACTOR_XR = (0, 1, 10, 11, 20, 21, 30, 31, 40, 41)
+LEAST = {"factor": 250, "size": 300, "touch": 200, "step": 200, "resistance": 250, "row": 350,
+         "ln": 400}
 RESISTANCE_NAMES = ("soil", "lines", "space", "depth", "rods", "rodlen", "place")
 
 
-def read_line(line):
-    """The kind of a line, what is asked, and the answer: a refusal or a tuple of numbers."""
+def read_question(line):
+    """The kind of a line and what is asked; nothing where the line is broken."""
     kind, *fields = line.split(",")
-    if kind == "ln":
-        asked, answer = tuple(whole(field) for field in fields[:2]), fields[2:]
-    elif kind in RECORD_KINDS:
-        count = calc.COLUMN_COUNT
-        asked, answer = Case(*(whole(field) for field in fields[:count])), fields[count:]
-    else:
-        raise ValueError(f"no question is called {kind!r}")
-    if answer[:1] == ["refused"]:
-        return kind, asked, Refusal(*(whole(field) for field in answer[1:]))
-    return kind, asked, tuple(whole(field) for field in answer)
+    if len(fields) != COUNTS.get(kind) or not all(field.isdigit() for field in fields):
+        return None
+    numbers = [whole(field) for field in fields]
+    if max(numbers) > MOST_NUMBER:
+        return None
+    return kind, Case(*numbers) if kind in RECORD_KINDS else tuple(numbers)
+
+
+def read_answer(text):
+    """A refusal or a tuple of numbers."""
+    fields = text.split(",")
+    if fields[0] == "refused":
+        return Refusal(*(whole(field) for field in fields[1:]))
+    return tuple(whole(field) for field in fields)
 
 
 def judge(kind, asked, answer):
@@ -52,6 +55,8 @@ def judge(kind, asked, answer):
     if kind in SETTLED:
         number = SETTLED[kind](asked)
         return [] if answer == (number,) else [f"{answer}, not {number}"]
+    if kind == "row":
+        return calc.judge_row(asked, answer, DEPTHS)
     if len(answer) != 2:
         return [f"{answer} is no pair"]
     if kind == "ln":
@@ -74,12 +79,17 @@ def is_refused(answer):
 class Asked(unittest.TestCase):
     @classmethod
     def setUpClass(cls):
-        cls.text = STDOUT.read_text(encoding="ascii")
-        cls.lines = cls.text.splitlines()
+        cls.lines = lines_of(questions.FILE.read_text(encoding="ascii"))
+        cls.printed = lines_of(STDOUT.read_text(encoding="ascii"))
         cls.questions = defaultdict(dict)  # by kind: what is asked, and its answer
-        for line in cls.lines:
-            kind, asked, answer = read_line(line)
-            cls.questions[kind][asked] = answer
+        cls.broken = {}  # a line that is no question, and what it is answered
+        for line, printed in zip(cls.lines, cls.printed):
+            question, answer = read_question(line), printed[len(line) + 1 :]
+            if question:
+                kind, asked = question
+                cls.questions[kind][asked] = read_answer(answer)
+            else:
+                cls.broken[line] = answer
 
     def answered(self, kind):
         """What is asked and answered, without the refused ones."""
@@ -93,16 +103,26 @@ class Asked(unittest.TestCase):
 
 
 class Answers(Asked):
-    def test_every_line_is_right(self):
-        wrong = []
-        for number, line in enumerate(self.lines, start=1):
-            for complaint in judge(*read_line(line)):
-                wrong.append(f"line {number}, {line}: {complaint}")
+    def test_the_questions_are_those_of_the_script(self):
+        text = questions.FILE.read_text(encoding="ascii")
+        self.assertEqual(text, questions.text())
+        self.assertLess(len(text), questions.MOST_BYTES)
+
+    def test_each_line_is_printed_with_its_answer(self):
+        self.assertEqual(len(self.printed), len(self.lines))
+        for line, printed in zip(self.lines, self.printed):
+            self.assertEqual(printed[: len(line) + 1], line + ",")
+
+    def test_every_answer_is_right(self):
+        wrong = [
+            f"{kind} {asked}: {complaint}"
+            for kind, answers in self.questions.items() for asked, answer in answers.items()
+            for complaint in judge(kind, asked, answer)
+        ]
         self.assertEqual([], wrong)
 
-    def test_each_line_ends_with_one_line_feed(self):
-        self.assertEqual(self.text, "".join(line + "\n" for line in self.lines))
-        self.assertNotIn("", self.lines)
+    def test_broken_lines_are_unknown(self):
+        self.assertEqual(set(self.broken.values()), {"unknown"})
 
 
 class Judging(Asked):
@@ -132,6 +152,16 @@ class Judging(Asked):
                                 (upper + 1, lower), (lower - 10**6, upper + 10**6),
                                 (lower,), (lower, upper, upper)):
                     self.assertTrue(judge(kind, asked, changed), f"{kind} {asked} {changed}")
+
+
+    def test_a_changed_row_is_wrong(self):
+        for case, row in list(self.answered("row").items())[::7]:
+            for place in range(calc.ROW_LENGTH):
+                off = 1 if place < calc.FIRST_PAIR else 10**8
+                changed = row[:place] + (row[place] + off,) + row[place + 1 :]
+                self.assertTrue(judge("row", case, changed), f"{case} {place}")
+            self.assertTrue(judge("row", case, row[:-1]))
+            self.assertTrue(judge("row", case, row + (0,)))
 
 
 class Yards(Asked):
@@ -171,11 +201,26 @@ class Coverage(Asked):
         for kind, least in LEAST.items():
             self.assertGreaterEqual(len(self.questions[kind]), least, kind)
 
+    def test_broken_lines(self):
+        kinds = {line.split(",")[0] for line in self.broken}
+        self.assertLessEqual({"", "ln", "factor"}, kinds)
+        self.assertTrue(kinds - set(LEAST))
+        counts = {line.count(",") for line in self.broken}
+        self.assertLessEqual({0, 1, 2, calc.COLUMN_COUNT, calc.COLUMN_COUNT + 1}, counts)
+
+    def test_sound_and_refused_records(self):
+        for kind in RECORD_KINDS:
+            self.assertGreaterEqual(len(self.answered(kind)), 50, kind)
+            self.assertGreaterEqual(len(self.refused(kind)), 30, kind)
+
+    def test_rows_of_each_verdict(self):
+        self.assertEqual({row[2] for row in self.answered("row").values()},
+                         {calc.SAFE, calc.UNSAFE, calc.UNDECIDED})
+
     def test_table_10_with_its_edges(self):
-        factors = self.questions["factor"]
-        asked = {(case.ms, case.xr) for case in factors}
+        asked = {(case.ms, case.xr) for case in self.questions["factor"]}
         self.assertLessEqual(set(product(FACTOR_MS, FACTOR_XR)), asked)
-        answers = {(case.ms, case.xr): answer for case, answer in factors.items()}
+        answers = {(case.ms, case.xr): answer for case, answer in self.answered("factor").items()}
         entries = {
             (from_ms, xr): (entry,)
             for from_ms, row in calc.DECREMENT_ROWS
@@ -228,10 +273,11 @@ class Coverage(Asked):
         self.assertLessEqual({0, 1, 2}, {case.place for case in self.answered("resistance")})
 
     def test_every_column_is_refused_below_and_above(self):
-        refused = self.refused("resistance")
-        for place, (name, spans) in enumerate(calc.COLUMNS):
+        for kind, (place, (name, spans)) in product(
+                ("resistance", "row"), enumerate(calc.COLUMNS)):
+            refused = self.refused(kind)
             values = {case[place] for case, r in refused.items() if r == (5, 0, place + 1)}
-            self.assertIn(spans[-1][1] + 1, values, name)
+            self.assertLessEqual({spans[-1][1] + 1, 2**32 - 1, 2**32}, values, name)
             lowest = spans[-1][0] - 1
             if lowest >= 0:
                 self.assertIn(lowest, values, name)
@@ -240,7 +286,8 @@ class Coverage(Asked):
         for kind in RECORD_KINDS:
             refused = self.refused(kind)
             self.assertLessEqual({5, 6}, {refusal.number for refusal in refused.values()})
-            self.assertLessEqual({(6, 0, 4), (6, 0, 15)}, set(refused.values()))
+            groups = {(6, 0, calc.NAMES.index(group[0]) + 1) for group in calc.ZERO_GROUPS}
+            self.assertLessEqual(groups, set(refused.values()))
             faults = {case: self.faults(case) for case in refused}
             for wanted in ([5, 5], [5, 6], [6, 6]):
                 self.assertIn(wanted, list(faults.values()), kind)

@@ -1,7 +1,9 @@
 """Judges a batch of random sheets, sound and damaged: crates/batch/stdout, which `rt check batch`
 holds to what the program prints for crates/batch/stdin, against the separately written calculator.
 
-Each sheet is answered twice: for a table with room for every row, and for one with room for two.
+Each sheet is answered four times: all numbers, then the verdicts, each for a table with room for
+every row and for one with room for two. After each answer stands how many numbers of the whole
+table kept what they held.
 """
 
 import unittest
@@ -10,50 +12,109 @@ from pathlib import Path
 import calculator as calc
 import differential
 from calculator import Refusal
-from printed import ROW_NAMES, lines_of, read_rows
+from printed import lines_of, read_rows, read_verdicts, whole
 
 STDOUT = Path(__file__).parents[1] / "crates" / "batch" / "stdout"
-ROOMS = (calc.MAX_VALUE_LINES * calc.ROW_LENGTH, 2 * calc.ROW_LENGTH)
+TABLE = calc.MAX_VALUE_LINES * calc.ROW_LENGTH
+ROOMS = (TABLE, 2 * calc.ROW_LENGTH)
+READERS = (read_rows, read_verdicts)
+KEPT = "kept,"
 MOST_BYTES = 131072  # what the program reads
 LEAST_OF_EACH = 3
 
 
 def answers_of(text):
-    """The texts of the answers; each begins with a line of names or of a refusal."""
-    answers = []
+    """The text of each answer, and how many numbers it left as they were."""
+    answers, lines = [], ""
     for line in lines_of(text):
-        if line.startswith("refused,") or line == ",".join(ROW_NAMES):
-            answers.append("")
-        answers[-1] += line + "\n"
+        if line.startswith(KEPT):
+            answers.append((lines, whole(line[len(KEPT):])))
+            lines = ""
+        else:
+            lines += line + "\n"
+    if lines:
+        raise ValueError("the last answer does not say what was kept")
     return answers
+
+
+def kept_after(wanted):
+    """A refusal changes nothing, and rows change their own numbers."""
+    return TABLE - (0 if isinstance(wanted, Refusal) else calc.ROW_LENGTH * len(wanted))
 
 
 class Batch(unittest.TestCase):
     @classmethod
     def setUpClass(cls):
-        text = differential.BATCH_FILE.read_bytes()
-        cls.sheets = text.split(differential.BATCH_END)[:-1]
-        cls.answers = answers_of(STDOUT.read_text(encoding="ascii"))
+        cls.text = differential.BATCH_FILE.read_bytes()
+        cls.sheets = cls.text.split(differential.BATCH_END)[:-1]
         cls.asked = [(sheet, room) for sheet in cls.sheets for room in ROOMS]
         cls.wanted = [calc.read_sheet(sheet, room) for sheet, room in cls.asked]
+        cls.answers = answers_of(STDOUT.read_text(encoding="ascii"))
+        cls.rows = cls.listed(read_rows)
+        cls.verdicts = cls.listed(read_verdicts)
 
+    @classmethod
+    def listed(cls, reader):
+        """The answers of one listing, in the order of what is asked."""
+        of_sheet = [read for read in READERS for _ in ROOMS]
+        return [
+            reader(text) for (text, _), read in zip(cls.answers, of_sheet * len(cls.sheets))
+            if read is reader
+        ]
+
+
+class Answers(Batch):
     def test_the_sheets_are_those_of_the_differential_run(self):
-        text = differential.BATCH_FILE.read_bytes()
-        self.assertEqual(text, differential.batch())
-        self.assertLess(len(text), MOST_BYTES)
+        self.assertEqual(self.text, differential.batch())
+        self.assertLess(len(self.text), MOST_BYTES)
 
-    def test_every_answer_is_right(self):
-        self.assertEqual(len(self.answers), len(self.asked))
+    def test_every_sheet_has_its_answers(self):
+        self.assertEqual(len(self.answers), len(READERS) * len(self.asked))
+
+    def test_every_row_is_right(self):
         wrong = []
-        for (sheet, room), wanted, answer in zip(self.asked, self.wanted, self.answers):
-            for complaint in differential.judge(wanted, read_rows(answer), lambda: False):
+        for (sheet, room), wanted, rows in zip(self.asked, self.wanted, self.rows):
+            for complaint in differential.judge(wanted, rows, lambda: False):
                 wrong.append(f"{sheet!r} in {room} numbers: {complaint}")
         self.assertEqual([], wrong)
 
-    def test_every_refusal_comes_up(self):
-        refused = [wanted.number for wanted in self.wanted if isinstance(wanted, Refusal)]
-        for number in range(1, 9):
-            self.assertGreaterEqual(refused.count(number), LEAST_OF_EACH, number)
+    def test_every_verdict_is_that_of_its_row(self):
+        for rows, verdicts in zip(self.rows, self.verdicts):
+            wanted = rows if isinstance(rows, Refusal) else [row[:4] for row in rows]
+            self.assertEqual(verdicts, wanted)
+
+    def test_all_else_in_the_table_is_kept(self):
+        rooms = len(ROOMS)
+        wanted = [
+            kept_after(answer) for at in range(0, len(self.wanted), rooms)
+            for answer in self.wanted[at : at + rooms] * len(READERS)
+        ]
+        self.assertEqual([kept for _, kept in self.answers], wanted)
+
+
+class Coverage(Batch):
+    def test_every_refusal_comes_up_in_both_listings(self):
+        for answers in (self.rows, self.verdicts):
+            refused = [answer.number for answer in answers if isinstance(answer, Refusal)]
+            for number in range(1, 9):
+                self.assertGreaterEqual(refused.count(number), LEAST_OF_EACH, number)
+
+    def test_every_verdict_comes_up_in_both_listings(self):
+        for answers in (self.rows, self.verdicts):
+            accepted = [answer for answer in answers if not isinstance(answer, Refusal)]
+            found = [row[2] for rows in accepted for row in rows]
+            for verdict in (calc.SAFE, calc.UNSAFE, calc.UNDECIDED):
+                self.assertGreaterEqual(found.count(verdict), LEAST_OF_EACH, verdict)
+
+    def test_undecided_by_mesh_alone_and_by_step_alone(self):
+        ways = set()
+        for rows in self.rows:
+            for row in () if isinstance(rows, Refusal) else rows:
+                pairs = calc.row_pairs(row)
+                if row[2] == calc.UNDECIDED:
+                    ways.add((pairs.mesh[1] <= pairs.tolerable_touch[0],
+                              pairs.step[1] <= pairs.tolerable_step[0]))
+        self.assertLessEqual({(False, True), (True, False)}, ways)
 
     def test_sheets_at_the_limits(self):
         self.assertLessEqual({0, calc.MAX_BYTES, calc.MAX_BYTES + 1}, set(map(len, self.sheets)))
@@ -61,6 +122,24 @@ class Batch(unittest.TestCase):
         self.assertLessEqual({1, 2, calc.MAX_VALUE_LINES}, rows)
         self.assertIn(Refusal(4, calc.MAX_VALUE_LINES + 2, 0), self.wanted)
         self.assertIn(Refusal(4, 2, 0), self.wanted)
+
+
+class Judging(unittest.TestCase):
+    """Texts that are no answers."""
+
+    def test_other_words_and_forms(self):
+        names = "station,season,verdict,kcmil\n"
+        self.assertEqual(read_verdicts(names + "7,1,undecided,16\n"), [[7, 1, calc.UNDECIDED, 16]])
+        for text in ("", names[:-1], names + "7,1,3,16\n", names + "7,1,safe,16,\n",
+                     names + "7,1,Safe,16\n", names + "7,1, safe,16\n", "refused,8,0\n"):
+            with self.assertRaises((ValueError, TypeError)):
+                read_verdicts(text)
+
+    def test_what_is_kept_must_be_said(self):
+        self.assertEqual(answers_of("a\nkept,3\nkept,0\n"), [("a\n", 3), ("", 0)])
+        for text in ("a\n", "a\nkept,3\nb\n", "kept,03\n", "kept,\n"):
+            with self.assertRaises(ValueError):
+                answers_of(text)
 
 
 if __name__ == "__main__":

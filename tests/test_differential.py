@@ -53,6 +53,8 @@ WRONG = {
     "gives ends that are too wide": with_rows(
         lambda rows: [row[:2] + [3] + row[3:5] + [0, 10**15] * 6 for row in rows]),
     "always says safe": with_rows(lambda rows: [row[:2] + [1] + row[3:] for row in rows]),
+    "calls the undecided unsafe": with_rows(
+        lambda rows: [row[:2] + [min(row[2], calc.UNSAFE)] + row[3:] for row in rows]),
     "prints no line end": lambda _, sheet: text_of(right_answer(sheet))[:-1],
 }
 

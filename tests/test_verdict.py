@@ -1,12 +1,14 @@
 """The program `verdict` is run on document 01's sample sheet, and prints what document 01 shows.
 
-`rt check verdict` holds the program to these files.
+`rt check verdict` holds the program to these files. test_batch.py judges the same listing of many
+sheets.
 """
 
 import unittest
 from pathlib import Path
 
 import calculator as calc
+from printed import read_verdicts
 
 VERDICT = Path(__file__).parents[1] / "crates" / "verdict"
 
@@ -20,7 +22,6 @@ station,season,verdict,kcmil
 7,1,unsafe,16
 7,2,safe,16
 """
-WORDS = {calc.SAFE: "safe", calc.UNSAFE: "unsafe", calc.UNDECIDED: "undecided"}
 
 
 class Verdict(unittest.TestCase):
@@ -31,11 +32,8 @@ class Verdict(unittest.TestCase):
         self.assertEqual((VERDICT / "stdout").read_bytes(), SHOWN)
 
     def test_the_calculator_says_the_same(self):
-        lines = ["station,season,verdict,kcmil"]
-        for case in calc.read_sheet(SAMPLE):
-            station, season, verdict, kcmil = calc.row_at(case, calc.DEFAULT_DEPTH)[:4]
-            lines.append(f"{station},{season},{WORDS[verdict]},{kcmil}")
-        self.assertEqual("".join(line + "\n" for line in lines).encode("ascii"), SHOWN)
+        rows = [calc.row_at(case, calc.DEFAULT_DEPTH) for case in calc.read_sheet(SAMPLE)]
+        self.assertEqual(read_verdicts(SHOWN.decode("ascii")), [row[:4] for row in rows])
 
 
 if __name__ == "__main__":

@@ -1,18 +1,29 @@
-// Asks each operation many questions and prints a line for each: its kind, its numbers, its answer.
+// Reads questions from standard input, one a line: a kind, then its numbers, parted by commas.
+// Prints each line, a comma and the answer. tests/questions.py makes the questions, and
 // tests/test_asked.py judges the lines.
-mod line;
-mod logarithms;
-mod pairs;
+mod answer;
+mod fields;
 mod question;
-mod record;
-mod refusals;
-mod settled;
+
+use question::ask;
+use text::find;
+use text::skip;
+
+const BYTES: usize = 262144;
+
+// Every line of s.
+fn lines(s: &[u8]) {
+    let mut rest = s;
+    while 0 < rest.len() {
+        let e = find(rest, 10);
+        ask(&rest[..e]);
+        let next = skip(e, rest.len());
+        rest = &rest[next..];
+    }
+}
 
 fn main() {
-    settled::factors();
-    settled::sizes();
-    pairs::tolerable();
-    pairs::resistances();
-    refusals::refusals();
-    logarithms::logarithms();
+    let mut space = [0u8; BYTES];
+    let n = input::read(&mut space);
+    lines(&space[..n]);
 }

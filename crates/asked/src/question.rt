@@ -1,81 +1,65 @@
-// A question on a record of 18 numbers, and series of questions.
-use crate::line::ends;
-use crate::line::settled;
-use crate::line::values;
+// One question: its kind and its numbers decide the operation.
+use crate::answer::ends;
+use crate::answer::numbers;
+use crate::answer::settled;
+use crate::answer::unknown;
+use crate::fields::Numbers;
+use crate::fields::read;
+use crate::fields::record;
+use case::NAMES;
 use case::case_of;
+use hocsimbur::Case;
 use print::bytes;
-ghost use Prim.Native.Nat.{_<_};
+use text::find;
+use text::same;
+use text::skip;
 
-pub enum Question {
-    Factor,
-    Size,
-    Touch,
-    Step,
-    Resistance,
-}
-
-fn kind(q: Question) {
-    match q {
-        Question::Factor => bytes(b"factor"),
-        Question::Size => bytes(b"size"),
-        Question::Touch => bytes(b"touch"),
-        Question::Step => bytes(b"step"),
-        Question::Resistance => bytes(b"resistance"),
+// A question on a record.
+fn on_record(kind: &[u8], c: Case) {
+    if same(kind, b"factor") {
+        settled(hocsimbur::decrement_factor(c));
+    } else if same(kind, b"size") {
+        settled(hocsimbur::conductor_size(c));
+    } else if same(kind, b"touch") {
+        ends(hocsimbur::tolerable_touch(c));
+    } else if same(kind, b"step") {
+        ends(hocsimbur::tolerable_step(c));
+    } else if same(kind, b"resistance") {
+        ends(hocsimbur::resistance(c));
+    } else if same(kind, b"row") {
+        numbers(hocsimbur::row(c));
+    } else {
+        unknown();
     }
 }
 
-// One question and its answer.
-pub fn ask(q: Question, v: [u32; 18]) {
-    kind(q);
-    values(v);
-    let c = case_of(v);
-    match q {
-        Question::Factor => settled(hocsimbur::decrement_factor(c)),
-        Question::Size => settled(hocsimbur::conductor_size(c)),
-        Question::Touch => ends(hocsimbur::tolerable_touch(c)),
-        Question::Step => ends(hocsimbur::tolerable_step(c)),
-        Question::Resistance => ends(hocsimbur::resistance(c)),
+// A question on two numbers.
+fn on_two(kind: &[u8], p: u64, q: u64) {
+    if same(kind, b"ln") {
+        ends(hocsimbur::logarithm(p, q));
+    } else {
+        unknown();
     }
 }
 
-// The question for each of some numbers at one place.
-pub fn vary(q: Question, v: [u32; 18], at: usize, numbers: &[u32])
-    requires { ⌜ at < 18 ⌝ }
-{
-    let mut w = v;
-    let mut i: usize = 0;
-    while i < numbers.len() {
-        w[at] = numbers[i];
-        ask(q, w);
-        i += 1;
+fn answer(kind: &[u8], n: Numbers) {
+    let count = n.count;
+    let v = n.v;
+    if count == NAMES {
+        on_record(kind, case_of(record(v)));
+    } else if count == 2 {
+        on_two(kind, v[0], v[1]);
+    } else {
+        unknown();
     }
 }
 
-// The question for each pair of some numbers at two places.
-pub fn vary_two<'a>(
-    q: Question,
-    v: [u32; 18],
-    at: usize,
-    numbers: &'a [u32],
-    to: usize,
-    others: &'a [u32],
-)
-    requires { ⌜ (at < 18) × (to < 18) ⌝ }
-{
-    let mut w = v;
-    let mut i: usize = 0;
-    while i < numbers.len() {
-        w[at] = numbers[i];
-        vary(q, w, to, others);
-        i += 1;
-    }
-}
-
-// Every question on one record.
-pub fn every(v: [u32; 18]) {
-    ask(Question::Factor, v);
-    ask(Question::Size, v);
-    ask(Question::Touch, v);
-    ask(Question::Step, v);
-    ask(Question::Resistance, v);
+// The line, a comma and its answer.
+pub fn ask(line: &[u8]) {
+    bytes(line);
+    bytes(b",");
+    let e = find(line, 44);
+    let next = skip(e, line.len());
+    let n = read(&line[next..]);
+    answer(&line[..e], n);
 }

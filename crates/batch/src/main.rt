@@ -1,31 +1,51 @@
-// Reads sheets from standard input, each ended by a byte 0, and prints the answer to each twice:
-// for a table with room for every row, and for one with room for two.
+// Reads sheets from standard input, each ended by a byte 0, and prints four answers to each: all
+// numbers and the verdicts, for a table with room for every row and for one with room for two.
+// After each stands how many numbers of the whole table kept what they held.
 // tests/test_batch.py judges the lines.
-use text::find;
-ghost use Prim.Native.Nat.{_<_, _≤_};
+mod table;
 
-// The index after e, or the end of n bytes.
-fn after(e: usize, n: usize) -> usize
-    ensures { λ r. ⌜ r ≤ n ⌝ }
-    ensures { λ r. ⌜ (0 < n → 0 < r) ⌝ }
+use listing::Listing;
+use listing::TABLE;
+use row::ROW_LENGTH;
+use text::find;
+use text::skip;
+ghost use Prim.Native.Nat.{_≤_};
+
+// Room for two rows.
+const SHORT: usize = 2 * ROW_LENGTH;
+
+const BYTES: usize = 131072;
+
+// One answer, in the first room numbers of a table.
+fn answer(what: Listing, s: &[u8], room: usize)
+    requires { do ⌜ room ≤ (← ⟦TABLE⟧) ⌝ }
 {
-    if e < n { e + 1 } else { n }
+    let mut table = table::held();
+    listing::answer(what, s, &mut table[..room]);
+    table::kept(table);
+}
+
+// The four answers to a sheet.
+fn sheet(s: &[u8]) {
+    answer(Listing::Numbers, s, TABLE);
+    answer(Listing::Numbers, s, SHORT);
+    answer(Listing::Verdicts, s, TABLE);
+    answer(Listing::Verdicts, s, SHORT);
 }
 
 // The answers to the sheets of s.
-fn answers(s: &[u8]) {
+fn sheets(s: &[u8]) {
     let mut rest = s;
     while 0 < rest.len() {
         let e = find(rest, 0);
-        listing::answer(&rest[..e], 1088);
-        listing::answer(&rest[..e], 34);
-        let next = after(e, rest.len());
+        sheet(&rest[..e]);
+        let next = skip(e, rest.len());
         rest = &rest[next..];
     }
 }
 
 fn main() {
-    let mut space = [0u8; 131072];
+    let mut space = [0u8; BYTES];
     let n = input::read(&mut space);
-    answers(&space[..n]);
+    sheets(&space[..n]);
 }

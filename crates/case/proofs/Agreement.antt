@@ -8,9 +8,12 @@ use mathlib.Core.List.{List}
 use native.Mathlib.Omega.{arith}
 use lib.Dec.{eqb, eqb·suc-zero}
 use Rattle.case.specs.declared.Case.{Case}
-use Rattle.case.specs.declared.Fault.{Fault}
-use Rattle.case.specs.declared.Fault.the-variants.{Sound, Disagreement}
-use Rattle.case.specs.Check.{columnOf, agree, disagreement}
+use Rattle.case.specs.declared.Finding.{Finding}
+use Rattle.case.specs.declared.Finding.the-variants.{Sound, Disagreement}
+use Rattle.text.specs.Text.{same}
+use Rattle.case.specs.Columns.{columns, nameIndex, named}
+use Rattle.case.specs.Case.{values}
+use Rattle.case.specs.Check.{agree, disagreement}
 
 -- both 0 or both not 0
 abbrev pub Agree : ℕ → ℕ → Type 0
@@ -28,14 +31,21 @@ pub record Agreed (c : Case) : Type 0 where
   pub rodlen : Agree (c .rods) (c .rodlen)
   pub place : Agree (c .rods) (c .place)
 
-pub agreements : (at : List ℕ) (c : Case) → disagreement at c ≡ Sound → Agreed c
-unfolding disagreement
+-- the finding by the fields of a case
+pub disagreement-is : (at : List ℕ) (c : Case) → disagreement columns at (values c)
+    ≡ cond (agree (c .layer) (c .thick))
+    (cond (agree (c .rods) (c .rodlen) && agree (c .rods) (c .place)) Sound (Disagreement (named columns at "rods")))
+    (Disagreement (named columns at "layer"))
+unfolding disagreement named nameIndex columns same values
+disagreement-is at c = refl
+
+pub agreements : (at : List ℕ) (c : Case) → disagreement columns at (values c) ≡ Sound → Agreed c
 agreements at c h =
-    go (agree (c .layer) (c .thick)) refl (agree (c .rods) (c .rodlen)) refl (agree (c .rods) (c .place)) refl h
+    go (agree (c .layer) (c .thick)) refl (agree (c .rods) (c .rodlen)) refl (agree (c .rods) (c .place)) refl (sym (disagreement-is at c) ∙ h)
   where
     go : (p : Bool) → agree (c .layer) (c .thick) ≡ p → (q : Bool) → agree (c .rods) (c .rodlen) ≡ q
         → (r : Bool) → agree (c .rods) (c .place) ≡ r
-        → cond p (cond (q && r) Sound (Disagreement (columnOf at "rods"))) (Disagreement (columnOf at "layer")) ≡ Sound
+        → cond p (cond (q && r) Sound (Disagreement (named columns at "rods"))) (Disagreement (named columns at "layer")) ≡ Sound
         → Agreed c
     go true e true f true g k =
         record { layer = agreed (c .layer) (c .thick) e; rodlen = agreed (c .rods) (c .rodlen) f; place = agreed (c .rods) (c .place) g }

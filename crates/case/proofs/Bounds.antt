@@ -1,6 +1,7 @@
 -- A case in which the checks find no fault is within its bounds.
 -- Assumes nothing.
 use Prim.Native.Nat.{ℕ, zero, suc, _+_, _≤_, _<_}
+use Prim.Native.String.{String}
 use mathlib.Core.Path.{_≡_, refl, ap}
 use mathlib.Core.Bool.{Bool, true, false, cond, _&&_, _||_}
 use mathlib.Core.Logic.{_⊎_, inl, inr, ⊎-elim}
@@ -9,27 +10,31 @@ use native.Mathlib.Omega.{arith}
 use lib.ListN.{length, getD}
 use lib.Dec.{T, leb, eqb, leb→le, eqb→eq}
 use Rattle.case.specs.declared.Case.{Case}
-use Rattle.case.specs.declared.Fault.{Fault}
-use Rattle.case.specs.declared.Fault.the-variants.{Sound, OutOfRange}
-use Rattle.case.specs.Columns.{columns, inRange}
+use Rattle.case.specs.declared.Finding.{Finding}
+use Rattle.case.specs.declared.Finding.the-variants.{Sound, OutOfRange, Disagreement}
+use Rattle.text.specs.Text.{bytes, same}
+use Rattle.case.specs.Columns.{columns, name-count, inRange, nameIndex, named}
 use Rattle.case.specs.Case.{values}
-use Rattle.case.specs.Check.{outOfRange, disagreement, caseFault, countFrom, ownPlaces, recordFault}
+use Rattle.case.specs.Check.{outOfRange, disagreement, finding, caseFinding, countFrom, ownPlaces, recordFinding, judgedBy, recordJudged}
+use Rattle.case.specs.declared.Judged.the-variants as judged
+use Rattle.case.specs.Parts.{rangeAt}
 use Rattle.case.specs.Bounds.{Placed, Between, Bare, Layered, Rodless, Rodded, Bounds}
-use Rattle.case.proofs.Ranges.{InRange, in-range, some-columns}
+use Rattle.case.proofs.Tests.{both, one-of}
+use Rattle.case.proofs.Ranges.{InRange, in-range, in-range-at, some-columns}
 use Rattle.case.proofs.Agreement.{Agree, Agreed, agreements}
 
 -- ---- the two tests of a sound case
 
 record Tests (at : List ℕ) (c : Case) : Type 0 where
   ranges : outOfRange columns at (values c) ≡ 0
-  agrees : disagreement at c ≡ Sound
+  agrees : disagreement columns at (values c) ≡ Sound
 
-tests : (at : List ℕ) (c : Case) → caseFault at c ≡ Sound → Tests at c
-unfolding caseFault
+tests : (at : List ℕ) (c : Case) → caseFinding at c ≡ Sound → Tests at c
+unfolding caseFinding finding
 tests at c h = go (eqb (outOfRange columns at (values c)) 0) refl h
   where
     go : (b : Bool) → eqb (outOfRange columns at (values c)) 0 ≡ b
-        → cond b (disagreement at c) (OutOfRange (outOfRange columns at (values c))) ≡ Sound → Tests at c
+        → cond b (disagreement columns at (values c)) (OutOfRange (outOfRange columns at (values c))) ≡ Sound → Tests at c
     go true t k = record { ranges = eqb→eq _ 0 (rw t tt); agrees = k }
     go false t k = let z : _≡_ {A = ℕ} 0 1 = cc in absurd (omega arith)
 
@@ -37,25 +42,13 @@ tests at c h = go (eqb (outOfRange columns at (values c)) 0) refl h
 
 -- what the three kinds of range say
 between : (a b x : ℕ) → T (leb a x && leb x b) → Between a x b
-between a b x h = record { low = leb→le a x (and-left (leb a x) (leb x b) h); high = leb→le x b (and-right (leb a x) (leb x b) h) }
-  where
-    and-left : (p q : Bool) → T (p && q) → T p
-    and-left true q t = tt
-    and-left false q t = t
-
-    and-right : (p q : Bool) → T (p && q) → T q
-    and-right true q t = t
-    and-right false q t = absurd t
-
-or-split : (p q : Bool) → T (p || q) → T p ⊎ T q
-or-split true q t = inl tt
-or-split false q t = inr t
+between a b x h = let t = both (leb a x) (leb x b) h in record { low = leb→le a x (t .0); high = leb→le x b (t .1) }
 
 zero-or : (a b x : ℕ) → T (eqb x 0 || leb a x && leb x b) → (x ≡ 0) ⊎ Between a x b
-zero-or a b x h = ⊎-elim (λ t. inl (eqb→eq x 0 t)) (λ t. inr (between a b x t)) (or-split (eqb x 0) (leb a x && leb x b) h)
+zero-or a b x h = ⊎-elim (λ t. inl (eqb→eq x 0 t)) (λ t. inr (between a b x t)) (one-of (eqb x 0) (leb a x && leb x b) h)
 
-one-of : (a b x : ℕ) → T (eqb x a || eqb x b) → (x ≡ a) ⊎ (x ≡ b)
-one-of a b x h = ⊎-elim (λ t. inl (eqb→eq x a t)) (λ t. inr (eqb→eq x b t)) (or-split (eqb x a) (eqb x b) h)
+either-of : (a b x : ℕ) → T (eqb x a || eqb x b) → (x ≡ a) ⊎ (x ≡ b)
+either-of a b x h = ⊎-elim (λ t. inl (eqb→eq x a t)) (λ t. inr (eqb→eq x b t)) (one-of (eqb x a) (eqb x b) h)
 
 surface : (c : Case) → (c .layer ≡ 0) ⊎ Between 100 (c .layer) 10000 → (c .thick ≡ 0) ⊎ Between 20 (c .thick) 300
     → Agree (c .layer) (c .thick) → Bare c ⊎ Layered c
@@ -74,29 +67,31 @@ rods c n (inr l) p (inr z) (inr y) =
     inr (record { rods = record { low = z .0; high = n }; rodlen = l; place = record { low = y .1; high = p } })
 
 bounded : (c : Case) → InRange columns (values c) → Agreed c → Bounds c
-unfolding columns values inRange
+unfolding columns values inRange rangeAt named nameIndex same
 bounded c r g =
+    let at : (name : String) → T (inRange (rangeAt columns (nameIndex columns (bytes name))) (named columns (values c) name))
+    = λ name. in-range-at columns (values c) refl r (nameIndex columns (bytes name)) in
     record {
-      station = between 1 65535 (c .station) (r .0);
-      season = between 1 4 (c .season) (r .1 .0);
-      soil = between 10 5000 (c .soil) (r .1 .1 .0);
-      surface = surface c (zero-or 100 10000 (c .layer) (r .1 .1 .1 .0)) (zero-or 20 300 (c .thick) (r .1 .1 .1 .1 .0)) (g .layer);
-      ms = between 9 3000 (c .ms) (r .1 .1 .1 .1 .1 .0);
-      body = one-of 50 70 (c .body) (r .1 .1 .1 .1 .1 .1 .0);
-      fault = between 100 80000 (c .fault) (r .1 .1 .1 .1 .1 .1 .1 .0);
-      split = between 1 1000 (c .split) (r .1 .1 .1 .1 .1 .1 .1 .1 .0);
-      xr = between 1 40 (c .xr) (r .1 .1 .1 .1 .1 .1 .1 .1 .1 .0);
-      lines = between 2 25 (c .lines) (r .1 .1 .1 .1 .1 .1 .1 .1 .1 .1 .0);
-      space = between 2500 30000 (c .space) (r .1 .1 .1 .1 .1 .1 .1 .1 .1 .1 .1 .0);
-      depth = between 250 2500 (c .depth) (r .1 .1 .1 .1 .1 .1 .1 .1 .1 .1 .1 .1 .0);
-      dia = between 50 300 (c .dia) (r .1 .1 .1 .1 .1 .1 .1 .1 .1 .1 .1 .1 .1 .0);
+      station = between 1 65535 (c .station) (at "station");
+      season = between 1 4 (c .season) (at "season");
+      soil = between 10 5000 (c .soil) (at "soil");
+      surface = surface c (zero-or 100 10000 (c .layer) (at "layer")) (zero-or 20 300 (c .thick) (at "thick")) (g .layer);
+      ms = between 9 3000 (c .ms) (at "ms");
+      body = either-of 50 70 (c .body) (at "body");
+      fault = between 100 80000 (c .fault) (at "fault");
+      split = between 1 1000 (c .split) (at "split");
+      xr = between 1 40 (c .xr) (at "xr");
+      lines = between 2 25 (c .lines) (at "lines");
+      space = between 2500 30000 (c .space) (at "space");
+      depth = between 250 2500 (c .depth) (at "depth");
+      dia = between 50 300 (c .dia) (at "dia");
       rods =
-          rods c (between 0 200 (c .rods) (r .1 .1 .1 .1 .1 .1 .1 .1 .1 .1 .1 .1 .1 .1 .0) .high) (zero-or 1000 10000 (c .rodlen) (r .1 .1 .1 .1 .1 .1 .1 .1 .1 .1 .1 .1 .1 .1 .1 .0))
-          (between 0 2 (c .place) (r .1 .1 .1 .1 .1 .1 .1 .1 .1 .1 .1 .1 .1 .1 .1 .1 .0) .high) (g .rodlen) (g .place);
-      metal = between 1 11 (c .metal) (r .1 .1 .1 .1 .1 .1 .1 .1 .1 .1 .1 .1 .1 .1 .1 .1 .1 .0);
+          rods c (between 0 200 (c .rods) (at "rods") .high) (zero-or 1000 10000 (c .rodlen) (at "rodlen"))
+          (between 0 2 (c .place) (at "place") .high) (g .rodlen) (g .place);
+      metal = between 1 11 (c .metal) (at "metal");
     }
 
-pub bounds : {at : List ℕ} {c : Case} → Placed at → caseFault at c ≡ Sound → Bounds c
+pub bounds : {at : List ℕ} {c : Case} → Placed columns at → caseFinding at c ≡ Sound → Bounds c
 bounds {at} {c} p h =
     bounded c (in-range columns at (values c) (p .count) (some-columns at (length columns) (p .count) (p .some)) (tests at c h .ranges))
     (agreements at c (tests at c h .agrees))
@@ -120,7 +115,7 @@ count-within first zero i h = omega arith
 count-within first (suc n) zero h = omega arith
 count-within first (suc n) (suc i) h = omega (arith, count-within (suc first) n i (omega arith))
 
-own-placed : Placed ownPlaces
+own-placed : Placed columns ownPlaces
 unfolding ownPlaces
 own-placed =
     record {
@@ -129,6 +124,11 @@ own-placed =
       within = λ i. omega (arith, count-within 1 (length columns) i (omega arith));
     }
 
-pub record-bounds : {c : Case} → recordFault c ≡ Sound → Bounds c
-unfolding recordFault
-record-bounds h = bounds own-placed h
+pub record-bounds : {c : Case} → recordJudged c ≡ judged.Sound → Bounds c
+unfolding recordFinding recordJudged judgedBy
+record-bounds {c} h = bounds own-placed (found (recordFinding c) h)
+  where
+    found : (f : Finding) → judgedBy f ≡ judged.Sound → f ≡ Sound
+    found Sound e = refl
+    found (OutOfRange k) e = let z : _≡_ {A = ℕ} 0 1 = cc in absurd (omega arith)
+    found (Disagreement k) e = let z : _≡_ {A = ℕ} 0 1 = cc in absurd (omega arith)

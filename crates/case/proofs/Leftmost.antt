@@ -8,23 +8,22 @@ use native.Mathlib.Numerals.{sub-one}
 use native.Mathlib.Omega.{arith}
 use lib.ListN.{length, getD, drop}
 use lib.Seq.{drop-cons}
-use Rattle.case.specs.Columns.{columns, inRange}
+use Rattle.case.specs.Columns.{columns, nameCount, name-count, inRange}
 use Rattle.case.specs.Check.{leftOf, outOfRange}
 use Rattle.case.specs.Parts.{rangeAt, noColumn}
-use Rattle.case.proofs.RangeTable.{columns-count}
 
 pub record Leftmost (at v : List ℕ) (c k : ℕ) : Type 0 where
-  pub columns-all : length at ≡ 18
-  pub values-all : length v ≡ 18
-  pub within : k ≤ 18
+  pub columns-all : length at ≡ nameCount
+  pub values-all : length v ≡ nameCount
+  pub within : k ≤ nameCount
   pub is : c ≡ outOfRange (drop k columns) (drop k at) (drop k v)
 
-pub leftmost-start : (at v : List ℕ) → length at ≡ 18 → length v ≡ 18 → Leftmost at v 0 18
+pub leftmost-start : (at v : List ℕ) → length at ≡ nameCount → length v ≡ nameCount → Leftmost at v 0 nameCount
 unfolding columns outOfRange
 leftmost-start at v p q = record { columns-all = p; values-all = q; within = omega arith; is = refl }
 
 pub leftmost-step : {at v : List ℕ} {c k : ℕ} (r : ℕ) → Leftmost at v c k → 0 < k
-    → r ≡ cond (inRange (rangeAt (k - 1)) (getD v (k - 1) 0)) c (leftOf (getD at (k - 1) 0) c) → Leftmost at v r (k - 1)
+    → r ≡ cond (inRange (rangeAt columns (k - 1)) (getD v (k - 1) 0)) c (leftOf (getD at (k - 1) 0) c) → Leftmost at v r (k - 1)
 unfolding outOfRange rangeAt
 leftmost-step {k = zero} r a h e = absurd (omega arith)
 leftmost-step {at} {v} {c} {k = suc k} r a h e =
@@ -33,7 +32,7 @@ leftmost-step {at} {v} {c} {k = suc k} r a h e =
       values-all = a .values-all;
       within = omega (arith, a .within);
       is =
-          rw (sub-one, drop-cons columns k noColumn (omega (arith, columns-count)), drop-cons at k 0 (omega arith), drop-cons v k 0 (omega arith), ← a .is)
+          rw (sub-one, drop-cons columns k noColumn (omega (arith, name-count)), drop-cons at k 0 (omega arith), drop-cons v k 0 (omega arith), ← a .is)
           (rw sub-one at e);
     }
 

@@ -1,6 +1,8 @@
+pub mod Tests
 pub mod Ranges
 pub mod Agreement
 pub mod Bounds
 pub mod RangeTable
 pub mod Leftmost
-pub mod Verdict
+pub mod Findings
+pub mod Values

@@ -5,21 +5,17 @@ use mathlib.Core.Path.{_≡_, refl}
 use mathlib.Core.List.{List, [], _∷_}
 use native.Mathlib.Omega.{arith}
 use lib.ListN.{length, getD}
-use Rattle.case.specs.Columns.{Range, from, zeroOr, either, Column, columns}
+use Rattle.case.specs.Columns.{Range, from, zeroOr, either, Column, Form, columns, nameCount, name-count}
 use Rattle.case.specs.Parts.{rangeOf, rangeAt, noColumn}
 use Rattle.case.specs.declared.range.Range.{Range as CodeRange}
 use Rattle.case.specs.declared.range.Range.the-variants.{From, ZeroOr, Either}
-
-pub columns-count : length columns ≡ 18
-unfolding columns
-columns-count = refl
 
 unfoldable pub inCode : Range → CodeRange
 inCode (from low high) = From low high
 inCode (zeroOr low high) = ZeroOr low high
 inCode (either a b) = Either a b
 
-abbrev pub tableOf : List Column → List CodeRange
+abbrev pub tableOf : Form → List CodeRange
 tableOf [] = []
 tableOf (x ∷ cs) = inCode (x .range) ∷ tableOf cs
 
@@ -29,11 +25,11 @@ same-range (from low high) = refl
 same-range (zeroOr low high) = refl
 same-range (either a b) = refl
 
-entry-of : (cs : List Column) (k : ℕ) (d : CodeRange) → k < length cs → rangeOf (getD (tableOf cs) k d) ≡ getD cs k noColumn .range
+entry-of : (cs : Form) (k : ℕ) (d : CodeRange) → k < length cs → rangeOf (getD (tableOf cs) k d) ≡ getD cs k noColumn .range
 entry-of [] k d h = absurd (omega arith)
 entry-of (x ∷ cs) zero d h = same-range (x .range)
 entry-of (x ∷ cs) (suc k) d h = entry-of cs k d (omega arith)
 
-pub table-entry : (k : ℕ) (d : CodeRange) → k < 18 → rangeOf (getD (tableOf columns) k d) ≡ rangeAt k
+pub table-entry : (k : ℕ) (d : CodeRange) → k < nameCount → rangeOf (getD (tableOf columns) k d) ≡ rangeAt columns k
 unfolding rangeAt
-table-entry k d h = entry-of columns k d (omega (arith, columns-count))
+table-entry k d h = entry-of columns k d (omega (arith, name-count))

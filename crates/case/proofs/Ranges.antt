@@ -7,11 +7,12 @@ use mathlib.Core.List.{List, [], _∷_}
 use native.Mathlib.Omega.{arith}
 use lib.ListN.{length, getD}
 use lib.Dec.{T, leb, eqb}
-use Rattle.case.specs.Columns.{Column, inRange}
+use Rattle.case.specs.Columns.{Form, inRange}
 use Rattle.case.specs.Check.{leftOf, outOfRange}
+use Rattle.case.specs.Parts.{rangeAt}
 
 -- every value of the list passes the test of its column
-abbrev pub InRange : List Column → List ℕ → Type 0
+abbrev pub InRange : Form → List ℕ → Type 0
 InRange [] v = Unit {0}
 InRange (k ∷ ks) [] = Unit {0}
 InRange (k ∷ ks) (x ∷ v) = T (inRange (k .range) x) × InRange ks v
@@ -33,7 +34,7 @@ left-some c d h = go (eqb d 0) refl (leb c d)
         false-zero : eqb 0 0 ≡ false → ⊥
         false-zero h = let z : _≡_ {A = ℕ} 0 1 = cc in omega arith
 
-pub in-range : (ks : List Column) (at v : List ℕ) → length at ≡ length ks → Some at → outOfRange ks at v ≡ 0 → InRange ks v
+pub in-range : (ks : Form) (at v : List ℕ) → length at ≡ length ks → Some at → outOfRange ks at v ≡ 0 → InRange ks v
 unfolding outOfRange
 in-range [] at v n s h = tt
 in-range (k ∷ ks) [] [] n s h = tt
@@ -51,3 +52,12 @@ pub some-columns : (at : List ℕ) (n : ℕ) → length at ≡ n → ((i : ℕ) 
 some-columns [] n e h = tt
 some-columns (c ∷ at) zero e h = absurd (omega arith)
 some-columns (c ∷ at) (suc n) e h = (h 0 (omega arith), some-columns at n (omega arith) (λ i l. h (suc i) (omega arith)))
+
+-- the value with index i is in the range of the column with index i
+pub in-range-at : (form : Form) (v : List ℕ) → length v ≡ length form → InRange form v → (i : ℕ) → T (inRange (rangeAt form i) (getD v i 0))
+unfolding rangeAt inRange
+in-range-at [] [] n r i = tt
+in-range-at [] (x ∷ v) n r i = absurd (omega arith)
+in-range-at (k ∷ ks) [] n r i = absurd (omega arith)
+in-range-at (k ∷ ks) (x ∷ v) n r zero = r .0
+in-range-at (k ∷ ks) (x ∷ v) n r (suc i) = in-range-at ks v (omega arith) (r .1) i

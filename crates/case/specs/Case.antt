@@ -1,4 +1,4 @@
--- A case and its eighteen values in the order of the table of names.
+-- A case and its values in the order of the table of names.
 -- Assumes nothing.
 use Prim.Native.Nat.{ℕ}
 use mathlib.Core.Path.{_≡_, refl}
@@ -6,14 +6,14 @@ use mathlib.Core.List.{List, [], _∷_}
 use lib.ListN.{getD}
 use Rattle.case.specs.declared.Case.{Case}
 
-unfoldable pub values : Case → List ℕ
+abbrev pub values : Case → List ℕ
 values c =
     c .station ∷ c .season ∷ c .soil ∷ c .layer ∷ c .thick ∷ c .ms
     ∷ c .body ∷ c .fault ∷ c .split ∷ c .xr ∷ c .lines ∷ c .space
     ∷ c .depth ∷ c .dia ∷ c .rods ∷ c .rodlen ∷ c .place ∷ c .metal
     ∷ []
 
-unfoldable pub caseOf : List ℕ → Case
+abbrev pub caseOf : List ℕ → Case
 caseOf v =
     record {
       station = getD v 0 0;

@@ -3,7 +3,9 @@
 use Prim.Native.Nat.{ℕ, zero, suc}
 use Prim.Native.String.{String}
 use mathlib.Core.Bool.{Bool, cond, _&&_, _||_}
+use mathlib.Core.Path.{_≡_, refl}
 use mathlib.Core.List.{List, [], _∷_}
+use lib.ListN.{length, getD}
 use lib.Dec.{leb, eqb}
 use Rattle.text.specs.Text.{bytes, same}
 
@@ -22,11 +24,15 @@ pub record Column : Type 0 where
   pub name : List ℕ
   pub range : Range
 
+-- a form of sheet: its table of names
+abbrev pub Form : Type 0
+Form = List Column
+
 abbrev column : String → Range → Column
 column name range = record { name = bytes name; range = range }
 
--- the eighteen names with their ranges
-unfoldable pub columns : List Column
+-- document 01's names with their ranges
+unfoldable pub columns : Form
 columns =
     column "station" (from 1 65535)
     ∷ column "season" (from 1 4)
@@ -48,10 +54,19 @@ columns =
     ∷ column "metal" (from 1 11)
     ∷ []
 
--- the index of a name in the table, from 0, or the table's length where it is none of the names
-unfoldable pub indexAmong : List ℕ → List Column → ℕ
-indexAmong name [] = zero
-indexAmong name (c ∷ cs) = cond (same name (c .name)) zero (suc (indexAmong name cs))
+-- how many they are
+abbrev pub nameCount : ℕ
+nameCount = 18
 
-unfoldable pub nameIndex : List ℕ → ℕ
-nameIndex name = indexAmong name columns
+pub name-count : length columns ≡ nameCount
+unfolding columns
+name-count = refl
+
+-- the index of a name in a form, from 0, or the form's length where it is none of the names
+unfoldable pub nameIndex : Form → List ℕ → ℕ
+nameIndex [] name = zero
+nameIndex (c ∷ form) name = cond (same name (c .name)) zero (suc (nameIndex form name))
+
+-- what a list in the order of a form has for a name: of columns the name's column, of values its value
+unfoldable pub named : Form → List ℕ → String → ℕ
+named form list name = getD list (nameIndex form (bytes name)) 0

@@ -3,34 +3,29 @@
 use Prim.Native.Nat.{ℕ}
 use mathlib.Core.Path.{_≡_, refl}
 use mathlib.Core.List.{List, [], _∷_, map}
-use lib.ListN.{length}
 use Rattle.text.specs.Text.{same}
-use Rattle.case.specs.declared.Fault.{Fault}
-use Rattle.case.specs.declared.Fault.the-variants.{Sound, OutOfRange, Disagreement}
-use Rattle.case.specs.Columns.{columns, inRange, indexAmong, nameIndex}
+use Rattle.case.specs.declared.Finding.{Finding}
+use Rattle.case.specs.declared.Finding.the-variants.{Sound, OutOfRange, Disagreement}
+use Rattle.case.specs.Columns.{columns, inRange, nameIndex, named}
 use Rattle.case.specs.Case.{values, caseOf}
-use Rattle.case.specs.Check.{columnOf, leftOf, outOfRange, agree, disagreement, caseFault, countFrom, ownPlaces, recordFault}
+use Rattle.case.specs.Check.{leftOf, outOfRange, agree, disagreement, finding, caseFinding, countFrom, ownPlaces, recordFinding}
 
--- the fault of the record of eighteen values
-fault : List ℕ → Fault
-unfolding same columns inRange indexAmong nameIndex values caseOf columnOf leftOf outOfRange agree disagreement caseFault countFrom ownPlaces recordFault
-fault v = recordFault (caseOf v)
-
-count : length columns ≡ 18
-unfolding columns
-count = refl
+-- the finding of the record of some values
+found : List ℕ → Finding
+unfolding same columns inRange nameIndex named values caseOf leftOf outOfRange agree disagreement finding caseFinding countFrom ownPlaces recordFinding
+found v = recordFinding (caseOf v)
 
 -- document 01's sample, and the ends of every range with a layer and rods
-sound : map fault (
+sound : map found (
     (7 ∷ 1 ∷ 400 ∷ 2500 ∷ 102 ∷ 500 ∷ 70 ∷ 3180 ∷ 600 ∷ 10 ∷ 11 ∷ 7000 ∷ 500 ∷ 100 ∷ 0 ∷ 0 ∷ 0 ∷ 1 ∷ [])
     ∷ (1 ∷ 1 ∷ 10 ∷ 100 ∷ 20 ∷ 9 ∷ 50 ∷ 100 ∷ 1 ∷ 1 ∷ 2 ∷ 2500 ∷ 250 ∷ 50 ∷ 1 ∷ 1000 ∷ 1 ∷ 1 ∷ [])
     ∷ (65535 ∷ 4 ∷ 5000 ∷ 10000 ∷ 300 ∷ 3000 ∷ 70 ∷ 80000 ∷ 1000 ∷ 40 ∷ 25 ∷ 30000 ∷ 2500 ∷ 300 ∷ 200 ∷ 10000 ∷ 2 ∷ 11 ∷ [])
     ∷ []) ≡ Sound ∷ Sound ∷ Sound ∷ []
-unfolding fault
+unfolding found
 sound = refl
 
 -- every value one below its range, then one above, with only the first column at fault reported: depth 249 and 2501 alone
-refused : map fault (
+refused : map found (
     (7 ∷ 1 ∷ 400 ∷ 0 ∷ 0 ∷ 500 ∷ 70 ∷ 3180 ∷ 600 ∷ 10 ∷ 11 ∷ 7000 ∷ 249 ∷ 100 ∷ 0 ∷ 0 ∷ 0 ∷ 1 ∷ [])
     ∷ (7 ∷ 1 ∷ 400 ∷ 0 ∷ 0 ∷ 500 ∷ 70 ∷ 3180 ∷ 600 ∷ 10 ∷ 11 ∷ 7000 ∷ 2501 ∷ 100 ∷ 0 ∷ 0 ∷ 0 ∷ 1 ∷ [])
     ∷ (0 ∷ 0 ∷ 9 ∷ 99 ∷ 19 ∷ 8 ∷ 49 ∷ 99 ∷ 0 ∷ 0 ∷ 1 ∷ 2499 ∷ 249 ∷ 49 ∷ 201 ∷ 999 ∷ 3 ∷ 0 ∷ [])
@@ -39,16 +34,16 @@ refused : map fault (
     ∷ (7 ∷ 1 ∷ 400 ∷ 0 ∷ 0 ∷ 500 ∷ 60 ∷ 80001 ∷ 1001 ∷ 41 ∷ 26 ∷ 30001 ∷ 2501 ∷ 301 ∷ 201 ∷ 10001 ∷ 3 ∷ 12 ∷ [])
     ∷ (7 ∷ 1 ∷ 400 ∷ 0 ∷ 0 ∷ 500 ∷ 70 ∷ 3180 ∷ 600 ∷ 10 ∷ 11 ∷ 7000 ∷ 500 ∷ 100 ∷ 0 ∷ 0 ∷ 0 ∷ 12 ∷ [])
     ∷ []) ≡ OutOfRange 13 ∷ OutOfRange 13 ∷ OutOfRange 1 ∷ OutOfRange 2 ∷ OutOfRange 4 ∷ OutOfRange 7 ∷ OutOfRange 18 ∷ []
-unfolding fault
+unfolding found
 refused = refl
 
 -- layer without thick, thick without layer, layer before rods, and each of rods, rodlen, place alone or missing
-disagreeing : map fault (
+disagreeing : map found (
     (7 ∷ 1 ∷ 400 ∷ 2500 ∷ 0 ∷ 500 ∷ 70 ∷ 3180 ∷ 600 ∷ 10 ∷ 11 ∷ 7000 ∷ 500 ∷ 100 ∷ 0 ∷ 0 ∷ 0 ∷ 1 ∷ [])
     ∷ (7 ∷ 1 ∷ 400 ∷ 0 ∷ 102 ∷ 500 ∷ 70 ∷ 3180 ∷ 600 ∷ 10 ∷ 11 ∷ 7000 ∷ 500 ∷ 100 ∷ 5 ∷ 0 ∷ 0 ∷ 1 ∷ [])
     ∷ (7 ∷ 1 ∷ 400 ∷ 0 ∷ 0 ∷ 500 ∷ 70 ∷ 3180 ∷ 600 ∷ 10 ∷ 11 ∷ 7000 ∷ 500 ∷ 100 ∷ 5 ∷ 0 ∷ 1 ∷ 1 ∷ [])
     ∷ (7 ∷ 1 ∷ 400 ∷ 0 ∷ 0 ∷ 500 ∷ 70 ∷ 3180 ∷ 600 ∷ 10 ∷ 11 ∷ 7000 ∷ 500 ∷ 100 ∷ 5 ∷ 1000 ∷ 0 ∷ 1 ∷ [])
     ∷ (7 ∷ 1 ∷ 400 ∷ 0 ∷ 0 ∷ 500 ∷ 70 ∷ 3180 ∷ 600 ∷ 10 ∷ 11 ∷ 7000 ∷ 500 ∷ 100 ∷ 0 ∷ 1000 ∷ 2 ∷ 1 ∷ [])
     ∷ []) ≡ Disagreement 4 ∷ Disagreement 4 ∷ Disagreement 15 ∷ Disagreement 15 ∷ Disagreement 15 ∷ []
-unfolding fault
+unfolding found
 disagreeing = refl

@@ -3,7 +3,7 @@
 use Prim.Native.Nat.{ℕ}
 use mathlib.Core.List.{[]}
 use lib.ListN.{getD}
-use Rattle.case.specs.Columns.{Range, from, zeroOr, either, Column, columns}
+use Rattle.case.specs.Columns.{Range, from, zeroOr, either, Column, Form}
 use Rattle.case.specs.declared.range.Range.{Range as CodeRange}
 use Rattle.case.specs.declared.range.Range.the-variants.{From, ZeroOr, Either}
 
@@ -18,5 +18,5 @@ abbrev pub noColumn : Column
 noColumn = record { name = []; range = from 0 0 }
 
 -- the range of the name with index k
-unfoldable pub rangeAt : ℕ → Range
-rangeAt k = getD columns k noColumn .range
+unfoldable pub rangeAt : Form → ℕ → Range
+rangeAt form k = getD form k noColumn .range

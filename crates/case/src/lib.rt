@@ -4,11 +4,14 @@ mod range;
 
 ghost use mathlib.Core.Path.{_≡_};
 ghost use Rattle.case.specs.Case.{values, caseOf};
-ghost use Rattle.case.specs.Check.{caseFault, recordFault};
+ghost use Rattle.case.specs.Check.{caseFinding, recordFinding, recordJudged};
 use parts::disagreement;
 use parts::out_of_range;
 
-// The eighteen numbers of document 01's table of names, in its order and units.
+// How many names document 01's table has.
+pub const NAMES: usize = 18;
+
+// The numbers of document 01's table of names, in its order and units.
 pub struct Case {
     pub station: u32,
     pub season: u32,
@@ -31,14 +34,20 @@ pub struct Case {
 }
 
 // What the checks of a case find, with the column at fault.
-pub enum Fault {
+pub enum Finding {
     Sound,
     OutOfRange(usize),
     Disagreement(usize),
 }
 
-// The case of eighteen values in the order of the names.
-pub fn case_of(v: [u32; 18]) -> Case
+// What the checks of a record answer before anything is asked of it: sound, or a refusal with number, line and column.
+pub enum Judged {
+    Sound,
+    Refused(u32, usize, usize),
+}
+
+// The case of the values in the order of the names.
+pub fn case_of(v: [u32; NAMES]) -> Case
     ensures { λ r. ⌜ r ≡ caseOf v ⌝ }
 {
     Case {
@@ -64,7 +73,7 @@ pub fn case_of(v: [u32; 18]) -> Case
 }
 
 // The values of a case in the order of the names.
-fn values_of(c: Case) -> [u32; 18]
+fn values_of(c: Case) -> [u32; NAMES]
     ensures { λ r. ⌜ r ≡ values c ⌝ }
 {
     [
@@ -90,20 +99,20 @@ fn values_of(c: Case) -> [u32; 18]
 }
 
 // Refusals 5 and 6 of a case; at holds the columns of the names.
-pub fn check_case(at: [usize; 18], c: Case) -> Fault
-    ensures { λ r. ⌜ r ≡ caseFault at c ⌝ }
+pub fn check_case(at: [usize; NAMES], c: Case) -> Finding
+    ensures { λ r. ⌜ r ≡ caseFinding at c ⌝ }
 {
     let v = values_of(c);
     let column = out_of_range(at, v);
     if column != 0 {
-        return Fault::OutOfRange(column);
+        return Finding::OutOfRange(column);
     }
     disagreement(at, c)
 }
 
 // Refusals 5 and 6 of a record, whose columns are the places of the names.
-pub fn check(c: Case) -> Fault
-    ensures { λ r. ⌜ r ≡ recordFault c ⌝ }
+fn check(c: Case) -> Finding
+    ensures { λ r. ⌜ r ≡ recordFinding c ⌝ }
 {
     check_case(
         [
@@ -128,4 +137,15 @@ pub fn check(c: Case) -> Fault
         ],
         c,
     )
+}
+
+// The refusal of a record, if its checks find a fault.
+pub fn judge(c: Case) -> Judged
+    ensures { λ r. ⌜ r ≡ recordJudged c ⌝ }
+{
+    match check(c) {
+        Finding::Sound => Judged::Sound,
+        Finding::OutOfRange(column) => Judged::Refused(5, 0, column),
+        Finding::Disagreement(column) => Judged::Refused(6, 0, column),
+    }
 }

@@ -2,12 +2,19 @@
 ghost use mathlib.Core.Path.{_≡_};
 ghost use mathlib.Core.Bool.{cond};
 ghost use Prim.Native.Nat.{_<_};
-ghost use Rattle.case.specs.Columns.{columns, inRange};
+ghost use Rattle.case.specs.Columns.{columns, nameCount, inRange};
+ghost use Rattle.case.specs.Case.{values};
 ghost use Rattle.case.specs.Check.{leftOf, outOfRange, agree as agreeing, disagreement as disagreeing};
 ghost use Rattle.case.specs.Parts.{rangeAt};
 use crate::Case;
-use crate::Fault;
+use crate::Finding;
+use crate::NAMES;
 use crate::range::in_range;
+
+// The places of layer and rods among the names.
+const LAYER: usize = 3;
+
+const RODS: usize = 14;
 
 // The lesser of two columns, where 0 is none.
 fn left_of(a: usize, c: usize) -> usize
@@ -24,8 +31,8 @@ fn left_of(a: usize, c: usize) -> usize
 
 // The leftmost column at fault from name k on: a is its column, v its value, c the leftmost after it.
 fn worse(k: usize, v: u32, a: usize, c: usize) -> usize
-    requires { ⌜ k < 18 ⌝ }
-    ensures { λ r. ⌜ r ≡ cond (inRange (rangeAt k) v) c (leftOf a c) ⌝ }
+    requires { ⌜ k < nameCount ⌝ }
+    ensures { λ r. ⌜ r ≡ cond (inRange (rangeAt columns k) v) c (leftOf a c) ⌝ }
 {
     if in_range(k, v) {
         return c;
@@ -34,11 +41,11 @@ fn worse(k: usize, v: u32, a: usize, c: usize) -> usize
 }
 
 // The leftmost column whose value is out of its range, or 0.
-pub fn out_of_range(at: [usize; 18], v: [u32; 18]) -> usize
+pub fn out_of_range(at: [usize; NAMES], v: [u32; NAMES]) -> usize
     ensures { λ r. ⌜ r ≡ outOfRange columns at v ⌝ }
 {
     let mut c: usize = 0;
-    let mut k: usize = 18;
+    let mut k: usize = NAMES;
     while 0 < k {
         k -= 1;
         c = worse(k, v[k], at[k], c);
@@ -54,17 +61,17 @@ fn agree(a: u32, b: u32) -> bool
 }
 
 // Layer and thick agree, then rods, rodlen and place.
-pub fn disagreement(at: [usize; 18], c: Case) -> Fault
-    ensures { λ r. ⌜ r ≡ disagreeing at c ⌝ }
+pub fn disagreement(at: [usize; NAMES], c: Case) -> Finding
+    ensures { λ r. ⌜ r ≡ disagreeing columns at (values c) ⌝ }
 {
     if !agree(c.layer, c.thick) {
-        return Fault::Disagreement(at[3]);
+        return Finding::Disagreement(at[LAYER]);
     }
     if !agree(c.rods, c.rodlen) {
-        return Fault::Disagreement(at[14]);
+        return Finding::Disagreement(at[RODS]);
     }
     if agree(c.rods, c.place) {
-        return Fault::Sound;
+        return Finding::Sound;
     }
-    Fault::Disagreement(at[14])
+    Finding::Disagreement(at[RODS])
 }

@@ -1,8 +1,9 @@
 // The table of ranges.
 ghost use mathlib.Core.Path.{_≡_};
 ghost use Prim.Native.Nat.{_<_};
-ghost use Rattle.case.specs.Columns.{inRange};
+ghost use Rattle.case.specs.Columns.{columns, nameCount, inRange};
 ghost use Rattle.case.specs.Parts.{rangeOf, rangeAt};
+use crate::NAMES;
 
 // The three kinds of range: "1..4", "0 or 20..300", "50 or 70".
 pub enum Range {
@@ -12,7 +13,7 @@ pub enum Range {
 }
 
 // The ranges in the order of the names.
-const RANGES: [Range; 18] = [
+const RANGES: [Range; NAMES] = [
     Range::From(1, 65535),
     Range::From(1, 4),
     Range::From(10, 5000),
@@ -34,8 +35,8 @@ const RANGES: [Range; 18] = [
 ];
 
 fn entry(k: usize) -> Range
-    requires { ⌜ k < 18 ⌝ }
-    ensures { λ r. ⌜ rangeOf r ≡ rangeAt k ⌝ }
+    requires { ⌜ k < nameCount ⌝ }
+    ensures { λ r. ⌜ rangeOf r ≡ rangeAt columns k ⌝ }
 {
     RANGES[k]
 }
@@ -53,8 +54,8 @@ fn within(r: Range, v: u32) -> bool
 
 // Whether v is in the range of the name with index k.
 pub fn in_range(k: usize, v: u32) -> bool
-    requires { ⌜ k < 18 ⌝ }
-    ensures { λ b. ⌜ b ≡ inRange (rangeAt k) v ⌝ }
+    requires { ⌜ k < nameCount ⌝ }
+    ensures { λ b. ⌜ b ≡ inRange (rangeAt columns k) v ⌝ }
 {
     within(entry(k), v)
 }

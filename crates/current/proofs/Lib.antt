@@ -1,3 +1,4 @@
 pub mod SquareLoad
 pub mod Smallest
 pub mod DrivingProduct
+pub mod Metals

@@ -1,23 +1,23 @@
 -- The square of I·Kf times t by two halves: it fits 64 bits, and rounding up twice rounds up once.
 -- Assumes nothing.
-use Prim.Native.Nat.{ℕ, _+_, _-_, _*_, _/_, _%_, _^_, _≤_, _<_}
+use Prim.Native.Nat.{ℕ, _+_, _*_, _/_, _%_, _^_, _≤_, _<_}
 use mathlib.Core.Path.{_≡_, ap}
 use native.Mathlib.Omega.{arith}
 use native.Mathlib.Nat.{mul-le-mul, mul-le-mul-left, div-add-mod'}
-use Rattle.current.specs.Size.{ceilDiv, squareLoad, IsSmallest}
+use lib.Dec.{lit<}
+use Rattle.interval.specs.Whole.{ceilDiv}
+use Rattle.interval.proofs.Rounding.{ceilDiv-above, ceilDiv-below, ceilDiv-by}
+use Rattle.current.specs.Size.{squareLoad}
 
 -- rounded up by a million
 pub ceil-low : (n : ℕ) → n ≤ ceilDiv n 1000000 * 1000000
-unfolding ceilDiv
-ceil-low n = omega arith
+ceil-low n = ceilDiv-above n (lit< tt)
 
 pub ceil-high : (n : ℕ) → ceilDiv n 1000000 * 1000000 < n + 1000000
-unfolding ceilDiv
-ceil-high n = omega arith
+ceil-high n = ceilDiv-below n (lit< tt)
 
 pub ceil-small : (n : ℕ) → ceilDiv n 1000000 ≤ n
-unfolding ceilDiv
-ceil-small n = omega arith
+ceil-small n = ceilDiv-by n {d = 1000000} (lit< tt) (omega arith)
 
 -- ---- sizes
 

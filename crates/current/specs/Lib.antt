@@ -1,3 +1,4 @@
+pub mod Metal
 pub mod Size
 pub mod Loop
 pub mod Drive

@@ -1,10 +1,7 @@
 -- How the conductor size is worked within 64 bits: the square of I·Kf times t, in units that lose nothing by rounding up.
 -- Assumes nothing.
-use Prim.Native.Nat.{ℕ, _+_, _-_, _*_, _/_, _%_, _≤_, _<_}
-
--- n / d rounded up
-unfoldable pub ceilDiv : ℕ → ℕ → ℕ
-ceilDiv n d = (n + (d - 1)) / d
+use Prim.Native.Nat.{ℕ, _+_, _*_, _/_, _%_, _≤_, _<_}
+use Rattle.interval.specs.Whole.{ceilDiv}
 
 -- x² · ms / 10^12 rounded up, by the two halves of x
 unfoldable pub squareLoad : ℕ → ℕ → ℕ

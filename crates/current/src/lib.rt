@@ -7,5 +7,6 @@ mod size;
 pub use decrement::decrement_factor;
 pub use decrement::grid_current;
 pub use driving::drive;
+pub use metal::Constant;
 pub use metal::Metal;
 pub use size::conductor_size;

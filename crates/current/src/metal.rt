@@ -1,9 +1,16 @@
 // The metals of IEEE Std 80-2013, Table 2.
 ghost use mathlib.Core.Path.{_≡_};
-ghost use Rattle.formulas.specs.Size.{Kf};
+ghost use Rattle.current.specs.Metal.{constantOf};
 
+// A metal by its number in the table.
 pub struct Metal {
     pub number: u32,
+}
+
+// What the table has for a metal: Kf in hundredths, or nothing.
+pub enum Constant {
+    Kf(u32),
+    Unknown,
 }
 
 // Kf of each metal in hundredths.
@@ -30,23 +37,24 @@ impl Metal {
 
     pub const STAINLESS_304: u32 = 3005;
 
-    // Kf by the metal's number; 0 where no metal has it.
-    pub fn kf(number: u32) -> u32
-        ensures { λ r. ⌜ r ≡ Kf number ⌝ }
+    // The metal's own Kf.
+    pub fn kf(self) -> Constant
+        ensures { λ r. ⌜ r ≡ constantOf (self .number) ⌝ }
     {
+        let number = self.number;
         match number {
-            1 => Metal::SOFT_DRAWN_COPPER,
-            2 => Metal::HARD_DRAWN_COPPER,
-            3 => Metal::HARD_DRAWN_COPPER_250,
-            4 => Metal::COPPER_CLAD_WIRE_40,
-            5 => Metal::COPPER_CLAD_WIRE_30,
-            6 => Metal::COPPER_CLAD_ROD,
-            7 => Metal::ALUMINUM_CLAD_WIRE,
-            8 => Metal::STEEL_1020,
-            9 => Metal::STAINLESS_CLAD_ROD,
-            10 => Metal::ZINC_COATED_ROD,
-            11 => Metal::STAINLESS_304,
-            _ => 0,
+            1 => Constant::Kf(Metal::SOFT_DRAWN_COPPER),
+            2 => Constant::Kf(Metal::HARD_DRAWN_COPPER),
+            3 => Constant::Kf(Metal::HARD_DRAWN_COPPER_250),
+            4 => Constant::Kf(Metal::COPPER_CLAD_WIRE_40),
+            5 => Constant::Kf(Metal::COPPER_CLAD_WIRE_30),
+            6 => Constant::Kf(Metal::COPPER_CLAD_ROD),
+            7 => Constant::Kf(Metal::ALUMINUM_CLAD_WIRE),
+            8 => Constant::Kf(Metal::STEEL_1020),
+            9 => Constant::Kf(Metal::STAINLESS_CLAD_ROD),
+            10 => Constant::Kf(Metal::ZINC_COATED_ROD),
+            11 => Constant::Kf(Metal::STAINLESS_304),
+            _ => Constant::Unknown,
         }
     }
 }

@@ -2,20 +2,35 @@
 ghost use mathlib.Core.Path.{_≡_};
 ghost use Prim.Native.Nat.{_*_, _≤_, _<_, _^_};
 ghost use Rattle.case.specs.Bounds.{Bounds};
+ghost use Rattle.formulas.specs.Decrement.{Df};
 ghost use Rattle.formulas.specs.Size.{duty, size};
-ghost use Rattle.current.specs.Size.{ceilDiv, squareLoad, IsSmallest};
+ghost use Rattle.interval.specs.Whole.{ceilDiv};
+ghost use Rattle.current.specs.Size.{squareLoad, IsSmallest};
 use crate::decrement::decrement_factor;
+use crate::metal::Constant;
 use crate::metal::Metal;
 use case::Case;
+
+// I in thousandths of an ampere.
+fn fault_current(c: Case) -> u64
+    requires { ⌜ Bounds c ⌝ }
+    ensures { λ r. ⌜ r ≡ c .fault * Df c ⌝ }
+{
+    let df = decrement_factor(c);
+    (c.fault as u64) * (df as u64)
+}
 
 // I·Kf in units of 10^-8.
 fn load(c: Case) -> u64
     requires { ⌜ Bounds c ⌝ }
     ensures { λ r. ⌜ r ≡ duty c ⌝ }
 {
-    let df = decrement_factor(c.ms, c.xr);
-    let kf = Metal::kf(c.metal);
-    (c.fault as u64) * (df as u64) * (kf as u64)
+    let current = fault_current(c);
+    let constant = Metal { number: c.metal }.kf();
+    let Constant::Kf(kf) = constant else {
+        return 0;
+    };
+    current * (kf as u64)
 }
 
 // n / d rounded up.

@@ -9,13 +9,13 @@ use Rattle.interval.specs.Operations.{point, scaledOf, outwardOf}
 use Rattle.interval.specs.declared.Interval.{Interval}
 use Rattle.exact.specs.Fraction.{Fraction, _≤f_, _≈f_, whole, decimal}
 use Rattle.exact.specs.Exact.{Exact, exactly, Holds}
-use Rattle.exact.specs.Depth.{Consistent, Within, Proper}
+use Rattle.exact.specs.Depth.{workDepth, Consistent, Within, Proper, SameEnds}
 use Rattle.exact.specs.Reported.{Scale, ten, over, reported}
 use Rattle.exact.proofs.Consistency.{proper-at}
 use Rattle.exact.proofs.Holding.{holds-depth}
-use Rattle.exact.proofs.Inclusion.{within-exactly, within-trans, proper-within}
+use Rattle.exact.proofs.Inclusion.{within-exactly, within-same, within-trans, proper-within}
 use Rattle.exact.proofs.Reported.{reported-within}
-use Rattle.enclosure.specs.Enclosure.{Encloses, workDepth}
+use Rattle.enclosure.specs.Enclosure.{Encloses}
 use Rattle.enclosure.proofs.Counts.{over-le, over-scaled, over-floor, over-ceil, whole-count, decimal-count}
 
 -- "A reported pair holds the exact value": at every depth
@@ -30,6 +30,10 @@ module _ {x : Exact} {u : Scale} {i : Interval} (c : Consistent x) (e : Encloses
   pub encloses-ordered : i .lower ≤ℤ i .upper
   unfolding reported
   encloses-ordered = over-le u (encloses-proper .proper)
+
+-- a value with the same ends at the depth of code
+pub encloses-same : {x y : Exact} {u : Scale} {i : Interval} → SameEnds (y workDepth) (x workDepth) → Encloses x u i → Encloses y u i
+encloses-same s e = record { within = within-trans (within-same s) (e .within) }
 
 -- ---- fractions
 

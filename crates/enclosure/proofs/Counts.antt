@@ -47,7 +47,6 @@ over-times z u k = omega (arith, ap (λ t. t * u .count) (scale-plus z k), ap (�
 -- divided, with the scale
 module _ (z : ℤ) (u w : Scale) (m : ℕ) (e : w .count * m ≡ u .count) where
   pub over-floor : over (floorZ z m) w ≤f over z u
-  unfolding floorZ
   over-floor = over-down z w u (factor-positive u w e) (sym e)
 
   scaled : (n : ℕ) → n * m * w .count ≡ n * u .count

@@ -42,7 +42,6 @@ module _ (z : ℤ) (k : ℕ) {c : ℕ} (hc : 0 < c) (u v w : Scale) (s : k * u .
   )
 
   rounded-low : over (floorZ (z *ℤ pos k) c) w ≤f over z u ÷f over (pos c) v
-  unfolding floorZ
   rounded-low =
       let f : ℤ = floorZ (z *ℤ pos k) c in
       let below = mul-le-mul-right (u .count) (floor-below (z *ℤ pos k) hc) in

@@ -12,11 +12,12 @@ use Rattle.interval.specs.declared.Interval.{Interval}
 use Rattle.interval.proofs.Natural.{point-natural}
 use Rattle.exact.specs.Fraction.{Fraction, top}
 use Rattle.exact.specs.Exact.{Exact, exactly}
+use Rattle.exact.specs.Depth.{workDepth}
 use Rattle.exact.specs.Root.{root}
 use Rattle.exact.specs.Reported.{Scale, over, reported}
 use Rattle.exact.proofs.Inclusion.{within-refl}
 use Rattle.exact.proofs.Roots.{root-within}
-use Rattle.enclosure.specs.Enclosure.{Encloses, workDepth}
+use Rattle.enclosure.specs.Enclosure.{Encloses}
 
 -- the numerator of a count
 top-count : (n : ℕ) (v : Scale) → top (over (pos n) v) ≡ n

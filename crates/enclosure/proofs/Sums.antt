@@ -2,21 +2,20 @@
 -- Assumes nothing.
 use Prim.Native.Nat.{ℕ}
 use lib.Dec.{lit≤}
-use lib.IntN.{pos, _-ℤ_, +ℤ-idl}
-use Rattle.interval.specs.Operations.{point, sumOf, differenceOf, scaledOf}
+use Rattle.interval.specs.Operations.{sumOf, differenceOf, minusOf, scaledOf}
 use Rattle.interval.specs.declared.Interval.{Interval}
-use Rattle.exact.specs.Fraction.{_≤f_, whole, neg}
+use Rattle.exact.specs.Fraction.{_≤f_, whole}
 use Rattle.exact.specs.Ends.{minusEnds}
 use Rattle.exact.specs.Exact.{Exact, exactly, _+x_, _−x_, _·x_, minus}
-use Rattle.exact.specs.Depth.{Consistent, Within}
-use Rattle.exact.specs.Reported.{Scale, over, reported}
+use Rattle.exact.specs.Depth.{workDepth, Consistent, Within}
+use Rattle.exact.specs.Reported.{Scale, reported}
 use Rattle.exact.proofs.Order.{trans≤, nonneg}
 use Rattle.exact.proofs.Products.{mul-left≤}
 use Rattle.exact.proofs.Consistency.{proper-at}
 use Rattle.exact.proofs.Inclusion.{within-sum, within-difference, within-minus, within-trans, within-same}
 use Rattle.exact.proofs.KnownEnds.{sumEnds, differenceEnds, sum-ends, difference-ends, scaled-ends}
 use Rattle.exact.proofs.Reported.{over-neg, over-sum, over-difference}
-use Rattle.enclosure.specs.Enclosure.{Encloses, workDepth}
+use Rattle.enclosure.specs.Enclosure.{Encloses}
 use Rattle.enclosure.proofs.Counts.{over-times}
 use Rattle.enclosure.proofs.Basics.{encloses-proper}
 
@@ -61,10 +60,10 @@ encloses-times {x} {u} {a} k c e =
           });
     }
 
--- minus a value: 0 − a
-pub encloses-minus : {x : Exact} {u : Scale} {a : Interval} → Encloses x u a → Encloses (minus x) u (differenceOf (point (pos 0)) a)
-unfolding reported differenceOf point minusEnds
-encloses-minus {x} {u} {a} e =
-    let below : over (pos 0 -ℤ a .upper) u ≤f neg (over (a .upper) u) = rw +ℤ-idl (over-neg (a .upper) u .to) in
-    let above : neg (over (a .lower) u) ≤f over (pos 0 -ℤ a .lower) u = rw +ℤ-idl (over-neg (a .lower) u .fro) in
-    record { within = within-trans (within-minus x workDepth (e .within)) (record { low = below; high = above }) }
+-- minus a value
+pub minus-within : (u : Scale) (a : Interval) → Within (minusEnds (reported u a)) (reported u (minusOf a))
+unfolding minusEnds reported minusOf
+minus-within u a = record { low = over-neg (a .upper) u .to; high = over-neg (a .lower) u .fro }
+
+pub encloses-minus : {x : Exact} {u : Scale} {a : Interval} → Encloses x u a → Encloses (minus x) u (minusOf a)
+encloses-minus {x} {u} {a} e = record { within = within-trans (within-minus x workDepth (e .within)) (minus-within u a) }

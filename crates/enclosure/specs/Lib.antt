@@ -1,2 +1,3 @@
 pub mod Enclosure
 pub mod SquareRoot
+pub mod Pi

@@ -12,7 +12,7 @@ use Rattle.exact.specs.Root.{greatestBelow, root}
 use Rattle.exact.specs.Logarithm.{argument, term, terms, tail, lnNear, halvings, lnUp, lnOf}
 use Rattle.exact.specs.Pi.{alternating, arctanTerm, arctanOver, π}
 use Rattle.exact.specs.Reported.{ten, over, reported}
-use Rattle.exact.specs.Depth.{Within}
+use Rattle.exact.specs.Depth.{workDepth, Within}
 use Rattle.exact.proofs.Holding.{holds-depth}
 use Rattle.exact.proofs.Inclusion.{within-refl}
 use Rattle.exact.proofs.Pi.{consistent-π}
@@ -37,7 +37,7 @@ values = 0
 unfolding values
 π-low = record { le = lit≤ tt }
 
-pub within-π : Within (π 12) (reported (ten 15) (record { lower = pos 3141592653589793; upper = pos 3141592653589794 }))
+pub within-π : Within (π workDepth) (reported (ten 15) (record { lower = pos 3141592653589793; upper = pos 3141592653589794 }))
 unfolding values
 within-π = record { low = record { le = lit≤ tt }; high = record { le = lit≤ tt } }
 

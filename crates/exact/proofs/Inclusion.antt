@@ -20,6 +20,9 @@ within-trans h k = record { low = trans≤ (k .low) (h .low); high = trans≤ (h
 pub within-same : {A B : Ends} → SameEnds A B → Within A B
 within-same s = record { low = s .lowers .fro; high = s .uppers .to }
 
+pub same-within : {A B : Ends} → Within A B → Within B A → SameEnds A B
+same-within h k = record { lowers = record { to = k .low; fro = h .low }; uppers = record { to = h .high; fro = k .high } }
+
 pub proper-within : {A B : Ends} → Proper A → Within A B → Proper B
 proper-within p w = record { proper = trans≤ (w .low) (trans≤ (p .proper) (w .high)) }
 

@@ -9,6 +9,9 @@ pub mod Consistency
 pub mod Inclusion
 pub mod Holding
 pub mod KnownEnds
+pub mod Alike
+pub mod Factors
+pub mod Fractions
 pub mod Powers
 pub mod Greatest
 pub mod Growing

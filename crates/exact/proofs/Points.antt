@@ -2,7 +2,7 @@
 -- operation: all further laws of pairs rest on that.
 -- Assumes nothing.
 use mathlib.Core.Logic.{⊎-elim}
-use Rattle.exact.specs.Fraction.{Fraction, _≤f_, _<f_, whole, _+f_, _−f_, _·f_, inv, _÷f_, minf, maxf}
+use Rattle.exact.specs.Fraction.{Fraction, _≤f_, _<f_, _≈f_, whole, _+f_, _−f_, _·f_, inv, _÷f_, minf, maxf}
 use Rattle.exact.specs.Ends.{Ends, combine}
 use Rattle.exact.specs.Depth.{Within, Proper, Positive}
 use Rattle.exact.proofs.Order.{refl≤, trans≤, lt-of-lt-of-le, total, min-cases, max-cases, min-left, min-right, max-left, max-right}
@@ -23,6 +23,9 @@ upper-point {A} h = record { low = h .proper; high = refl≤ (A .upper) }
 
 pub point-within : {p : Fraction} {A B : Ends} → Within A B → Point p A → Point p B
 point-within w h = record { low = trans≤ (w .low) (h .low); high = trans≤ (h .high) (w .high) }
+
+pub point-same : {p q : Fraction} {A : Ends} → p ≈f q → Point q A → Point p A
+point-same e h = record { low = trans≤ (h .low) (e .fro); high = trans≤ (e .to) (h .high) }
 
 pub point-proper : {p : Fraction} {A : Ends} → Point p A → Proper A
 point-proper h = record { proper = trans≤ (h .low) (h .high) }

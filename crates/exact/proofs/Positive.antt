@@ -6,15 +6,16 @@ use native.Mathlib.Omega.{arith}
 use native.Mathlib.Nat.{mul-le-mul-right, pow-le-pow-right, one-le-pow, pow-suc}
 use Rattle.exact.specs.Fraction.{Fraction, _≤f_, _<f_, whole, decimal, _+f_, _·f_, _÷f_, top}
 use Rattle.exact.specs.Ends.{Ends, combine, _+e_, _·e_, _÷e_}
-use Rattle.exact.specs.Exact.{Exact, exactly, _+x_, _·x_, _÷x_}
+use Rattle.exact.specs.Exact.{Exact, exactly, _+x_, _−x_, _·x_, _÷x_}
 use Rattle.exact.specs.Root.{rootDigits, rootOf, root}
 use Rattle.exact.specs.Depth.{Consistent, Within, Proper, Positive, PositiveAt}
-use Rattle.exact.proofs.Order.{lt-of-lt-of-le, le-of-lt}
+use Rattle.exact.proofs.Order.{trans≤, lt-of-lt-of-le, le-of-lt}
 use Rattle.exact.proofs.Outcomes.{lower-of}
-use Rattle.exact.proofs.Sums.{le+}
-use Rattle.exact.proofs.Products.{mul-pos}
+use Rattle.exact.proofs.Sums.{le+, sub-pos}
+use Rattle.exact.proofs.Products.{mul-pos, mul-left≤}
 use Rattle.exact.proofs.Quotients.{inv-pos}
-use Rattle.exact.proofs.Consistency.{proper-at}
+use Rattle.exact.proofs.Consistency.{consistent-exactly, proper-at}
+use Rattle.exact.proofs.KnownEnds.{difference-ends, scaled-ends}
 use Rattle.exact.proofs.Powers.{one-pow}
 use Rattle.exact.proofs.RootDigits.{root-above}
 
@@ -70,6 +71,25 @@ at-least-exactly h = record { least = λ k d. h }
 
 pub positive-at-least : {a : Fraction} {x : Exact} → whole 0 <f a → AtLeast a x → PositiveAt x
 positive-at-least h l = record { at = λ k d. record { positive = lt-of-lt-of-le h (l .least k d) } }
+
+-- q times what is at least a
+pub at-least-times : {a : Fraction} {x : Exact} (q : Fraction) → whole 0 ≤f q → Consistent x → AtLeast a x → AtLeast (q ·f a) (exactly q ·x x)
+unfolding _·x_
+at-least-times q n c l =
+    record { least = λ k d. trans≤ (mul-left≤ n (l .least k d)) (scaled-ends k n (proper-at c d) .lowers .fro) }
+
+-- what is at least a, less a fraction below a
+pub positive-less : {a q : Fraction} {x : Exact} → q <f a → Consistent x → AtLeast a x → PositiveAt (x −x exactly q)
+unfolding _−x_ exactly
+positive-less {q = q} h c l =
+    record {
+      at = λ k d.
+          record {
+            positive =
+                lt-of-lt-of-le (sub-pos (lt-of-lt-of-le h (l .least k d)))
+                (difference-ends (proper-at c d) (proper-at (consistent-exactly q) d) .lowers .fro);
+          };
+    }
 
 -- ---- roots of what is at least a thousandth
 

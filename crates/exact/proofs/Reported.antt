@@ -6,8 +6,9 @@ use mathlib.Core.Path.{_≡_, ap, _∙_}
 use native.Mathlib.Omega.{arith}
 use native.Mathlib.Nat.{mul-le-mul-right, mul-lt-mul-of-pos-right, mul-pos}
 use lib.IntN.{ℤ, pos, negℤ, _+ℤ_, _-ℤ_, _*ℤ_}
-use lib.Signed.{_≤ℤ_, _<ℤ_, shrZ}
+use lib.Signed.{_≤ℤ_, _<ℤ_}
 use Rattle.interval.specs.Signed.{plus, minus}
+use Rattle.interval.specs.Whole.{floorZ}
 use Rattle.interval.specs.declared.Interval.{Interval}
 use Rattle.interval.proofs.Signed.{neg-plus, neg-minus, sum-is, difference-is, mul-plus, mul-minus, scale-plus, scale-minus, le-halves, lt-halves, floor-below, floor-above}
 use Rattle.exact.specs.Fraction.{_≤f_, _<f_, _≈f_, whole, decimal, _+f_, neg, _−f_, _·f_, inv, _÷f_}
@@ -62,19 +63,19 @@ module _ (z : ℤ) (u w : Scale) {m : ℕ} (hm : 0 < m) (fine : w .count ≡ u .
   scaled : (n : ℕ) → n * w .count ≡ n * m * u .count
   scaled n = ap (λ t. n * t) fine ∙ omega arith
 
-  pub over-down : over (shrZ z m) u ≤f over z w
+  pub over-down : over (floorZ z m) u ≤f over z w
   unfolding over
   over-down =
-      omega (arith, mul-le-mul-right (u .count) (floor-below z hm), scaled (plus (shrZ z m)), scaled (minus (shrZ z m)))
+      omega (arith, mul-le-mul-right (u .count) (floor-below z hm), scaled (plus (floorZ z m)), scaled (minus (floorZ z m)))
 
-  pub over-up : over z w ≤f over (shrZ z m +ℤ pos 1) u
+  pub over-up : over z w ≤f over (floorZ z m +ℤ pos 1) u
   unfolding over
   over-up =
-      let q = shrZ z m +ℤ pos 1 in
+      let q = floorZ z m +ℤ pos 1 in
       omega (
         arith,
         mul-le-mul-right (u .count) (floor-above z hm),
-        ap (λ t. t * (m * u .count)) (sum-is (shrZ z m) (pos 1)),
+        ap (λ t. t * (m * u .count)) (sum-is (floorZ z m) (pos 1)),
         scaled (plus q),
         scaled (minus q),
       )

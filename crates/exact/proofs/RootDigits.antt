@@ -39,11 +39,6 @@ module _ (n : ℕ) (hn : 1 ≤ n) (q : Fraction) (k : ℕ) where
       greatest-unique (λ r. r ^ n * q .den) ((10 ^ k) ^ n * top q) ((10 ^ k) ^ n * top q) r
       (λ a b h. pow-lt-inv n (lt-of-mul-lt-mul-right (q .den) h)) starts (bound ((10 ^ k) ^ n * top q)) l u
 
-  pub root-at : (r : ℕ) → r ^ n * q .den ≤ (10 ^ k) ^ n * top q → (10 ^ k) ^ n * top q < suc r ^ n * q .den
-      → rootOf n q k ≡ record { lower = decimal r k; upper = decimal (suc r) k }
-  unfolding rootOf
-  root-at r l u = rw (root-unique r l u) refl
-
 -- ---- a root against counts of a unit whose powers are known
 
 module _ (n : ℕ) (hn : 1 ≤ n) (q : Fraction) (u : Scale) (r : ℕ) (k : ℕ) where

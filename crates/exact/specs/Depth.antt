@@ -5,6 +5,10 @@ use Rattle.exact.specs.Fraction.{_≤f_, _<f_, _≈f_, whole}
 use Rattle.exact.specs.Ends.{Ends}
 use Rattle.exact.specs.Exact.{Exact}
 
+-- the depth at which code works
+abbrev pub workDepth : ℕ
+workDepth = 12
+
 -- the depths of one value do not contradict each other
 pub record Consistent (x : Exact) : Type 0 where
   pub agree : (j k : ℕ) → 3 ≤ j → 3 ≤ k → x j .lower ≤f x k .upper

@@ -6,3 +6,4 @@ pub mod Logarithm
 pub mod Pi
 pub mod Reported
 pub mod Depth
+pub mod Answered

@@ -2,7 +2,7 @@
 -- Assumes nothing.
 use native.Mathlib.Omega.{arith}
 use Rattle.exact.specs.Fraction.{whole}
-use Rattle.exact.specs.Exact.{exactly}
+use Rattle.exact.specs.Exact.{Exact, exactly, _·x_, _÷x_}
 use Rattle.exact.specs.Depth.{Consistent}
 use Rattle.exact.proofs.Order.{whole≤}
 use Rattle.exact.proofs.Consistency.{consistent-exactly, consistent-sum, consistent-product, consistent-quotient}
@@ -11,14 +11,15 @@ use Rattle.exact.proofs.Logarithm.{consistent-ln}
 use Rattle.exact.proofs.Quantity.{Quantity, quantity-exactly, quantity-sum, quantity-product, quantity-quotient, quantity-root, quantity-π}
 use Rattle.case.specs.declared.Case.{Case}
 use Rattle.case.specs.Bounds.{Bounds}
-use Rattle.formulas.specs.Lengths.{side}
+use Rattle.formulas.specs.Lengths.{ρ, side, Ki}
+use Rattle.formulas.specs.Current.{IG}
 use Rattle.formulas.specs.Tolerable.{rootTime, tolerableTouch, tolerableStep}
 use Rattle.formulas.specs.Mesh.{Km, mesh}
 use Rattle.formulas.specs.Step.{Ks, step}
 use Rattle.formulas.specs.Resistance.{√20, resistance, potentialRise}
 use Rattle.formulas.proofs.MeshArgument.{G-pos}
-use Rattle.formulas.proofs.Quantities.{one, quantity-turn, quantity-Kh, quantity-Kii, quantity-spread, quantity-LM}
-use Rattle.formulas.proofs.Positive.{one-thousandth, millisecond, ρ-pos, h-pos, side-pos, LT-pos}
+use Rattle.formulas.proofs.Quantities.{one, quantity-turn, quantity-ρ, quantity-Ki, quantity-IG, quantity-Kh, quantity-Kii, quantity-spread, quantity-LM}
+use Rattle.formulas.proofs.Positive.{one-thousandth, millisecond, h-pos, side-pos, LT-pos, LS-pos}
 
 pub q20 : Quantity √20
 unfolding √20
@@ -43,7 +44,7 @@ module _ {c : Case} (b : Bounds c) where
   pub quantity-resistance : Quantity (resistance c)
   unfolding resistance
   quantity-resistance =
-      quantity-product (quantity-exactly (ρ-pos b))
+      quantity-product (quantity-ρ b)
       (quantity-sum (quantity-quotient one (quantity-exactly (LT-pos b)))
       (quantity-quotient
       (quantity-sum one
@@ -52,12 +53,24 @@ module _ {c : Case} (b : Bounds c) where
 
   pub consistent-rise : Consistent (potentialRise c)
   unfolding potentialRise
-  consistent-rise = consistent-product (consistent-exactly _) (quantity-resistance .consistent)
+  consistent-rise = quantity-product (quantity-IG b) quantity-resistance .consistent
+
+  -- ρ·x·Ki·IG/l
+  consistent-voltage : {x l : Exact} → Consistent x → Quantity l → Consistent (exactly (ρ c) ·x x ·x Ki c ·x IG c ÷x l)
+  consistent-voltage k l =
+      consistent-quotient (l .positive)
+      (consistent-product (consistent-product (consistent-product (quantity-ρ b .consistent) k) (quantity-Ki b .consistent)) (quantity-IG b .consistent))
+      (l .consistent)
+
+  -- ---- the step voltage
+
+  pub consistent-Ks : Consistent (Ks c)
+  unfolding Ks
+  consistent-Ks = consistent-quotient (quantity-π .positive) (consistent-exactly _) (quantity-π .consistent)
 
   pub consistent-step : Consistent (step c)
-  unfolding step Ks
-  consistent-step =
-      consistent-product (consistent-exactly _) (consistent-quotient (quantity-π .positive) (consistent-exactly _) (quantity-π .consistent))
+  unfolding step
+  consistent-step = consistent-voltage consistent-Ks (quantity-exactly (LS-pos b))
 
   -- ---- the mesh voltage
 
@@ -71,5 +84,4 @@ module _ {c : Case} (b : Bounds c) where
 
   pub consistent-mesh : Consistent (mesh c)
   unfolding mesh
-  consistent-mesh =
-      consistent-product (consistent-quotient (quantity-LM b .positive) (consistent-exactly _) (quantity-LM b .consistent)) consistent-Km
+  consistent-mesh = consistent-voltage consistent-Km (quantity-LM b)

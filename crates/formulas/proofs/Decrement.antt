@@ -9,35 +9,36 @@ use lib.ListN.{length, getD}
 use lib.Dec.{T, leb, eqb, leb→le, le→leb, nleb→lt, eqb→eq}
 use Rattle.case.specs.declared.Case.{Case}
 use Rattle.case.specs.Bounds.{Between, Bounds}
-use Rattle.formulas.proofs.Tables.{and-left, and-right, inside, entry-inside}
-use Rattle.formulas.specs.Decrement.{Row, ratios, rows, rowAt, columnAt, factor, Df}
+use Rattle.case.proofs.Tests.{both}
+use Rattle.formulas.proofs.Tables.{inside, entry-inside}
+use Rattle.formulas.specs.Decrement.{Durations, ratios, table10, factorsAt, columnAt, factor, Df}
 
 -- a row of four such numbers
 sound : List ℕ → Bool
 sound xs = eqb (length xs) 4 && inside 1000 1688 xs
 
-allSound : List Row → Bool
+allSound : List Durations → Bool
 allSound [] = true
 allSound (r ∷ rs) = sound (r .factors) && allSound rs
 
-row-sound : (ms : ℕ) (above : List ℕ) (rs : List Row) → T (sound above) → T (allSound rs) → T (sound (rowAt ms above rs))
-unfolding rowAt allSound
+row-sound : (ms : ℕ) (above : List ℕ) (rs : List Durations) → T (sound above) → T (allSound rs) → T (sound (factorsAt ms above rs))
+unfolding factorsAt allSound
 row-sound ms above [] s t = s
 row-sound ms above (r ∷ rs) s t =
-    go (leb (r .start) ms) (row-sound ms (r .factors) rs (and-left (sound (r .factors)) (allSound rs) t) (and-right (sound (r .factors)) (allSound rs) t))
+    go (leb (r .start) ms) (row-sound ms (r .factors) rs (both (sound (r .factors)) (allSound rs) t .0) (both (sound (r .factors)) (allSound rs) t .1))
   where
-    go : (b : Bool) → T (sound (rowAt ms (r .factors) rs)) → T (sound (cond b (rowAt ms (r .factors) rs) above))
+    go : (b : Bool) → T (sound (factorsAt ms (r .factors) rs)) → T (sound (cond b (factorsAt ms (r .factors) rs) above))
     go true h = h
     go false h = s
 
 -- a first row whose start is not above t is reached
-first-row : (ms : ℕ) (r : Row) (rs : List Row) → r .start ≤ ms → T (allSound (r ∷ rs)) → T (sound (rowAt ms [] (r ∷ rs)))
-unfolding rowAt allSound
+first-row : (ms : ℕ) (r : Durations) (rs : List Durations) → r .start ≤ ms → T (allSound (r ∷ rs)) → T (sound (factorsAt ms [] (r ∷ rs)))
+unfolding factorsAt allSound
 first-row ms r rs h t =
     go (leb (r .start) ms) (le→leb (r .start) ms h)
-    (row-sound ms (r .factors) rs (and-left (sound (r .factors)) (allSound rs) t) (and-right (sound (r .factors)) (allSound rs) t))
+    (row-sound ms (r .factors) rs (both (sound (r .factors)) (allSound rs) t .0) (both (sound (r .factors)) (allSound rs) t .1))
   where
-    go : (b : Bool) → T b → T (sound (rowAt ms (r .factors) rs)) → T (sound (cond b (rowAt ms (r .factors) rs) []))
+    go : (b : Bool) → T b → T (sound (factorsAt ms (r .factors) rs)) → T (sound (cond b (factorsAt ms (r .factors) rs) []))
     go true l k = k
     go false l k = absurd l
 
@@ -70,17 +71,17 @@ last-column xr h =
     or-left true t = tt
     or-left false t = absurd t
 
-entry-bounds : (ms xr : ℕ) → 9 ≤ ms → xr ≤ 40 → Between 1000 (getD (rowAt ms [] rows) (columnAt xr ratios) 0) 1688
-unfolding rows allSound sound inside
+entry-bounds : (ms xr : ℕ) → 9 ≤ ms → xr ≤ 40 → Between 1000 (getD (factorsAt ms [] table10) (columnAt xr ratios) 0) 1688
+unfolding table10 allSound sound inside
 entry-bounds ms xr h l =
-    let s : T (sound (rowAt ms [] rows)) = first-row ms _ _ h tt in
-    let e : length (rowAt ms [] rows) ≡ 4 = eqb→eq _ 4 (and-left (eqb (length (rowAt ms [] rows)) 4) (inside 1000 1688 (rowAt ms [] rows)) s) in
-    entry-inside 1000 1688 (rowAt ms [] rows) (columnAt xr ratios) (and-right (eqb (length (rowAt ms [] rows)) 4) (inside 1000 1688 (rowAt ms [] rows)) s) (omega (arith, last-column xr l))
+    let s : T (sound (factorsAt ms [] table10)) = first-row ms _ _ h tt in
+    let e : length (factorsAt ms [] table10) ≡ 4 = eqb→eq _ 4 (both (eqb (length (factorsAt ms [] table10)) 4) (inside 1000 1688 (factorsAt ms [] table10)) s .0) in
+    entry-inside 1000 1688 (factorsAt ms [] table10) (columnAt xr ratios) (both (eqb (length (factorsAt ms [] table10)) 4) (inside 1000 1688 (factorsAt ms [] table10)) s .1) (omega (arith, last-column xr l))
 
 pub factor-bounds : {c : Case} → Bounds c → Between 1000 (Df c) 1688
 unfolding Df factor
 factor-bounds {c} b = go (leb 500 (c .ms))
   where
-    go : (b : Bool) → Between 1000 (cond b 1000 (getD (rowAt (c .ms) [] rows) (columnAt (c .xr) ratios) 0)) 1688
+    go : (b : Bool) → Between 1000 (cond b 1000 (getD (factorsAt (c .ms) [] table10) (columnAt (c .xr) ratios) 0)) 1688
     go true = record { low = omega arith; high = omega arith }
     go false = entry-bounds (c .ms) (c .xr) (b .ms .low) (b .xr .high)

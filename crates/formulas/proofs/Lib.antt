@@ -1,8 +1,9 @@
+pub mod Tables
+pub mod Decrement
 pub mod Positive
 pub mod MeshArgument
 pub mod Quantities
 pub mod Consistent
 pub mod Yards
-pub mod Tables
-pub mod Decrement
 pub mod Size
+pub mod Widths

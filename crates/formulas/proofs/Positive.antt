@@ -1,10 +1,10 @@
--- The lengths, the current and the factors of a case within its bounds are positive.
+-- The lengths and the current of a case within its bounds are positive.
 -- Assumes nothing.
-use Prim.Native.Nat.{ℕ, suc, _-_, _*_, _≤_, _<_}
+use Prim.Native.Nat.{ℕ, _-_, _≤_, _<_}
 use mathlib.Core.Path.{_≡_}
 use mathlib.Core.Logic.{_⊎_, ⊎-elim}
 use native.Mathlib.Omega.{arith}
-use native.Mathlib.Nat.{mul-le-mul-right}
+use native.Mathlib.Nat.{mul-pos as nat-pos, mul-le-mul-right}
 use lib.Dec.{lit≤}
 use Rattle.exact.specs.Fraction.{Fraction, _≤f_, _<f_, whole, decimal, _+f_, _·f_, _÷f_}
 use Rattle.exact.proofs.Order.{trans≤, lt-of-lt-of-le, le-of-lt, whole≤, whole-pos, nonneg}
@@ -13,9 +13,11 @@ use Rattle.exact.proofs.Products.{mul-pos, mul-nonneg, mono·, one-mul}
 use Rattle.exact.proofs.Quotients.{inv-pos}
 use Rattle.case.specs.declared.Case.{Case}
 use Rattle.case.specs.Bounds.{Bounds, Rodless, Rodded}
-use Rattle.formulas.specs.Lengths.{ρ, D, h, d, n, Lr, side, Lc, LR, LT}
+use Rattle.formulas.specs.Lengths.{ρ, D, h, d, Lr, side, Lc, LR, LT}
+use Rattle.formulas.specs.Current.{gridCurrent}
 use Rattle.formulas.specs.Mesh.{G′}
 use Rattle.formulas.specs.Step.{LS}
+use Rattle.formulas.proofs.Decrement.{factor-bounds}
 
 pub decimal-pos : {m : ℕ} (e : ℕ) → 0 < m → whole 0 <f decimal m e
 unfolding decimal whole
@@ -87,9 +89,14 @@ module _ {c : Case} (b : Bounds c) where
   unfolding d
   d-pos = decimal-pos 4 (omega (arith, b .dia .low))
 
-  pub n-pos : whole 0 <f n c
-  unfolding n
-  n-pos = whole-pos (omega (arith, b .lines .low))
+  pub lines-pos : whole 0 <f whole (c .lines)
+  lines-pos = whole-pos (omega (arith, b .lines .low))
+
+  pub current-pos : 0 < gridCurrent c
+  unfolding gridCurrent
+  current-pos =
+      nat-pos (nat-pos {m = c .fault} {n = c .split} (omega (arith, b .fault .low)) (omega (arith, b .split .low)))
+      (omega (arith, factor-bounds b .low))
 
   pub side-pos : whole 0 <f side c
   unfolding side
@@ -97,7 +104,7 @@ module _ {c : Case} (b : Bounds c) where
 
   pub Lc-pos : whole 0 <f Lc c
   unfolding Lc
-  Lc-pos = mul-pos (mul-pos (whole-pos (omega arith)) n-pos) side-pos
+  Lc-pos = mul-pos (mul-pos (whole-pos (omega arith)) lines-pos) side-pos
 
   pub LR-nonneg : whole 0 ≤f LR c
   unfolding LR Lr

@@ -1,4 +1,4 @@
--- A table's range: one test computed over the table, and a law that turns it into the rule at each entry.
+-- A table's range: one test computed over the table, and a law that turns it into the rule at each entry; and one claim about a list.
 -- Assumes nothing.
 use Prim.Native.Nat.{ℕ, zero, suc, _≤_, _<_}
 use mathlib.Core.Bool.{Bool, true, false, _&&_}
@@ -7,14 +7,12 @@ use native.Mathlib.Omega.{arith}
 use lib.ListN.{length, getD}
 use lib.Dec.{T, leb, leb→le}
 use Rattle.case.specs.Bounds.{Between}
+use Rattle.case.proofs.Tests.{both}
 
-pub and-left : (p q : Bool) → T (p && q) → T p
-and-left true q t = tt
-and-left false q t = t
-
-pub and-right : (p q : Bool) → T (p && q) → T q
-and-right true q t = t
-and-right false q t = absurd t
+-- a claim about every entry of a list
+abbrev pub Every : {A : Type 0} → (A → Type 0) → List A → Type 0
+Every P [] = Unit {0}
+Every P (x ∷ xs) = P x × Every P xs
 
 module _ (a b : ℕ) where
   -- every number of a list lies from a to b
@@ -26,6 +24,6 @@ module _ (a b : ℕ) where
   unfolding inside
   entry-inside [] i t l = absurd (omega arith)
   entry-inside (x ∷ xs) zero t l =
-      let h = and-left (leb a x && leb x b) (inside xs) t in
-      record { low = leb→le a x (and-left (leb a x) (leb x b) h); high = leb→le x b (and-right (leb a x) (leb x b) h) }
-  entry-inside (x ∷ xs) (suc i) t l = entry-inside xs i (and-right (leb a x && leb x b) (inside xs) t) (omega arith)
+      let h = both (leb a x && leb x b) (inside xs) t .0 in
+      record { low = leb→le a x (both (leb a x) (leb x b) h .0); high = leb→le x b (both (leb a x) (leb x b) h .1) }
+  entry-inside (x ∷ xs) (suc i) t l = entry-inside xs i (both (leb a x && leb x b) (inside xs) t .1) (omega arith)

@@ -22,12 +22,14 @@ use Rattle.exact.proofs.Roots.{holds-root}
 use Rattle.exact.proofs.Consistency.{consistent-exactly}
 use Rattle.exact.proofs.Quantity.{Quantity, quantity-root}
 use Rattle.case.specs.declared.Case.{Case}
-use Rattle.formulas.specs.Decrement.{ratios, rows, rowAt, columnAt, factor, Df}
-use Rattle.formulas.specs.Lengths.{ρ, D, h, d, gridCurrent}
+use Rattle.formulas.specs.Decrement.{ratios, table10, factorsAt, columnAt, factor, Df}
+use Rattle.formulas.specs.Lengths.{ρ, D, h, d}
+use Rattle.formulas.specs.Current.{gridCurrent}
 use Rattle.formulas.specs.Size.{constants, Kf, smallest, duty, enough, size}
 use Rattle.formulas.specs.Tolerable.{Q, k, rootTime, tolerableTouch, tolerableStep}
 use Rattle.formulas.specs.Mesh.{G}
 use Rattle.formulas.specs.Width.{mV}
+use Rattle.formulas.proofs.Tables.{Every}
 use Rattle.formulas.proofs.Positive.{millisecond}
 
 -- a yard of bare soil without rods: what the document does not name is as in its sample
@@ -92,10 +94,6 @@ Right (decrement c factor) = Df c ≡ factor
 Right (current c microamperes) = gridCurrent c ≡ microamperes
 Right (argument c g) = G c ≈f g
 
-abbrev Every : {A : Type 0} → (A → Type 0) → List A → Type 0
-Every P [] = Unit {0}
-Every P (x ∷ xs) = P x × Every P xs
-
 top-decimal : (m e : ℕ) → top (decimal m e) ≡ m
 unfolding top decimal
 top-decimal m e = omega arith
@@ -119,7 +117,7 @@ halves : Scale
 halves = record { count = 2; pos = zero-lt-suc 1 }
 
 starred : Every Right yards
-unfolding halves yards size smallest enough duty Kf constants Df factor rowAt rows columnAt ratios gridCurrent tolerableTouch tolerableStep rootTime Q k ρ G D h d mV reported ten over _÷e_ combine least greatest minf maxf choose decLef decLe inv top whole decimal neg _+f_ _−f_ _·f_ _÷f_
+unfolding halves yards size smallest enough duty Kf constants Df factor factorsAt table10 columnAt ratios gridCurrent tolerableTouch tolerableStep rootTime Q k ρ G D h d mV reported ten over _÷e_ combine least greatest minf maxf choose decLef decLe inv top whole decimal neg _+f_ _−f_ _·f_ _÷f_
 starred = (
   (exact-root _ 1000 1 (ten 0) (lit≤ tt) (lit≤ tt) refl (record { low = record { le = lit≤ tt }; high = record { le = lit≤ tt } }), exact-root _ 1000 1 (ten 0) (lit≤ tt) (lit≤ tt) refl (record { low = record { le = lit≤ tt }; high = record { le = lit≤ tt } })),
   (

@@ -4,11 +4,11 @@ use Prim.Native.Nat.{ℕ}
 use mathlib.Core.Path.{_≡_, refl}
 use mathlib.Core.List.{List, [], _∷_, map}
 use Rattle.case.specs.Case.{caseOf}
-use Rattle.formulas.specs.Decrement.{ratios, rows, rowAt, columnAt, factor, Df}
+use Rattle.formulas.specs.Decrement.{ratios, table10, factorsAt, columnAt, factor, Df}
 use Rattle.formulas.specs.Size.{constants, Kf, smallest, duty, enough, size}
 
 factorOf : ℕ → ℕ → ℕ
-unfolding factor rowAt rows columnAt ratios
+unfolding factor factorsAt table10 columnAt ratios
 factorOf ms xr = factor ms xr
 
 -- the 24 entries of Table 10
@@ -36,7 +36,7 @@ ratio-edges = refl
 
 -- the size of every metal at 20,000 A and 1000 ms, and what fault, time and X/R a size is for
 sizeOf : ℕ → ℕ → ℕ → ℕ → ℕ
-unfolding size smallest enough duty Kf constants Df factor rowAt rows columnAt ratios caseOf
+unfolding size smallest enough duty Kf constants Df factor factorsAt table10 columnAt ratios
 sizeOf fault ms xr metal =
     size (caseOf (7 ∷ 1 ∷ 400 ∷ 0 ∷ 0 ∷ ms ∷ 70 ∷ fault ∷ 600 ∷ xr ∷ 11 ∷ 7000 ∷ 500 ∷ 100 ∷ 0 ∷ 0 ∷ 0 ∷ metal ∷ []))
 

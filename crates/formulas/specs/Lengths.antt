@@ -1,9 +1,9 @@
--- Lengths in metres, resistivity in ohm metres, and the current. Document 01, 'The formulas'.
+-- Resistivity in ohm metres, lengths in metres, the number of conductors and Ki. Document 01, 'The formulas'.
 -- Assumes nothing.
-use Prim.Native.Nat.{ℕ, _-_, _*_}
+use Prim.Native.Nat.{_-_}
 use Rattle.exact.specs.Fraction.{Fraction, whole, decimal, _+f_, _·f_}
+use Rattle.exact.specs.Exact.{Exact, exactly, _+x_, _·x_}
 use Rattle.case.specs.declared.Case.{Case}
-use Rattle.formulas.specs.Decrement.{Df}
 
 module _ (c : Case) where
   -- soil resistivity
@@ -20,10 +20,6 @@ module _ (c : Case) where
   unfoldable pub d : Fraction
   d = decimal (c .dia) 4
 
-  -- n, conductors each way
-  unfoldable pub n : Fraction
-  n = whole (c .lines)
-
   -- length of one rod
   unfoldable pub Lr : Fraction
   Lr = decimal (c .rodlen) 3
@@ -33,7 +29,7 @@ module _ (c : Case) where
   side = whole (c .lines - 1) ·f D
 
   unfoldable pub Lc : Fraction
-  Lc = whole 2 ·f n ·f side
+  Lc = whole 2 ·f whole (c .lines) ·f side
 
   unfoldable pub LR : Fraction
   LR = whole (c .rods) ·f Lr
@@ -41,14 +37,10 @@ module _ (c : Case) where
   unfoldable pub LT : Fraction
   LT = Lc +f LR
 
-  -- "Grid current IG = fault·split·Df, exact in microamperes when split and Df are in thousandths"
-  unfoldable pub gridCurrent : ℕ
-  gridCurrent = c .fault * c .split * Df c
-
-  -- in amperes
-  unfoldable pub IG : Fraction
-  IG = decimal gridCurrent 6
+  -- n, conductors each way
+  unfoldable pub n : Exact
+  n = exactly (whole (c .lines))
 
   -- "Ki = 0.644 + 0.148·n"
-  unfoldable pub Ki : Fraction
-  Ki = decimal 644 3 +f decimal 148 3 ·f n
+  unfoldable pub Ki : Exact
+  Ki = exactly (decimal 644 3) +x exactly (decimal 148 3) ·x n

@@ -1,5 +1,6 @@
 pub mod Lengths
 pub mod Decrement
+pub mod Current
 pub mod Size
 pub mod Tolerable
 pub mod Mesh

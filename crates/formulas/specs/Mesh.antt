@@ -1,15 +1,15 @@
 -- Mesh voltage in volts. Document 01, 'The formulas'.
 -- Assumes nothing.
-use Prim.Native.Nat.{ℕ, _-_, _*_}
 use mathlib.Core.Bool.{cond}
 use lib.Dec.{eqb}
 use Rattle.exact.specs.Fraction.{Fraction, whole, decimal, _+f_, _−f_, _·f_, _÷f_}
-use Rattle.exact.specs.Exact.{Exact, exactly, _+x_, _·x_, _÷x_}
+use Rattle.exact.specs.Exact.{Exact, exactly, _+x_, _−x_, _·x_, _÷x_}
 use Rattle.exact.specs.Root.{root}
 use Rattle.exact.specs.Logarithm.{ln}
 use Rattle.exact.specs.Pi.{π}
 use Rattle.case.specs.declared.Case.{Case}
-use Rattle.formulas.specs.Lengths.{ρ, D, h, d, n, Lr, side, Lc, LR, LT, IG, Ki}
+use Rattle.formulas.specs.Lengths.{ρ, D, h, d, n, Lr, side, Lc, LR, LT, Ki}
+use Rattle.formulas.specs.Current.{IG}
 
 module _ (c : Case) where
   -- "G = D²/(16hd) + (D+2h)²/(8Dd) − h/(4d)"
@@ -32,12 +32,12 @@ module _ (c : Case) where
   -- "Kii is 1 for place 1, else (2n) to the power −2/n": "one over the n-th root of 4n²"
   unfoldable pub Kii : Exact
   Kii =
-      cond (eqb (c .place) 1) (exactly (whole 1)) (exactly (whole 1) ÷x root (c .lines) (exactly (whole 4 ·f n c ·f n c)))
+      cond (eqb (c .place) 1) (exactly (whole 1)) (exactly (whole 1) ÷x root (c .lines) (exactly (whole 4 ·f whole (c .lines) ·f whole (c .lines))))
 
   -- "Km = (ln G + (Kii/Kh)·ln(8/(π(2n−1))))/(2π)"
   unfoldable pub Km : Exact
   Km =
-      (ln (exactly G) +x Kii ÷x Kh ·x ln (exactly (whole 8) ÷x (π ·x exactly (whole (2 * c .lines - 1)))))
+      (ln (exactly G) +x Kii ÷x Kh ·x ln (exactly (whole 8) ÷x (π ·x (exactly (whole 2) ·x n c −x exactly (whole 1)))))
       ÷x (exactly (whole 2) ·x π)
 
   -- "LM is Lc + LR for place 0 or 2; for place 1 it is Lc + (1.55 + 1.22·Lr/√(2s²))·LR."
@@ -49,6 +49,6 @@ module _ (c : Case) where
       ·x exactly (LR c))
       (exactly (LT c))
 
-  -- "ρ·Km·Ki·IG/LM"; the factors that are fractions stand first
+  -- "Mesh voltage = ρ·Km·Ki·IG/LM"
   unfoldable pub mesh : Exact
-  mesh = exactly (ρ c ·f Ki c ·f IG c) ÷x LM ·x Km
+  mesh = exactly (ρ c) ·x Km ·x Ki c ·x IG c ÷x LM

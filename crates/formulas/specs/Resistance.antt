@@ -1,10 +1,11 @@
 -- Resistance of the grid in ohms and ground potential rise in volts. Document 01, 'The formulas'.
 -- Assumes nothing.
-use Rattle.exact.specs.Fraction.{Fraction, whole, inv}
+use Rattle.exact.specs.Fraction.{whole}
 use Rattle.exact.specs.Exact.{Exact, exactly, _+x_, _·x_, _÷x_}
 use Rattle.exact.specs.Root.{root}
 use Rattle.case.specs.declared.Case.{Case}
-use Rattle.formulas.specs.Lengths.{ρ, h, side, LT, IG}
+use Rattle.formulas.specs.Lengths.{ρ, h, side, LT}
+use Rattle.formulas.specs.Current.{IG}
 
 unfoldable pub √20 : Exact
 √20 = root 2 (exactly (whole 20))
@@ -22,4 +23,4 @@ module _ (c : Case) where
 
   -- "Ground potential rise = IG times resistance."
   unfoldable pub potentialRise : Exact
-  potentialRise = exactly (IG c) ·x resistance
+  potentialRise = IG c ·x resistance

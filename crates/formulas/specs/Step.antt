@@ -7,7 +7,8 @@ use Rattle.exact.specs.Fraction.{Fraction, whole, decimal, _+f_, _−f_, _·f_,
 use Rattle.exact.specs.Exact.{Exact, exactly, _·x_, _÷x_}
 use Rattle.exact.specs.Pi.{π}
 use Rattle.case.specs.declared.Case.{Case}
-use Rattle.formulas.specs.Lengths.{ρ, D, h, Lc, LR, IG, Ki}
+use Rattle.formulas.specs.Lengths.{ρ, D, h, Lc, LR, Ki}
+use Rattle.formulas.specs.Current.{IG}
 
 -- "The 24 half-powers are held as a table": 2^(n−2) for n from 2 to 25, of which 0.5^(n−2) is the inverse
 unfoldable pub halfPowers : List ℕ
@@ -30,6 +31,6 @@ module _ (c : Case) where
   Ks =
       exactly (inv (whole 2 ·f h c) +f inv (D c +f h c) +f (whole 1 −f halfPower) ÷f D c) ÷x π
 
-  -- "ρ·Ks·Ki·IG/LS"; the factors that are fractions stand first
+  -- "Step voltage = ρ·Ks·Ki·IG/LS"
   unfoldable pub step : Exact
-  step = exactly (ρ c ·f Ki c ·f IG c ÷f LS) ·x Ks
+  step = exactly (ρ c) ·x Ks ·x Ki c ·x IG c ÷x exactly LS

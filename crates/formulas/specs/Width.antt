@@ -1,11 +1,11 @@
 -- How far apart the two ends of a reported pair may be. Document 01, 'What exact means'.
 -- Assumes nothing.
-use Rattle.exact.specs.Fraction.{Fraction, decimal, _+f_, _·f_, _÷f_}
+use Rattle.exact.specs.Fraction.{Fraction, whole, decimal, _+f_, _·f_, _÷f_}
 use Rattle.exact.specs.Ends.{Ends}
 use Rattle.exact.specs.Reported.{Scale, ten}
-pub use Rattle.exact.specs.Reported.{AtMost}
 use Rattle.case.specs.declared.Case.{Case}
-use Rattle.formulas.specs.Lengths.{ρ, LT, IG, Ki}
+use Rattle.formulas.specs.Lengths.{ρ, LT}
+use Rattle.formulas.specs.Current.{gridCurrent}
 use Rattle.formulas.specs.Step.{LS}
 
 -- millivolts and micro-ohms
@@ -27,10 +27,17 @@ resistanceWidth A = decimal 1 4 ·f A .lower +f decimal 2 6
 unfoldable pub riseWidth : Ends → Fraction
 riseWidth A = decimal 5 4 ·f A .lower +f decimal 10 3
 
+-- Ki and IG that the widths of the mesh and step voltages refer to, as fractions; IG in amperes
+unfoldable pub referenceKi : Case → Fraction
+referenceKi c = decimal 644 3 +f decimal 148 3 ·f whole (c .lines)
+
+unfoldable pub referenceCurrent : Case → Fraction
+referenceCurrent c = decimal (gridCurrent c) 6
+
 -- "Mesh: 1/10,000 of ρ·Ki·IG/LT plus 10 mV."
 unfoldable pub meshWidth : Case → Fraction
-meshWidth c = decimal 1 4 ·f (ρ c ·f Ki c ·f IG c ÷f LT c) +f decimal 10 3
+meshWidth c = decimal 1 4 ·f (ρ c ·f referenceKi c ·f referenceCurrent c ÷f LT c) +f decimal 10 3
 
 -- "Step: 1/10,000 of ρ·Ki·IG/LS plus 10 mV."
 unfoldable pub stepWidth : Case → Fraction
-stepWidth c = decimal 1 4 ·f (ρ c ·f Ki c ·f IG c ÷f LS c) +f decimal 10 3
+stepWidth c = decimal 1 4 ·f (ρ c ·f referenceKi c ·f referenceCurrent c ÷f LS c) +f decimal 10 3

@@ -4,13 +4,15 @@
 use Prim.Native.Nat.{ℕ}
 use mathlib.Core.Path.{_≡_}
 use Rattle.interval.specs.declared.Interval.{Interval}
+use Rattle.interval.specs.declared.Pair.{Pair}
+use Rattle.interval.specs.declared.Pair.the-variants as pair
 use Rattle.exact.specs.Fraction.{Fraction}
 use Rattle.exact.specs.Ends.{Ends}
 use Rattle.exact.specs.Exact.{Exact}
-use Rattle.exact.specs.Reported.{Scale, Reports}
+use Rattle.exact.specs.Reported.{Scale}
+use Rattle.exact.specs.Answered.{RightPair}
 use Rattle.case.specs.declared.Case.{Case}
-use Rattle.case.specs.declared.Fault.the-variants.{Sound}
-use Rattle.case.specs.Check.{recordFault, recordAnswer}
+use Rattle.case.specs.Check.{recordJudged, recordAnswer}
 use Rattle.formulas.specs.Decrement.{Df}
 use Rattle.formulas.specs.Size.{size}
 use Rattle.formulas.specs.Tolerable.{tolerableTouch, tolerableStep}
@@ -22,14 +24,12 @@ use Rattle.row.specs.Row.{RightRow}
 use Rattle.row.specs.Ends.{rowOf}
 use Rattle.hocsimbur.specs.declared.Number.{Number}
 use Rattle.hocsimbur.specs.declared.Number.the-variants as number
-use Rattle.hocsimbur.specs.declared.Pair.{Pair}
-use Rattle.hocsimbur.specs.declared.Pair.the-variants as pair
 use Rattle.hocsimbur.specs.declared.RowAnswer.{RowAnswer}
 use Rattle.hocsimbur.specs.declared.RowAnswer.the-variants as row
 
 -- a settled number, or refusal 5 or 6 with line 0
 unfoldable pub numberAnswer : (Case → ℕ) → Case → Number
-numberAnswer asked c = recordAnswer number.Refused (number.Is (asked c)) (recordFault c)
+numberAnswer asked c = recordAnswer number.Refused (number.Is (asked c)) (recordJudged c)
 
 unfoldable pub factorAnswer : Case → Number
 factorAnswer = numberAnswer Df
@@ -39,13 +39,13 @@ sizeAnswer = numberAnswer size
 
 -- a pair, or refusal 5 or 6 with line 0
 unfoldable pub pairAnswer : (Case → Interval) → Case → Pair
-pairAnswer ends c = recordAnswer pair.Refused (pair.Ends (ends c)) (recordFault c)
+pairAnswer ends c = recordAnswer pair.Refused (pair.Ends (ends c)) (recordJudged c)
 
 -- the answer by the name of its ends, and what holds of them. Two wrong programs: one that refuses every record breaks `answer`; one whose
--- ends run from 0 to the largest number breaks `right`.
+-- ends run from 0 to the largest number, by that name, breaks `right`.
 pub record PairAnswered (x : Exact) (u : Scale) (width : Ends → Fraction) (ends : Case → Interval) (c : Case) (r : Pair) : Type 0 where
   pub answer : r ≡ pairAnswer ends c
-  pub right : recordFault c ≡ Sound → Reports x u width (ends c)
+  pub right : RightPair x u width r
 
 abbrev pub TouchAnswered : Case → Pair → Type 0
 TouchAnswered c = PairAnswered (tolerableTouch c) mV tolerableWidth touchEnds c
@@ -58,10 +58,15 @@ ResistanceAnswered c = PairAnswered (R.resistance c) μΩ resistanceWidth resist
 
 -- a row, or refusal 5 or 6 with line 0
 unfoldable pub rowAnswer : Case → RowAnswer
-rowAnswer c = recordAnswer row.Refused (row.Is (rowOf c)) (recordFault c)
+rowAnswer c = recordAnswer row.Refused (row.Is (rowOf c)) (recordJudged c)
 
--- the answer by the name of its row, and what holds of that row. Two wrong programs: one that answers the row of another case breaks
--- `answer`; one whose verdict is decided by the potential rise breaks `right`.
+-- a row is right; of a refusal nothing is asked here
+unfoldable pub RightAnswer : Case → RowAnswer → Type 0
+RightAnswer c (row.Is r) = RightRow c r
+RightAnswer c (row.Refused number line column) = Unit {0}
+
+-- the answer by the name of its row, and what holds of it. Two wrong programs: one that answers the row of another case breaks
+-- `answer`; one whose verdict is decided by the potential rise, by that name, breaks `right`.
 pub record RowAnswered (c : Case) (r : RowAnswer) : Type 0 where
   pub answer : r ≡ rowAnswer c
-  pub right : recordFault c ≡ Sound → RightRow c (rowOf c)
+  pub right : RightAnswer c r

@@ -13,3 +13,5 @@ pub mod QuotientWidth
 pub mod Span
 pub mod Fits
 pub mod SpanFits
+pub mod Negated
+pub mod Relatives

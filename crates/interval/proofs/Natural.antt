@@ -6,10 +6,10 @@ use native.Mathlib.Omega.{arith}
 use native.Mathlib.Nat.{mul-le-mul-left, mul-le-mul-right}
 use borrow.Author.Tests.{le-ltb}
 use lib.IntN.{pos, _-ℤ_}
-use Rattle.interval.specs.Whole.{floorZ, ceilDiv}
+use Rattle.interval.specs.Whole.{ceilDiv}
 use Rattle.interval.specs.Operations.{natural, point, sumOf, differenceOf, cornersOf, outwardOf, scaledOf, hullOf, productOf, quotientOf, Ordered}
 use Rattle.interval.proofs.Choice.{pos≤, min-rising, max-rising, min-falling, max-falling}
-use Rattle.interval.proofs.Rounding.{ceil-pos, floorDiv-falls, ceilDiv-falls}
+use Rattle.interval.proofs.Rounding.{floor-pos, ceil-pos, floorDiv-falls, ceilDiv-falls}
 
 pub point-natural : (n : ℕ) → point (pos n) ≡ natural n n
 unfolding point natural
@@ -37,8 +37,8 @@ unfolding scaledOf natural
 natural-scaled a b k = refl
 
 pub natural-outward : (a b : ℕ) {den : ℕ} → 0 < den → outwardOf (natural a b) den ≡ natural (a / den) (ceilDiv b den)
-unfolding outwardOf natural floorZ
-natural-outward a b h = cc (ceil-pos b h)
+unfolding outwardOf natural
+natural-outward a b h = cc (floor-pos a h, ceil-pos b h)
 
 module _ {a b c d : ℕ} (ab : a ≤ b) (cd : c ≤ d) where
   natural-corners : cornersOf (natural a b) (natural c d) ≡ natural (a * c) (b * d)
@@ -60,9 +60,11 @@ module _ {a b c d : ℕ} (ab : a ≤ b) (cd : c ≤ d) where
 -- the ends of the divisor cross
 pub natural-quotient : (a b : ℕ) {c d : ℕ} (k : ℕ) → 0 < c → c ≤ d
     → quotientOf (natural a b) (natural c d) k ≡ natural (a * k / d) (ceilDiv (b * k) c)
-unfolding quotientOf hullOf outwardOf scaledOf natural floorZ
+unfolding quotientOf hullOf outwardOf scaledOf natural
 natural-quotient a b {c} {d} k hc cd =
     cc (
+      floor-pos (a * k) hc,
+      floor-pos (a * k) {d = d} (omega arith),
       ceil-pos (b * k) hc,
       ceil-pos (b * k) {d = d} (omega arith),
       min-falling (floorDiv-falls (a * k) hc cd),

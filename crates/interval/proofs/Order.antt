@@ -5,7 +5,6 @@ use native.Mathlib.Omega.{arith}
 use native.Mathlib.Nat.{le-of-mul-le-mul-right, mul-le-mul-right}
 use lib.IntN.{ℤ, pos}
 use lib.Signed.{_≤ℤ_, ≤ℤ-refl}
-use Rattle.interval.specs.Whole.{floorZ}
 use Rattle.interval.specs.Operations.{point, sumOf, differenceOf, cornersOf, outwardOf, scaledOf, hullOf, productOf, quotientOf, Ordered}
 use Rattle.interval.specs.declared.Interval.{Interval}
 use Rattle.interval.proofs.Signed.{sum-is, difference-is, le-halves, halves-le, floor-below, scale-plus, scale-minus}
@@ -44,7 +43,7 @@ ordered-scaled {a} k h =
     }
 
 pub ordered-outward : {a : Interval} {d : ℕ} → 0 < d → Ordered a → Ordered (outwardOf a d)
-unfolding outwardOf floorZ
+unfolding outwardOf
 ordered-outward {a} t h =
     let l = floor-below (a .lower) t in
     let u = ceil-above (a .upper) t in

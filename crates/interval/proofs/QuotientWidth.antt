@@ -40,7 +40,6 @@ skew l l′ h h′ d1 d2 m s e top g t u v z half =
 module _ (a : Interval) (m k e w low top : ℕ) (na : Narrow a m) (tl : 0 < low) (gap : (m * top + size a * e) * k ≤ w * (low * low)) where
   ends : (d1 d2 : ℕ) → low ≤ d1 → low ≤ d2 → d2 ≤ top → d1 ≤ d2 + e → d2 ≤ d1 + e
       → Near (w + 1) (ceilZ (a .upper *ℤ pos k) d1) (floorZ (a .lower *ℤ pos k) d2)
-  unfolding floorZ
   ends d1 d2 b1 b2 t2 u v =
       let up = ceil-below (a .upper *ℤ pos k) {d = d1} (omega arith) in
       let down = floor-above (a .lower *ℤ pos k) {d = d2} (omega arith) in

@@ -1,13 +1,11 @@
 -- Division rounded down and up, of naturals and of signed numbers.
 -- Assumes nothing.
-use Prim.Native.Nat.{ℕ, zero, suc, _+_, _-_, _*_, _/_, _≤_, _<_}
+use Prim.Native.Nat.{ℕ, suc, _+_, _-_, _*_, _/_, _≤_, _<_}
 use mathlib.Core.Path.{_≡_, ap}
 use mathlib.Core.Logic.{⊎-elim}
 use native.Mathlib.Omega.{arith}
-use native.Mathlib.Nat.{div-mul-le-self, lt-div-mul-add, zero-div, div-eq-of-lt, add-div-right, mul-le-mul-left, le-of-suc-le-suc, lt-of-mul-lt-mul-right}
-use native.Mathlib.Numerals.{add-one}
-use lib.IntN.{ℤ, pos, negℤ, natAbs}
-use lib.Signed.{shrZ}
+use native.Mathlib.Nat.{div-mul-le-self, lt-div-mul-add, mul-le-mul-left, mul-le-mul-right, le-of-suc-le-suc, lt-of-mul-lt-mul-right}
+use lib.IntN.{ℤ, pos, negsuc, negℤ, natAbs}
 use Rattle.interval.specs.Signed.{plus, minus}
 use Rattle.interval.specs.Whole.{floorZ, ceilZ, ceilDiv}
 use Rattle.interval.proofs.Signed.{halves, size-is, neg-plus, neg-minus, floor-below, floor-above, size-neg, size-floor}
@@ -47,41 +45,60 @@ module _ (n : ℕ) {c d : ℕ} (hc : 0 < c) (h : c ≤ d) where
 
 -- rounded up: (q − 1) · d < z ≤ q · d
 module _ (z : ℤ) {d : ℕ} (h : 0 < d) where
-  turned : (plus (negℤ (shrZ (negℤ z) d)) * d ≡ minus (shrZ (negℤ z) d) * d)
-      × (minus (negℤ (shrZ (negℤ z) d)) * d ≡ plus (shrZ (negℤ z) d) * d)
-  turned = (ap (λ q. q * d) (neg-plus (shrZ (negℤ z) d)), ap (λ q. q * d) (neg-minus (shrZ (negℤ z) d)))
+  turned : (plus (negℤ (floorZ (negℤ z) d)) * d ≡ minus (floorZ (negℤ z) d) * d)
+      × (minus (negℤ (floorZ (negℤ z) d)) * d ≡ plus (floorZ (negℤ z) d) * d)
+  turned = (ap (λ q. q * d) (neg-plus (floorZ (negℤ z) d)), ap (λ q. q * d) (neg-minus (floorZ (negℤ z) d)))
 
   pub ceil-above : plus z + minus (ceilZ z d) * d ≤ plus (ceilZ z d) * d + minus z
-  unfolding ceilZ floorZ
+  unfolding ceilZ
   ceil-above = omega (arith, turned, floor-below (negℤ z) h, neg-plus z, neg-minus z)
 
   pub ceil-below : plus (ceilZ z d) * d + minus z < plus z + minus (ceilZ z d) * d + d
-  unfolding ceilZ floorZ
+  unfolding ceilZ
   ceil-below = omega (arith, turned, floor-above (negℤ z) h, neg-plus z, neg-minus z)
 
+-- a signed number that lies where a rounded quotient lies is that quotient
+pub floor-is : (z : ℤ) (n d : ℕ) → plus z * d ≤ n + minus z * d → n + minus z * d < plus z * d + d → z ≡ pos (n / d)
+floor-is (pos a) n d h k =
+    let p : a < suc (n / d) = lt-of-mul-lt-mul-right d (omega (arith, floorDiv-above n {d = d} (omega arith))) in
+    let q : n / d < suc a = lt-of-mul-lt-mul-right d (omega (arith, floorDiv-below n d)) in
+    let e : a ≡ n / d = omega arith in
+    ap pos e
+floor-is (negsuc a) n d h k = absurd (omega arith)
+
+pub ceil-is : (z : ℤ) (n d : ℕ) → 0 < d → n + minus z * d ≤ plus z * d → plus z * d < n + minus z * d + d → z ≡ pos (ceilDiv n d)
+ceil-is (pos a) n d p h k =
+    let l : a < suc (ceilDiv n d) = lt-of-mul-lt-mul-right d (omega (arith, ceilDiv-above n p)) in
+    let m : ceilDiv n d < suc a = lt-of-mul-lt-mul-right d (omega (arith, ceilDiv-below n p)) in
+    let e : a ≡ ceilDiv n d = omega arith in
+    ap pos e
+ceil-is (negsuc a) n d p h k = absurd (omega (arith, mul-le-mul-right d p))
+
+-- of a natural number
+pub floor-pos : (n : ℕ) {d : ℕ} → 0 < d → floorZ (pos n) d ≡ pos (n / d)
+floor-pos n {d} h = floor-is (floorZ (pos n) d) n d (omega (arith, floor-below (pos n) h)) (omega (arith, floor-above (pos n) h))
+
 pub ceil-pos : (n : ℕ) {d : ℕ} → 0 < d → ceilZ (pos n) d ≡ pos (ceilDiv n d)
-unfolding ceilZ floorZ ceilDiv
-ceil-pos zero {d} h = rw (zero-div d, div-eq-of-lt {n = 0 + (d - 1)} {m = d} (omega arith))
-ceil-pos (suc n) {d} h = let e : suc n + (d - 1) ≡ n + d = omega arith in rw (e, add-div-right n h, add-one)
+ceil-pos n {d} h = ceil-is (ceilZ (pos n) d) n d h (omega (arith, ceil-above (pos n) h)) (omega (arith, ceil-below (pos n) h))
 
 -- ---- sizes
 
 pub size-ceil : (z : ℤ) (d : ℕ) → natAbs (ceilZ z d) ≤ natAbs z
-unfolding ceilZ floorZ
-size-ceil z d = omega (arith, size-neg (shrZ (negℤ z) d), size-floor (negℤ z) d, size-neg z)
+unfolding ceilZ
+size-ceil z d = omega (arith, size-neg (floorZ (negℤ z) d), size-floor (negℤ z) d, size-neg z)
 
 -- with the divisor taken into account: w is a bound on the quotient
-pub size-floor-by : (z : ℤ) {d w : ℕ} → 0 < d → natAbs z ≤ w * d → natAbs (shrZ z d) ≤ w
+pub size-floor-by : (z : ℤ) {d w : ℕ} → 0 < d → natAbs z ≤ w * d → natAbs (floorZ z d) ≤ w
 size-floor-by z {d} {w} t h =
     le-of-suc-le-suc
     (lt-of-mul-lt-mul-right d
-    (rw (size-is (shrZ z d))
+    (rw (size-is (floorZ z d))
     (⊎-elim
     (λ q. omega (arith, floor-above z t, size-is z, ap (λ i. i * d) q))
     (λ q. omega (arith, floor-below z t, size-is z, ap (λ i. i * d) q))
-    (halves (shrZ z d)))))
+    (halves (floorZ z d)))))
 
 pub size-ceil-by : (z : ℤ) {d w : ℕ} → 0 < d → natAbs z ≤ w * d → natAbs (ceilZ z d) ≤ w
-unfolding ceilZ floorZ
+unfolding ceilZ
 size-ceil-by z {d} {w} t h =
-    omega (arith, size-neg (shrZ (negℤ z) d), size-floor-by (negℤ z) {w = w} t (omega (arith, size-neg z)))
+    omega (arith, size-neg (floorZ (negℤ z) d), size-floor-by (negℤ z) {w = w} t (omega (arith, size-neg z)))

@@ -8,8 +8,9 @@ use native.Mathlib.Omega.{arith}
 use native.Mathlib.Nat.{div-mul-le-self, div-le-self, lt-div-mul-add}
 use lib.Dec.{T, ltb, ltb→lt, lt→ltb, nltb→le, leb→le, le→leb}
 use lib.IntN.{ℤ, pos, negsuc, negℤ, natAbs, subℕ, _+ℤ_, _-ℤ_, _*ℤ_}
-use lib.Signed.{_≤ℤ_, _<ℤ_, shrZ}
+use lib.Signed.{_≤ℤ_, _<ℤ_}
 use Rattle.interval.specs.Signed.{plus, minus}
+use Rattle.interval.specs.Whole.{floorZ}
 
 -- one half is 0, and the other the size
 pub halves : (z : ℤ) → (plus z ≡ 0) ⊎ (minus z ≡ 0)
@@ -97,11 +98,13 @@ halves-lt (negsuc a) (negsuc b) h = record { lt = lt→ltb b a (omega arith) }
 
 -- ---- the quotient rounded down: q · d ≤ z < (q + 1) · d
 
-pub floor-below : (z : ℤ) {d : ℕ} → 0 < d → plus (shrZ z d) * d + minus z ≤ plus z + minus (shrZ z d) * d
+pub floor-below : (z : ℤ) {d : ℕ} → 0 < d → plus (floorZ z d) * d + minus z ≤ plus z + minus (floorZ z d) * d
+unfolding floorZ
 floor-below (pos a) {d} h = omega (arith, div-mul-le-self a d)
 floor-below (negsuc a) {d} h = omega (arith, lt-div-mul-add {a = a} h)
 
-pub floor-above : (z : ℤ) {d : ℕ} → 0 < d → plus z + minus (shrZ z d) * d < plus (shrZ z d) * d + minus z + d
+pub floor-above : (z : ℤ) {d : ℕ} → 0 < d → plus z + minus (floorZ z d) * d < plus (floorZ z d) * d + minus z + d
+unfolding floorZ
 floor-above (pos a) {d} h = omega (arith, lt-div-mul-add {a = a} h)
 floor-above (negsuc a) {d} h = omega (arith, div-mul-le-self a d)
 
@@ -125,6 +128,7 @@ size-product (pos a) (negsuc b) = size-neg (pos (a * suc b))
 size-product (negsuc a) (pos b) = size-neg (pos (suc a * b))
 size-product (negsuc a) (negsuc b) = refl
 
-pub size-floor : (z : ℤ) (d : ℕ) → natAbs (shrZ z d) ≤ natAbs z
+pub size-floor : (z : ℤ) (d : ℕ) → natAbs (floorZ z d) ≤ natAbs z
+unfolding floorZ
 size-floor (pos a) d = div-le-self a d
 size-floor (negsuc a) d = omega (arith, div-le-self a d)

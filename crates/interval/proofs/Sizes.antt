@@ -8,7 +8,7 @@ use lib.IntN.{ℤ, pos, negsuc, natAbs, _*ℤ_}
 use lib.Dec.{T}
 use lib.Signed.{_≤ℤ_, nonNeg, yes-nonNeg}
 use Rattle.interval.specs.Signed.{plus, minus}
-use Rattle.interval.specs.Whole.{floorZ, minZ, maxZ}
+use Rattle.interval.specs.Whole.{minZ, maxZ}
 use Rattle.interval.specs.Operations.{natural, point, size, sumOf, differenceOf, timesOf, cornersOf, outwardOf, scaledOf, hullOf, productOf, quotientOf}
 use Rattle.interval.specs.declared.Interval.{Interval}
 use Rattle.interval.proofs.Signed.{size-floor, le-halves, halves-le, size-is}
@@ -114,7 +114,7 @@ size-corners a b = rw corners-hull (size-hull _ _ (size-times (a .lower) b (size
 -- ---- division
 
 pub size-outward : (a : Interval) (d : ℕ) → size (outwardOf a d) ≤ size a
-unfolding outwardOf floorZ
+unfolding outwardOf
 size-outward a d =
     size-ends _ (le-trans (size-floor (a .lower) d) (size-lower a)) (le-trans (size-ceil (a .upper) d) (size-upper a))
 
@@ -129,7 +129,7 @@ size-quotient a b k = size-hull _ _ (le-trans (size-outward _ _) (size-scaled a 
 -- ---- with the divisor taken into account: w is a bound on the quotient
 
 pub size-outward-by : (a : Interval) {d w : ℕ} → 0 < d → size a ≤ w * d → size (outwardOf a d) ≤ w
-unfolding outwardOf floorZ
+unfolding outwardOf
 size-outward-by a {d} {w} t h =
     size-ends _ (size-floor-by (a .lower) t (le-trans (size-lower a) h)) (size-ceil-by (a .upper) t (le-trans (size-upper a) h))
 

@@ -4,7 +4,6 @@ use Prim.Native.Nat.{ℕ, _+_, _*_, _≤_, _<_}
 use native.Mathlib.Omega.{arith}
 use native.Mathlib.Nat.{mul-le-mul-right, lt-of-mul-lt-mul-right, le-of-suc-le-suc}
 use lib.IntN.{ℤ}
-use Rattle.interval.specs.Whole.{floorZ}
 use Rattle.interval.specs.Operations.{natural, point, sumOf, differenceOf, outwardOf, scaledOf, Narrow}
 use Rattle.interval.specs.declared.Interval.{Interval}
 use Rattle.interval.proofs.Signed.{sum-is, difference-is, floor-above, scale-plus, scale-minus}
@@ -48,7 +47,7 @@ width-scaled {a} {n} k h =
 
 -- where the width divided is at most w, rounding adds less than two units, so at most one to w
 pub width-outward-by : {a : Interval} {d n : ℕ} (w : ℕ) → 0 < d → n ≤ w * d → Narrow a n → Narrow (outwardOf a d) (w + 1)
-unfolding outwardOf floorZ
+unfolding outwardOf
 width-outward-by {a} {d} {n} w t k h =
     record {
       narrow =

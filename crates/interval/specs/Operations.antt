@@ -1,7 +1,7 @@
 -- What the methods of an interval give: the exact ends, rounded outward.
 -- Assumes nothing.
 use Prim.Native.Nat.{ℕ, _+_, _≤_, max}
-use lib.IntN.{ℤ, pos, natAbs, _+ℤ_, _-ℤ_, _*ℤ_}
+use lib.IntN.{ℤ, pos, natAbs, negℤ, _+ℤ_, _-ℤ_, _*ℤ_}
 use lib.Signed.{_≤ℤ_}
 use Rattle.interval.specs.Signed.{plus, minus}
 use Rattle.interval.specs.Whole.{floorZ, ceilZ, minZ, maxZ}
@@ -24,6 +24,10 @@ sumOf a b = record { lower = a .lower +ℤ b .lower; upper = a .upper +ℤ b .up
 
 unfoldable pub differenceOf : Interval → Interval → Interval
 differenceOf a b = record { lower = a .lower -ℤ b .upper; upper = a .upper -ℤ b .lower }
+
+-- minus a: the ends are turned round
+unfoldable pub minusOf : Interval → Interval
+minusOf a = record { lower = negℤ (a .upper); upper = negℤ (a .lower) }
 
 -- z · a: below 0 the ends are turned round
 unfoldable pub timesOf : ℤ → Interval → Interval

@@ -10,12 +10,18 @@ ghost use mathlib.Core.Path.{_≡_};
 ghost use Prim.Native.Nat.{_+_, _*_, _<_, _^_};
 ghost use lib.IntN.{pos, natAbs};
 ghost use lib.Signed.{_≤ℤ_};
-ghost use Rattle.interval.specs.Operations.{natural, point, size, sumOf, differenceOf, timesOf, cornersOf, outwardOf, scaledOf, hullOf, productOf, quotientOf};
+ghost use Rattle.interval.specs.Operations.{natural, point, size, sumOf, differenceOf, minusOf, timesOf, cornersOf, outwardOf, scaledOf, hullOf, productOf, quotientOf};
 
 // The two ends of a quantity, in a unit that the quantity's definition names.
 pub struct Interval {
     pub lower: i64,
     pub upper: i64,
+}
+
+// The answer to a question for two ends: the ends, or a refusal with number, line and column.
+pub enum Pair {
+    Ends(Interval),
+    Refused(u32, usize, usize),
 }
 
 impl Interval {
@@ -56,6 +62,16 @@ impl Interval {
         Interval {
             lower: self.lower - other.upper,
             upper: self.upper - other.lower,
+        }
+    }
+
+    pub fn minus(self) -> Interval
+        requires { ⌜ size self < 2 ^ 63 ⌝ }
+        ensures { λ r. ⌜ r ≡ minusOf self ⌝ }
+    {
+        Interval {
+            lower: 0 - self.upper,
+            upper: 0 - self.lower,
         }
     }
 

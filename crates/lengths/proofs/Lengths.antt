@@ -12,7 +12,7 @@ use Rattle.exact.proofs.Sums.{cong+}
 use Rattle.exact.proofs.Products.{cong·}
 use Rattle.case.specs.declared.Case.{Case}
 use Rattle.case.specs.Bounds.{Between, Bounds, Rodless, Rodded}
-use Rattle.formulas.specs.Lengths.{D, n, Lr, side, Lc, LR, LT}
+use Rattle.formulas.specs.Lengths.{D, Lr, side, Lc, LR, LT}
 use Rattle.lengths.specs.Lengths.{sideLength, conductorLength, rodLength, totalLength}
 
 -- ---- bounds
@@ -72,7 +72,7 @@ module _ (c : Case) where
   side-is = times-decimal (c .lines - 1) (c .space) 3
 
   pub conductor-is : Lc c ≈f decimal (conductorLength c) 3
-  unfolding Lc n conductorLength
+  unfolding Lc conductorLength
   conductor-is = trans≈ (cong· (twice-whole (c .lines)) side-is) (times-decimal (2 * c .lines) (sideLength c) 3)
 
   pub rod-is : LR c ≈f decimal (rodLength c) 3

@@ -1,57 +1,73 @@
-// The answer to a sheet as text: a line of names and all seventeen numbers of each row, or the
-// refusal.
-use print::bytes;
-use print::signed;
+// The answer to a sheet as text: a line of names and a line for each row, or the refusal.
+mod rows;
+mod verdicts;
+
+use judgement::BYTES;
+use judgement::LINES;
+use row::ROW_LENGTH;
 use sheet::Answer;
-ghost use Prim.Native.Nat.{_<_, _≤_};
+ghost use Prim.Native.Nat.{_≤_, _*_};
+ghost use lib.ListN.{length};
+ghost use Rattle.row.specs.Row.{rowLength};
+pub use rows::numbers;
 
-// The names of the seventeen numbers, with their units.
-fn names() {
-    bytes(b"station,season,verdict,size_kcmil,grid_current_uA");
-    bytes(b",tolerable_touch_lower_mV,tolerable_touch_upper_mV");
-    bytes(b",tolerable_step_lower_mV,tolerable_step_upper_mV");
-    bytes(b",mesh_lower_mV,mesh_upper_mV,step_lower_mV,step_upper_mV");
-    bytes(b",resistance_lower_uohm,resistance_upper_uohm,rise_lower_mV,rise_upper_mV\n");
+// A row for each of the most value lines.
+pub const TABLE: usize = LINES * ROW_LENGTH;
+
+// One byte more than a sheet may have, so that a longer one is refused.
+const SPACE: usize = BYTES + 1;
+
+// What is listed of each row.
+pub enum Listing {
+    Numbers,
+    Verdicts,
 }
 
-// Row i.
-fn row(table: &[i64; 1088], i: usize)
-    requires { ⌜ i < 64 ⌝ }
-{
-    signed(table[17 * i]);
-    let mut j: usize = 1;
-    while j < 17 {
-        bytes(b",");
-        signed(table[17 * i + j]);
-        j += 1;
+// The line of names.
+fn names(what: Listing) {
+    match what {
+        Listing::Numbers => rows::names(),
+        Listing::Verdicts => verdicts::names(),
     }
-    bytes(b"\n");
 }
 
-// The first count rows; a sheet has at most 64.
-fn rows(table: &[i64; 1088], count: usize) {
-    names();
+// The line of one row.
+fn line(what: Listing, row: &[i64])
+    requires { ⌜ 4 ≤ length (now row) ⌝ }
+{
+    match what {
+        Listing::Numbers => numbers(row),
+        Listing::Verdicts => verdicts::verdict(row),
+    }
+}
+
+// The first count rows of the table.
+fn lines(what: Listing, table: &[i64], count: usize)
+    requires { ⌜ rowLength * count ≤ length (now table) ⌝ }
+{
+    names(what);
+    let mut rest = table;
     let mut i: usize = 0;
-    while i < count && i < 64 {
-        row(table, i);
+    while i < count {
+        line(what, &rest[..ROW_LENGTH]);
+        rest = &rest[ROW_LENGTH..];
         i += 1;
     }
 }
 
-// room, or 1,088 where it is more.
-fn within(room: usize) -> usize
-    ensures { λ r. ⌜ r ≤ 1088 ⌝ }
-{
-    if room < 1088 { room } else { 1088 }
-}
-
-// Prints the answer to a sheet for a table of room numbers; 17 for each of 64 rows is the most.
-pub fn answer(s: &[u8], room: usize) {
-    let mut table = [0i64; 1088];
-    let n = within(room);
-    let a = sheet::sheet(s, &mut table[..n]);
+// Prints the answer to a sheet, and leaves its rows in the table.
+pub fn answer(what: Listing, s: &[u8], table: &mut [i64]) {
+    let a = sheet::sheet(s, table);
     match a {
-        Answer::Rows(count) => rows(&table, count),
+        Answer::Rows(count) => lines(what, table, count),
         Answer::Refused(why, line, column) => print::refused(why, line, column),
     }
+}
+
+// Reads a sheet from standard input and prints its answer.
+pub fn run(what: Listing) {
+    let mut space = [0u8; SPACE];
+    let n = input::read(&mut space);
+    let mut table = [0i64; TABLE];
+    answer(what, &space[..n], &mut table);
 }

@@ -10,3 +10,5 @@ pub mod UpEnds
 pub mod Width
 pub mod LnEnds
 pub mod RightEnds
+pub mod KnownHalvings
+pub mod Growth

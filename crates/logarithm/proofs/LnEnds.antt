@@ -1,4 +1,4 @@
--- The ends of ln (p/q), above and below 1: they enclose the exact ones at depth 12, are in order, close and small.
+-- The ends of ln (p/q), above and below 1: they enclose the exact ones at the depth of code, are in order, close and small.
 -- Assumes nothing.
 use Prim.Native.Nat.{ℕ, _+_, _*_, _≤_, _<_}
 use mathlib.Core.Path.{_≡_, ap}
@@ -6,20 +6,19 @@ use mathlib.Core.Bool.{Bool, true, false, not, cond}
 use native.Mathlib.Omega.{arith}
 use lib.Dec.{T, ltb, ltb→lt, nltb→le}
 use Rattle.interval.specs.declared.Interval.{Interval}
-use Rattle.interval.specs.Operations.{natural, size, Ordered, Narrow}
+use Rattle.interval.specs.Operations.{natural, size, minusOf, Ordered, Narrow}
 use Rattle.interval.proofs.Signed.{neg-plus, neg-minus, size-neg, le-halves, halves-le}
 use Rattle.exact.specs.Fraction.{_<f_, _≈f_, whole, _·f_, inv, _÷f_}
-use Rattle.exact.specs.Ends.{minusEnds}
 use Rattle.exact.specs.Exact.{Holds}
 use Rattle.exact.specs.Logarithm.{lnOf}
-use Rattle.exact.specs.Reported.{Scale, ten, reported}
-use Rattle.exact.specs.Depth.{Within}
+use Rattle.exact.specs.Reported.{ten, reported}
+use Rattle.exact.specs.Depth.{workDepth, Within}
 use Rattle.exact.proofs.Quotients.{inv-pos}
 use Rattle.exact.proofs.Inclusion.{within-trans, within-same}
-use Rattle.exact.proofs.Reported.{over-neg}
 use Rattle.exact.proofs.Logarithm.{ln-value, within-ln-down, consistent-ln-of}
 use Rattle.exact.proofs.Holding.{holds-depth}
-use Rattle.logarithm.specs.Ends.{Inside, halvingsOf, argumentOf, endOf, upEnds, minusOf, lnEnds}
+use Rattle.enclosure.proofs.Sums.{minus-within}
+use Rattle.logarithm.specs.Ends.{Inside, halvingsOf, argumentOf, endOf, upEnds, downEnds, lnEnds}
 use Rattle.logarithm.proofs.Sizes.{endBound, end-size}
 use Rattle.logarithm.proofs.Ratio.{ratio-den, scaled, halvings-small}
 use Rattle.logarithm.proofs.ArgumentEnds.{argument-size}
@@ -27,19 +26,15 @@ use Rattle.logarithm.proofs.Width.{Close, end-close}
 use Rattle.logarithm.proofs.UpEnds.{up-encloses}
 
 -- minus the ends of ln (q/p), or the ends themselves
-pub ln-cases : (P : Interval → Type 0) (p q : ℕ) → (p < q → P (minusOf (upEnds q p))) → (q ≤ p → P (upEnds p q)) → P (lnEnds p q)
+pub ln-cases : (P : Interval → Type 0) (p q : ℕ) → (p < q → P (downEnds p q)) → (q ≤ p → P (upEnds p q)) → P (lnEnds p q)
 unfolding lnEnds
 ln-cases P p q f g = go (ltb p q) (ltb→lt p q) (nltb→le p q)
   where
-    go : (t : Bool) → (T t → p < q) → (T (not t) → q ≤ p) → P (cond t (minusOf (upEnds q p)) (upEnds p q))
+    go : (t : Bool) → (T t → p < q) → (T (not t) → q ≤ p) → P (cond t (downEnds p q) (upEnds p q))
     go true h k = f (h tt)
     go false h k = g (k tt)
 
 -- ---- enclosure
-
-minus-within : (u : Scale) (i : Interval) → Within (minusEnds (reported u i)) (reported u (minusOf i))
-unfolding minusEnds reported minusOf
-minus-within u i = record { low = over-neg (i .upper) u .to; high = over-neg (i .lower) u .fro }
 
 module _ {p q : ℕ} (hp : 1 ≤ p) (hq : 1 ≤ q) where
   pub ratio-positive : whole 0 <f whole p ÷f whole q
@@ -57,16 +52,17 @@ module _ {p q : ℕ} (hp : 1 ≤ p) (hq : 1 ≤ q) where
       let e : inv (whole p ÷f whole q) .den ≡ p = omega arith in
       omega (arith, ap (λ t. t * r .den) (ratio-den p hq), scaled q hp q, ap (λ t. q * t) e)
 
-  down-encloses : p < q → Within (lnOf (whole p ÷f whole q) 12) (reported (ten 9) (minusOf (upEnds q p)))
+  down-encloses : p < q → Within (lnOf (whole p ÷f whole q) workDepth) (reported (ten 9) (downEnds p q))
+  unfolding downEnds
   down-encloses l =
       within-trans
-      (within-ln-down 12 ratio-positive (ratio-below l) (within-trans (within-same (ln-value (inv-pos _) ratio-turned 12)) (up-encloses hp (omega arith))))
+      (within-ln-down workDepth ratio-positive (ratio-below l) (within-trans (within-same (ln-value (inv-pos _) ratio-turned workDepth)) (up-encloses hp (omega arith))))
       (minus-within (ten 9) (upEnds q p))
 
 module _ {p q : ℕ} (hp : Inside p) (hq : Inside q) where
-  pub ln-encloses : Within (lnOf (whole p ÷f whole q) 12) (reported (ten 9) (lnEnds p q))
+  pub ln-encloses : Within (lnOf (whole p ÷f whole q) workDepth) (reported (ten 9) (lnEnds p q))
   ln-encloses =
-      ln-cases (λ i. Within (lnOf (whole p ÷f whole q) 12) (reported (ten 9) i)) p q (down-encloses (hp .low) (hq .low)) (up-encloses (hq .low))
+      ln-cases (λ i. Within (lnOf (whole p ÷f whole q) workDepth) (reported (ten 9) i)) p q (down-encloses (hp .low) (hq .low)) (up-encloses (hq .low))
 
   pub ln-holds : Holds (reported (ten 9) (lnEnds p q)) (lnOf (whole p ÷f whole q))
   ln-holds = holds-depth (consistent-ln-of (ratio-positive (hp .low) (hq .low))) (omega arith) ln-encloses
@@ -112,6 +108,7 @@ minus-tight i t =
     }
 
 ln-tight : {p q : ℕ} → Inside p → Inside q → Tight (lnEnds p q)
+unfolding downEnds
 ln-tight {p} {q} hp hq =
     ln-cases Tight p q (λ l. minus-tight (upEnds q p) (up-tight hq hp (omega arith))) (up-tight hp hq)
 

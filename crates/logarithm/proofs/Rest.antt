@@ -6,6 +6,7 @@ use native.Mathlib.Nat.{add-zero, add-suc}
 use lib.Dec.{lit≤}
 use Rattle.exact.specs.Fraction.{Fraction, _≤f_, whole, _+f_, neg, _−f_, _·f_, inv, _÷f_, powf}
 use Rattle.exact.specs.Logarithm.{argument, term, terms, tail}
+use Rattle.exact.specs.Depth.{workDepth}
 use Rattle.exact.specs.Reported.{over}
 use Rattle.exact.proofs.Order.{refl≤, trans≤, whole≤}
 use Rattle.exact.proofs.Sums.{mono+, add-assoc, le+}
@@ -25,8 +26,8 @@ leftOf : ℕ → ℕ → Fraction
 leftOf j zero = whole 0
 leftOf j (suc n) = leftOf j n +f term third (j + n)
 
--- the terms up to the twelfth, and their tail
-left-small : leftOf termCount (12 - termCount) +f tail third 12 ≤f units binary 1
+-- the terms up to the depth of code, and their tail
+left-small : leftOf termCount (workDepth - termCount) +f tail third workDepth ≤f units binary 1
 unfolding leftOf argument term tail powf whole neg _+f_ _−f_ _·f_ inv _÷f_ over
 left-small = record { le = lit≤ tt }
 
@@ -47,11 +48,11 @@ module _ {x : Fraction} (nx : whole 0 ≤f x) (l : x ≤f third) where
   terms-left j zero = rw add-zero (le+ (refl≤ (whole 0)))
   terms-left j (suc n) = rw add-suc (absorb (terms x j) (leftOf j n) (terms-left j n) (term≤ (j + n)))
 
-  pub rest-below : terms x 12 +f tail x 12 ≤f terms x termCount +f units binary 1
+  pub rest-below : terms x workDepth +f tail x workDepth ≤f terms x termCount +f units binary 1
   rest-below =
-      let left = leftOf termCount (12 - termCount) in
-      trans≤ (absorb (terms x termCount) left (terms-left termCount (12 - termCount)) (tail≤ nx l (square<1 one≤two) 12))
+      let left = leftOf termCount (workDepth - termCount) in
+      trans≤ (absorb (terms x termCount) left (terms-left termCount (workDepth - termCount)) (tail≤ nx l (square<1 one≤two) workDepth))
       (mono+ (refl≤ _) left-small)
 
-  pub terms-below : terms x termCount ≤f terms x 12
+  pub terms-below : terms x termCount ≤f terms x workDepth
   terms-below = rising (terms x) (terms-rise nx) (omega arith)

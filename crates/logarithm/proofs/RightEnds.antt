@@ -2,7 +2,7 @@
 -- Assumes nothing.
 use Prim.Native.Nat.{ℕ}
 use mathlib.Core.Path.{_≡_}
-use mathlib.Core.Bool.{Bool, true, false, _&&_}
+use mathlib.Core.Bool.{true, and-eq-true-iff}
 use native.Mathlib.Omega.{arith}
 use borrow.Author.Tests.{leb-true}
 use lib.Dec.{leb, lit≤}
@@ -27,15 +27,7 @@ right-ends {p} {q} hp hq =
       narrow = narrow-width (lnEnds p q) (ln-narrow hp hq (lit≤ tt));
     }
 
-and-left : (a b : Bool) → a && b ≡ true → a ≡ true
-and-left true b h = cc
-and-left false b h = h
-
-and-right : (a b : Bool) → a && b ≡ true → b ≡ true
-and-right true b h = h
-and-right false b h = cc
-
 pub inside-known : (n : ℕ) → inside n ≡ true → Inside n
 unfolding inside
 inside-known n h =
-    record { low = leb-true 1 n (and-left _ _ h); high = leb-true n most (and-right (leb 1 n) _ h) }
+    let t = and-eq-true-iff (leb 1 n) (leb n most) .0 h in record { low = leb-true 1 n (t .0); high = leb-true n most (t .1) }

@@ -1,4 +1,4 @@
--- The ends of ln (p/q) for q ≤ p enclose the exact ones at depth 12: m ln 2 and ln r, each rounded outward.
+-- The ends of ln (p/q) for q ≤ p enclose the exact ones at the depth of code: m ln 2 and ln r, each rounded outward.
 -- Assumes nothing.
 use Prim.Native.Nat.{ℕ, _+_, _≤_}
 use mathlib.Core.Path.{refl}
@@ -7,7 +7,7 @@ use Rattle.interval.specs.Operations.{natural}
 use Rattle.exact.specs.Fraction.{Fraction, _≤f_, whole, _+f_, _·f_, _÷f_}
 use Rattle.exact.specs.Logarithm.{argument, terms, lnNear, lnOf}
 use Rattle.exact.specs.Reported.{ten, reported}
-use Rattle.exact.specs.Depth.{Within}
+use Rattle.exact.specs.Depth.{workDepth, Within}
 use Rattle.exact.proofs.Order.{refl≤, trans≤, refl≈, nonneg}
 use Rattle.exact.proofs.Sums.{mono+, add-zero}
 use Rattle.exact.proofs.Products.{mul-left≤}
@@ -47,11 +47,11 @@ end-toward nx up m z h k =
     toward-trans (toward-same up (units-sum (ten 9) (doublings up m) (nearOf up z)))
     (toward-sum (doublings-toward up m h) (near-toward nx up z k))
 
-ln2-low : units (ten 12) ln2 ≤f lnNear (whole 2) 12 .lower
+ln2-low : units (ten 12) ln2 ≤f lnNear (whole 2) workDepth .lower
 unfolding reported
 ln2-low = within-ln2 .low
 
-ln2-high : lnNear (whole 2) 12 .upper ≤f units (ten 12) (ln2 + 1)
+ln2-high : lnNear (whole 2) workDepth .upper ≤f units (ten 12) (ln2 + 1)
 unfolding reported
 ln2-high = within-ln2 .high
 
@@ -65,20 +65,20 @@ module _ {p q : ℕ} (hq : 1 ≤ q) (l : q ≤ p) where
   nx : whole 0 ≤f x
   nx = argument-nonneg (reduced-least hq l)
 
-  end-below : units (ten 9) (endOf 0 m (argumentOf p q)) ≤f whole m ·f lnNear (whole 2) 12 .lower +f lnNear (reduced p q) 12 .lower
+  end-below : units (ten 9) (endOf 0 m (argumentOf p q)) ≤f whole m ·f lnNear (whole 2) workDepth .lower +f lnNear (reduced p q) workDepth .lower
   unfolding lnNear
   end-below =
       trans≤ (end-toward nx 0 m (argumentOf p q) (from-below ln2-low) (from-below (argument-low hq l)) .down refl)
-      (mono+ (refl≤ _) (trans≤ (mono+ (terms-below nx (argument-third hq l)) (units-zero binary .to)) (add-zero (terms x 12) .to)))
+      (mono+ (refl≤ _) (trans≤ (mono+ (terms-below nx (argument-third hq l)) (units-zero binary .to)) (add-zero (terms x workDepth) .to)))
 
-  end-above : whole m ·f lnNear (whole 2) 12 .upper +f lnNear (reduced p q) 12 .upper ≤f units (ten 9) (endOf 1 m (argumentOf p q + 1))
+  end-above : whole m ·f lnNear (whole 2) workDepth .upper +f lnNear (reduced p q) workDepth .upper ≤f units (ten 9) (endOf 1 m (argumentOf p q + 1))
   unfolding lnNear
   end-above =
       trans≤ (mono+ (refl≤ _) (rest-below nx (argument-third hq l)))
       (end-toward nx 1 m (argumentOf p q + 1) (from-above ln2-high) (from-above (argument-high hq l)) .upward (lit< tt))
 
-  pub up-encloses : Within (lnOf (whole p ÷f whole q) 12) (reported (ten 9) (upEnds p q))
+  pub up-encloses : Within (lnOf (whole p ÷f whole q) workDepth) (reported (ten 9) (upEnds p q))
   unfolding upEnds natural reported halvingsOf
   up-encloses =
       rw (ln-at-least-one (ratio-low hq l))
-      (within-trans (within-same (up-ends (ratio-low hq l) 12)) (record { low = end-below; high = end-above }))
+      (within-trans (within-same (up-ends (ratio-low hq l) workDepth)) (record { low = end-below; high = end-above }))

@@ -7,10 +7,11 @@ use mathlib.Core.Bool.{Bool, cond, _&&_}
 use lib.Dec.{leb}
 use Rattle.exact.specs.Fraction.{Fraction, whole, decimal, _÷f_}
 use Rattle.exact.specs.Logarithm.{lnOf}
-use Rattle.exact.specs.Reported.{ten, Reports}
-use Rattle.logarithm.specs.declared.Answer.{Answer}
-use Rattle.logarithm.specs.declared.Answer.the-variants.{Ends, Refused}
-use Rattle.logarithm.specs.Ends.{most, Inside, lnEnds}
+use Rattle.exact.specs.Reported.{ten}
+use Rattle.exact.specs.Answered.{RightPair}
+use Rattle.interval.specs.declared.Pair.{Pair}
+use Rattle.interval.specs.declared.Pair.the-variants.{Ends, Refused}
+use Rattle.logarithm.specs.Ends.{most, lnEnds}
 
 -- "at most 2,000 apart": 2,000 billionths
 unfoldable pub width : Fraction
@@ -20,14 +21,15 @@ unfoldable pub inside : ℕ → Bool
 inside n = leb 1 n && leb n most
 
 -- "one outside is refused with 5, line 0, column 1 (upper number) or 2 (lower)"
-unfoldable pub refused : ℕ → Answer
+unfoldable pub refused : ℕ → Pair
 refused column = Refused 5 0 column
 
 -- the upper number comes first
-unfoldable pub answerOf : ℕ → ℕ → Answer
+unfoldable pub answerOf : ℕ → ℕ → Pair
 answerOf p q = cond (inside p) (cond (inside q) (Ends (lnEnds p q)) (refused 2)) (refused 1)
 
--- the answer, and what holds of the pair of ends, its free part. Two wrong programs: one that refuses all fractions breaks `answer`; one that answers −35 and 35 to all of them breaks `narrow`.
-pub record Answered (p q : ℕ) (r : Answer) : Type 0 where
+-- the answer, and what holds of the pair of ends, its free part. Two wrong programs: one that refuses all fractions breaks `answer`; one whose
+-- ends are −35 and 35 for every fraction, by that name, breaks `right`.
+pub record Answered (p q : ℕ) (r : Pair) : Type 0 where
   pub answer : r ≡ answerOf p q
-  pub right : Inside p → Inside q → Reports (lnOf (whole p ÷f whole q)) (ten 9) (λ A. width) (lnEnds p q)
+  pub right : RightPair (lnOf (whole p ÷f whole q)) (ten 9) (λ A. width) r

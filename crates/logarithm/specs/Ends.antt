@@ -3,9 +3,8 @@
 use Prim.Native.Nat.{ℕ, _+_, _-_, _*_, _/_, _^_, _≤_}
 use mathlib.Core.Bool.{cond}
 use lib.Dec.{ltb}
-use lib.IntN.{negℤ}
 use Rattle.interval.specs.declared.Interval.{Interval}
-use Rattle.interval.specs.Operations.{natural}
+use Rattle.interval.specs.Operations.{natural, minusOf}
 use Rattle.exact.specs.Fraction.{whole, _÷f_}
 use Rattle.exact.specs.Logarithm.{halvings}
 use Rattle.logarithm.specs.Series.{unit, termCount, termsOf}
@@ -49,8 +48,9 @@ endOf up m z = doublings up m + nearOf up z
 unfoldable pub upEnds : ℕ → ℕ → Interval
 upEnds p q = natural (endOf 0 (halvingsOf p q) (argumentOf p q)) (endOf 1 (halvingsOf p q) (argumentOf p q + 1))
 
-unfoldable pub minusOf : Interval → Interval
-minusOf i = record { lower = negℤ (i .upper); upper = negℤ (i .lower) }
+-- for p < q: minus those of q/p
+unfoldable pub downEnds : ℕ → ℕ → Interval
+downEnds p q = minusOf (upEnds q p)
 
 unfoldable pub lnEnds : ℕ → ℕ → Interval
-lnEnds p q = cond (ltb p q) (minusOf (upEnds q p)) (upEnds p q)
+lnEnds p q = cond (ltb p q) (downEnds p q) (upEnds p q)

@@ -2,19 +2,20 @@
 -- Assumes nothing.
 use Prim.Native.Nat.{ℕ}
 use mathlib.Core.Path.{_≡_, refl}
+use lib.Dec.{lit≤}
 use lib.IntN.{pos, negsuc}
 use native.Mathlib.Decide.{decLe}
-use Rattle.interval.specs.Operations.{natural}
-use Rattle.exact.specs.Fraction.{whole, _·f_, inv, _÷f_, top, choose}
+use Rattle.interval.specs.Operations.{natural, minusOf}
+use Rattle.exact.specs.Fraction.{_≤f_, _≈f_, whole, decimal, _·f_, inv, _÷f_, top, choose}
 use Rattle.exact.specs.Root.{greatestBelow}
 use Rattle.exact.specs.Logarithm.{halvings}
-use Rattle.logarithm.specs.declared.Answer.the-variants.{Refused}
+use Rattle.interval.specs.declared.Pair.the-variants.{Refused}
 use Rattle.logarithm.specs.Series.{squareOf, powerOf, termOf, termsOf}
-use Rattle.logarithm.specs.Ends.{halvingsOf, baseOf, argumentOf, doublings, nearOf, endOf, upEnds, minusOf, lnEnds}
-use Rattle.logarithm.specs.Asked.{inside, refused, answerOf}
+use Rattle.logarithm.specs.Ends.{halvingsOf, baseOf, argumentOf, doublings, nearOf, endOf, upEnds, downEnds, lnEnds}
+use Rattle.logarithm.specs.Asked.{width, inside, refused, answerOf}
 
 ends : ℕ
-unfolding whole _·f_ inv _÷f_ top choose decLe greatestBelow halvings natural squareOf powerOf termOf termsOf halvingsOf baseOf argumentOf doublings nearOf endOf upEnds minusOf lnEnds
+unfolding whole _·f_ inv _÷f_ top choose decLe greatestBelow halvings natural squareOf powerOf termOf termsOf halvingsOf baseOf argumentOf doublings nearOf endOf upEnds minusOf downEnds lnEnds
 ends = 0
 
 -- ln 10 is 2.302585092994..
@@ -40,3 +41,8 @@ both-outside = refl
 lower-outside : answerOf 1000000000000000 1000000000000001 ≡ Refused 5 0 2
 unfolding inside refused answerOf
 lower-outside = refl
+
+-- "at most 2,000 apart": two millionths
+width-is : width ≈f decimal 2 6
+unfolding width decimal
+width-is = record { to = record { le = lit≤ tt }; fro = record { le = lit≤ tt } }

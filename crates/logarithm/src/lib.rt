@@ -1,9 +1,9 @@
 // The natural logarithm of a fraction of two whole numbers, as a pair of ends in billionths.
 use interval::Interval;
+use interval::Pair;
 ghost use mathlib.Core.Path.{_≡_};
-ghost use Prim.Native.Nat.{_≤_, _<_, _^_};
-ghost use lib.IntN.{pos, natAbs};
-ghost use Rattle.logarithm.specs.Ends.{Inside, upEnds, minusOf, lnEnds};
+ghost use Prim.Native.Nat.{_≤_};
+ghost use Rattle.logarithm.specs.Ends.{Inside, upEnds, lnEnds};
 ghost use Rattle.logarithm.specs.Asked.{inside, Answered};
 
 mod argument;
@@ -12,34 +12,6 @@ mod terms;
 // The largest number of a fraction: 10^15.
 const MOST: u64 = 1000000000000000;
 
-// The ends in billionths, or a refusal with number, line and column.
-pub enum Answer {
-    Ends(Interval),
-    Refused(u32, usize, usize),
-}
-
-// Two ends that are not negative.
-fn pair(lower: u64, upper: u64) -> Interval
-    requires { ⌜ (lower < 2 ^ 63) × (upper < 2 ^ 63) ⌝ }
-    ensures { λ r. ⌜ r ≡ record { lower = pos lower; upper = pos upper } ⌝ }
-{
-    Interval {
-        lower: lower as i64,
-        upper: upper as i64,
-    }
-}
-
-// The ends of minus a value.
-fn minus(i: Interval) -> Interval
-    requires { ⌜ (natAbs (i .lower) < 2 ^ 63) × (natAbs (i .upper) < 2 ^ 63) ⌝ }
-    ensures { λ r. ⌜ r ≡ minusOf i ⌝ }
-{
-    Interval {
-        lower: 0 - i.upper,
-        upper: 0 - i.lower,
-    }
-}
-
 // The ends of ln (p/q), for q not above p.
 fn up_ends(p: u64, q: u64) -> Interval
     requires { ⌜ Inside p × (Inside q × (q ≤ p)) ⌝ }
@@ -47,7 +19,7 @@ fn up_ends(p: u64, q: u64) -> Interval
 {
     let h = argument::halve(p, q);
     let z = argument::quotient(p - h.base, p + h.base);
-    pair(terms::end(0, h.times, z), terms::end(1, h.times, z + 1))
+    Interval::natural(terms::end(0, h.times, z), terms::end(1, h.times, z + 1))
 }
 
 // The ends of ln (p/q), in billionths: below 1 it is minus ln (q/p).
@@ -56,7 +28,7 @@ pub fn ln_ends(p: u64, q: u64) -> Interval
     ensures { λ r. ⌜ r ≡ lnEnds p q ⌝ }
 {
     if p < q {
-        minus(up_ends(q, p))
+        up_ends(q, p).minus()
     } else {
         up_ends(p, q)
     }
@@ -69,14 +41,14 @@ fn is_inside(n: u64) -> bool
 }
 
 // ln (p/q), or the refusal of a number that is not from 1 to 10^15.
-pub fn logarithm(p: u64, q: u64) -> Answer
+pub fn logarithm(p: u64, q: u64) -> Pair
     ensures { λ r. ⌜ Answered p q r ⌝ }
 {
     if !is_inside(p) {
-        return Answer::Refused(5, 0, 1);
+        return Pair::Refused(5, 0, 1);
     }
     if !is_inside(q) {
-        return Answer::Refused(5, 0, 2);
+        return Pair::Refused(5, 0, 2);
     }
-    Answer::Ends(ln_ends(p, q))
+    Pair::Ends(ln_ends(p, q))
 }

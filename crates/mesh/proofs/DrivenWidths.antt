@@ -16,17 +16,17 @@ use Rattle.formulas.proofs.Quantities.{by-place}
 use Rattle.current.specs.Drive.{driveOf}
 use Rattle.lengths.specs.Lengths.{conductorLength, rodLength, totalLength}
 use Rattle.lengths.proofs.Lengths.{conductor-bounds}
-use Rattle.mesh.specs.Ends.{rodWeight, weighedLength, effectiveLength, drivenEnds}
-use Rattle.mesh.proofs.LengthSpans.{diagonal-span, weight-span, effective-span, effective-low}
-use Rattle.mesh.proofs.Relatives.{relative-span, relative-point, relative-sum, relative-product, relative-quotient}
+use Rattle.mesh.specs.Ends.{rodWeight, weighedLength, meshLength, drivenEnds}
+use Rattle.mesh.proofs.LengthSpans.{diagonal-span, weight-span, mesh-length-span, mesh-length-low}
+use Rattle.interval.proofs.Relatives.{relative-span, relative-point, relative-sum, relative-product, relative-quotient}
 
 -- ---- LM
 
-pub effective-relative : {c : Case} → Bounds c → Relative (effectiveLength c) 3535000 0
-unfolding effectiveLength weighedLength rodWeight
-effective-relative {c} b =
+pub mesh-length-relative : {c : Case} → Bounds c → Relative (meshLength c) 3535000 0
+unfolding meshLength weighedLength rodWeight
+mesh-length-relative {c} b =
     let weight : Relative (rodWeight c) 3535000 0 =
-    relative-sum 1550000000 (lit≤ tt) (relative-quotient (122 * c .rodlen) 10000000000 {per = 3535000} (lit< tt) (lit≤ tt) (diagonal-span b)) in
+    relative-sum _ (lit≤ tt) (relative-quotient (122 * c .rodlen) 10000000000 {per = 3535000} (lit< tt) (lit≤ tt) (diagonal-span b)) in
     by-place (λ i. Relative i 3535000 0) (eqb (c .place) 1)
     (λ e.
     relative-sum (1000 * conductorLength c) (omega (arith, conductor-bounds b .low))
@@ -52,9 +52,9 @@ pub record Driven (c : Case) : Type 0 where
 pub driven-ends : {c : Case} → Bounds c → Driven c
 unfolding drivenEnds
 driven-ends {c} b =
-    let e = effective-span b in
+    let e = mesh-length-span b in
     let n = driveOf c * 1 in
-    let p : 0 < e .a = le-trans (omega (arith, effective-low b)) (e .from) in
+    let p : 0 < e .a = le-trans (omega (arith, mesh-length-low b)) (e .from) in
     let q : 0 < e .b = le-trans p (e .order) in
     let below = floorDiv-below n (e .b) in
     let least = mul-le-mul-left (n / e .b) (e .order) in
@@ -64,7 +64,7 @@ driven-ends {c} b =
       is = rw (e .is, point-natural (driveOf c)) (natural-quotient (driveOf c) (driveOf c) 1 p (e .order));
       order = le-of-mul-le-mul-right (omega (arith, below, least, ceilDiv-above n p)) p;
       near =
-          driven-near n (e .a) (e .b) (n / e .b) (ceilDiv n (e .a)) (omega (arith, relative-span e (effective-relative b))) p (ceilDiv-below n p)
+          driven-near n (e .a) (e .b) (n / e .b) (ceilDiv n (e .a)) (omega (arith, relative-span e (mesh-length-relative b))) p (ceilDiv-below n p)
           (floorDiv-above n q);
       low = omega (arith, below, least, mul-le-mul-left (n / e .b) (e .from));
     }

@@ -10,34 +10,36 @@ use Rattle.interval.proofs.Span.{span-divisor}
 use Rattle.exact.specs.Fraction.{Fraction, _≈f_, whole, decimal, _·f_}
 use Rattle.exact.specs.Exact.{exactly, _+x_, _·x_, _÷x_}
 use Rattle.exact.specs.Root.{root}
+use Rattle.exact.specs.Depth.{Consistent}
 use Rattle.exact.specs.Reported.{ten, over}
 use Rattle.exact.proofs.Order.{refl≈, trans≈}
 use Rattle.exact.proofs.Products.{cong·}
 use Rattle.exact.proofs.Reported.{decimal-over}
 use Rattle.exact.proofs.Consistency.{consistent-exactly, consistent-quotient}
+use Rattle.exact.proofs.Factors.{factor-last}
 use Rattle.exact.proofs.Quantity.{quantity-exactly, quantity-product}
 use Rattle.enclosure.specs.Enclosure.{Encloses}
 use Rattle.enclosure.proofs.SquareRoot.{pair-ends}
 use Rattle.enclosure.proofs.Counts.{decimal-count}
-use Rattle.enclosure.proofs.Basics.{encloses-count, encloses-decimal}
+use Rattle.enclosure.proofs.Basics.{encloses-same, encloses-count, encloses-decimal}
 use Rattle.enclosure.proofs.Sums.{encloses-sum}
 use Rattle.enclosure.proofs.Products.{encloses-product}
 use Rattle.enclosure.proofs.Quotients.{encloses-quotient}
 use Rattle.enclosure.proofs.Roots.{encloses-sqrt-even}
 use Rattle.case.specs.declared.Case.{Case}
 use Rattle.case.specs.Bounds.{Bounds, Rodded}
-use Rattle.formulas.specs.Lengths.{ρ, Lr, side, Lc, LR, IG, Ki}
+use Rattle.formulas.specs.Lengths.{ρ, Lr, side, Lc, LR, Ki}
+use Rattle.formulas.specs.Current.{IG}
 use Rattle.formulas.specs.Mesh.{LM, mesh}
 use Rattle.formulas.specs.Width.{mV}
 use Rattle.formulas.proofs.Consistent.{consistent-Km}
 use Rattle.formulas.proofs.Positive.{LR-pos}
-use Rattle.current.specs.Drive.{driveOf}
-use Rattle.current.proofs.DrivingProduct.{drive-is}
+use Rattle.current.proofs.DrivingProduct.{drive-encloses}
 use Rattle.lengths.specs.Lengths.{sideLength, conductorLength, rodLength, totalLength}
 use Rattle.lengths.proofs.Lengths.{side-is, conductor-is, rod-is, total-is}
-use Rattle.mesh.specs.Ends.{diagonal, rodWeight, weighedLength, effectiveLength, drivenEnds, meshEnds}
-use Rattle.mesh.proofs.LengthSpans.{diagonal-span, effective-span, effective-low}
-use Rattle.formulas.proofs.Quantities.{quantity-diagonal, quantity-weight, quantity-LM, place-rodded, by-both}
+use Rattle.mesh.specs.Ends.{diagonal, rodWeight, weighedLength, meshLength, drivenEnds, meshEnds}
+use Rattle.mesh.proofs.LengthSpans.{diagonal-span, mesh-length-span, mesh-length-low}
+use Rattle.formulas.proofs.Quantities.{quantity-ρ, quantity-Ki, quantity-IG, quantity-diagonal, quantity-weight, quantity-LM, place-rodded, by-both}
 use Rattle.mesh.proofs.FactorEnclosed.{factor-encloses}
 
 -- ---- fractions as counts
@@ -88,24 +90,30 @@ module _ {c : Case} (b : Bounds c) where
       (length-encloses (conductorLength c) (conductor-is c))
       (encloses-product (ten 6) 1000000 refl (weight .consistent) (consistent-exactly _) weight-encloses rods)
 
-  effective-encloses : Encloses (LM c) (ten 6) (effectiveLength c)
-  unfolding LM effectiveLength
-  effective-encloses =
+  mesh-length-encloses : Encloses (LM c) (ten 6) (meshLength c)
+  unfolding LM meshLength
+  mesh-length-encloses =
       by-both (λ x i. Encloses x (ten 6) i) (eqb (c .place) 1) (λ e. weighed-encloses (place-rodded b e))
       (λ e. length-encloses (totalLength c) (total-is c))
 
   -- ---- the mesh voltage
 
-  driven-encloses : Encloses (exactly (ρ c ·f Ki c ·f IG c) ÷x LM c) mV (drivenEnds c)
+  driven-consistent : Consistent (exactly (ρ c) ·x Ki c ·x IG c)
+  driven-consistent = quantity-product (quantity-product (quantity-ρ b) (quantity-Ki b)) (quantity-IG b) .consistent
+
+  driven-encloses : Encloses (exactly (ρ c) ·x Ki c ·x IG c ÷x LM c) mV (drivenEnds c)
   unfolding drivenEnds mV ten
   driven-encloses =
-      let m = quantity-LM b in
-      encloses-quotient (ten 3) 1 refl (span-divisor (omega (arith, effective-low b)) (effective-span b) .0) (consistent-exactly _) (m .consistent)
-      (encloses-count (pos (driveOf c)) (ten 9) (trans≈ (drive-is c) (decimal-over (driveOf c) 9))) effective-encloses
+      encloses-quotient (ten 3) 1 refl (span-divisor (omega (arith, mesh-length-low b)) (mesh-length-span b) .0) driven-consistent
+      (quantity-LM b .consistent) (drive-encloses c) mesh-length-encloses
 
+  -- the code's order: (ρ·Ki·IG/LM)·Km
   pub mesh-encloses : Encloses (mesh c) mV (meshEnds c)
   unfolding mesh meshEnds mV ten
   mesh-encloses =
       let m = quantity-LM b in
-      encloses-product mV 10000000 refl (consistent-quotient (m .positive) (consistent-exactly _) (m .consistent)) (consistent-Km b)
-      driven-encloses (factor-encloses b)
+      encloses-same
+      (factor-last (consistent-exactly (ρ c)) (consistent-Km b) (quantity-Ki b .consistent) (quantity-IG b .consistent) (m .consistent)
+      (m .positive) (lit≤ tt))
+      (encloses-product mV 10000000 refl (consistent-quotient (m .positive) driven-consistent (m .consistent)) (consistent-Km b)
+      driven-encloses (factor-encloses b))

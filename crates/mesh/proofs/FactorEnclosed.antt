@@ -1,6 +1,6 @@
 -- The ends of Km include the exact value's ends.
 -- Assumes nothing.
-use Prim.Native.Nat.{ℕ, _+_, _-_, _*_, _^_}
+use Prim.Native.Nat.{ℕ, _+_, _*_, _^_}
 use mathlib.Core.Path.{_≡_, refl}
 use native.Mathlib.Omega.{arith}
 use lib.Dec.{eqb, lit≤}
@@ -8,18 +8,18 @@ use lib.IntN.{pos}
 use Rattle.interval.specs.Operations.{natural}
 use Rattle.interval.proofs.Span.{span-divisor}
 use Rattle.exact.specs.Fraction.{_≈f_, whole, decimal, _+f_, _·f_, top}
-use Rattle.exact.specs.Exact.{exactly, _·x_, _÷x_}
+use Rattle.exact.specs.Exact.{exactly, _−x_, _·x_, _÷x_}
 use Rattle.exact.specs.Root.{root}
 use Rattle.exact.specs.Pi.{π}
 use Rattle.exact.specs.Logarithm.{ln}
-use Rattle.exact.specs.Depth.{Consistent}
+use Rattle.exact.specs.Depth.{workDepth, Consistent}
 use Rattle.exact.specs.Reported.{ten, over}
 use Rattle.exact.proofs.Consistency.{consistent-exactly, consistent-sum, consistent-product}
 use Rattle.exact.proofs.Inclusion.{within-trans, within-same}
 use Rattle.exact.proofs.Logarithm.{ln-value, ln-exactly, consistent-ln}
 use Rattle.exact.proofs.Positive.{positive-exactly}
 use Rattle.exact.proofs.Quantity.{Quantity, quantity-π, quantity-quotient}
-use Rattle.enclosure.specs.Enclosure.{Encloses, workDepth}
+use Rattle.enclosure.specs.Enclosure.{Encloses}
 use Rattle.enclosure.proofs.SquareRoot.{pair-ends}
 use Rattle.enclosure.proofs.Basics.{encloses-count, encloses-whole}
 use Rattle.enclosure.proofs.Sums.{encloses-sum, encloses-times}
@@ -73,8 +73,8 @@ module _ {c : Case} (b : Bounds c) where
       encloses-sqrt-even (ten 9) {v = ten 3} (1000 + c .depth) 1000 refl (omega arith) (pair-ends ((1000 + c .depth) * 10 ^ 15))
       (encloses-count (pos (1000 + c .depth)) (ten 3) depth-count)
 
-  root-encloses : Encloses (root (c .lines) (exactly (whole 4 ·f n c ·f n c))) (ten 9) (natural (rootOf (c .lines)) (rootOf (c .lines) + 1))
-  unfolding n ten
+  root-encloses : Encloses (root (c .lines) (exactly (whole 4 ·f whole (c .lines) ·f whole (c .lines)))) (ten 9) (natural (rootOf (c .lines)) (rootOf (c .lines) + 1))
+  unfolding ten
   root-encloses =
       let m = c .lines in
       let r = rootOf m in
@@ -95,10 +95,10 @@ module _ {c : Case} (b : Bounds c) where
   ratio-consistent : Quantity (Kii c ÷x Kh c)
   ratio-consistent = quantity-quotient (quantity-Kii b) (quantity-Kh b)
 
-  log-consistent : Consistent (ln (exactly (whole 8) ÷x (π ·x exactly (whole (2 * c .lines - 1)))))
+  log-consistent : Consistent (ln (exactly (whole 8) ÷x (π ·x (exactly (whole 2) ·x n c −x exactly (whole 1)))))
   log-consistent = consistent-ln (quantity-spread b .positive) (quantity-spread b .consistent)
 
-  term-encloses : Encloses (Kii c ÷x Kh c ·x ln (exactly (whole 8) ÷x (π ·x exactly (whole (2 * c .lines - 1))))) (ten 9) (innerTerm c)
+  term-encloses : Encloses (Kii c ÷x Kh c ·x ln (exactly (whole 8) ÷x (π ·x (exactly (whole 2) ·x n c −x exactly (whole 1))))) (ten 9) (innerTerm c)
   unfolding innerTerm ten
   term-encloses =
       encloses-product (ten 9) 1000000000 refl (ratio-consistent .consistent) log-consistent

@@ -3,26 +3,24 @@
 use Prim.Native.Nat.{_+_, _*_, _^_, _≤_}
 use mathlib.Core.Path.{_≡_}
 use native.Mathlib.Omega.{arith}
-use lib.Dec.{eqb, lit≤, lit<}
+use lib.Dec.{lit≤, lit<}
 use Rattle.interval.specs.declared.Interval.{Interval}
-use Rattle.interval.specs.Operations.{natural, size, sumOf, scaledOf, productOf, quotientOf}
+use Rattle.interval.specs.Operations.{natural, size, sumOf, minusOf, scaledOf, productOf, quotientOf}
 use Rattle.interval.specs.Span.{Span}
 use Rattle.interval.proofs.Span.{span-natural, span-point, span-wider, span-scaled, span-product, span-quotient, span-size}
-use Rattle.logarithm.specs.Ends.{minusOf}
+use Rattle.interval.proofs.Negated.{product-negated, sum-negated, span-difference, size-negated}
 use Rattle.case.specs.declared.Case.{Case}
 use Rattle.case.specs.Bounds.{Bounds}
 use Rattle.formulas.proofs.Quantities.{by-place}
-use Rattle.mesh.specs.Factor.{πBelow, πAbove, spreadOf, rootOf, argumentLog, depthFactor, innerFactor, innerTerm, geometricFactor}
-use Rattle.mesh.proofs.Negated.{product-negated, sum-negated, span-difference, size-negated}
+use Rattle.mesh.specs.Factor.{spreadOf, rootOf, argumentLog, depthFactor, perimeterRods, innerFactor, innerTerm, geometricFactor}
 use Rattle.mesh.proofs.Logarithms.{argument-span}
 use Rattle.mesh.proofs.LineTables.{root-known, spreadLow, spreadHigh, spread-span, spread-is}
+use Rattle.enclosure.specs.Pi.{πEnds}
 use Rattle.enclosure.proofs.RootSpan.{root-span}
+use Rattle.enclosure.proofs.Constants.{π-span}
 
--- π and 2π
-pub π-span : Span (natural πBelow πAbove) 3141592653 3141592654 1
-π-span = span-natural πBelow πAbove (lit≤ tt) (lit≤ tt) (lit≤ tt) (lit≤ tt)
-
-pub turn-span : Span (scaledOf (natural πBelow πAbove) 2) 6283185306 6283185308 2
+-- 2π
+pub turn-span : Span (scaledOf πEnds 2) 6283185306 6283185308 2
 turn-span = span-scaled 2 π-span
 
 module _ {c : Case} (b : Bounds c) where
@@ -40,7 +38,7 @@ module _ {c : Case} (b : Bounds c) where
   unfolding innerFactor
   inner-span =
       let one = span-point 1000000000 {l = 1000000000} {h = 1000000000} (lit≤ tt) (lit≤ tt) in
-      by-place (λ i. Span i 0 1000000000 2) (eqb (c .place) 1) (λ e. span-wider one (lit≤ tt) (lit≤ tt) (lit≤ tt))
+      by-place (λ i. Span i 0 1000000000 2) (perimeterRods c) (λ e. span-wider one (lit≤ tt) (lit≤ tt) (lit≤ tt))
       (λ e. span-quotient 1000000000 0 1000000000 1 (lit< tt) (lit≤ tt) (lit≤ tt) (lit≤ tt) one line-root-span)
 
   pub ratio-span : Span (quotientOf (innerFactor c) (depthFactor c) 1000000000) 0 894500000 5

@@ -16,7 +16,7 @@ use Rattle.current.specs.Drive.{driveOf}
 use Rattle.current.proofs.DrivingProduct.{current-bounds}
 use Rattle.lengths.specs.Lengths.{sideLength, conductorLength, rodLength, totalLength}
 use Rattle.lengths.proofs.Lengths.{side-bounds, conductor-bounds, rodlen-high, rod-bound, total-bounds}
-use Rattle.mesh.specs.Ends.{diagonal, rodWeight, weighedLength, effectiveLength, drivenEnds}
+use Rattle.mesh.specs.Ends.{diagonal, rodWeight, weighedLength, meshLength, drivenEnds}
 use Rattle.enclosure.proofs.RootSpan.{root-span}
 
 module _ {c : Case} (b : Bounds c) where
@@ -33,9 +33,9 @@ module _ {c : Case} (b : Bounds c) where
   pub share-span : Span (quotientOf (point (pos (122 * c .rodlen))) (diagonal c) 10000000000) 0 3452000000 978
   share-span = span-quotient 10000000000 0 3452000000 977 (lit< tt) (lit≤ tt) (lit≤ tt) (lit≤ tt) rodlen-span diagonal-span
 
-  pub weight-span : Span (rodWeight c) 1550000000 5002000000 978
+  pub weight-span : Span (rodWeight c) 1000000000 5002000000 978
   unfolding rodWeight
-  weight-span = span-sum (span-point 1550000000 {l = 1550000000} {h = 1550000000} (lit≤ tt) (lit≤ tt)) share-span
+  weight-span = span-sum (span-point _ {l = 1000000000} {h = 1550000000} (lit≤ tt) (lit≤ tt)) share-span
 
   pub rods-point : Span (point (pos (rodLength c))) (rodLength c) 2000000 0
   rods-point = span-point (rodLength c) (omega arith) (rod-bound b)
@@ -54,14 +54,14 @@ module _ {c : Case} (b : Bounds c) where
   pub total-point : Span (point (pos (1000 * totalLength c))) (1000 * totalLength c) 38000000000 0
   total-point = span-point (1000 * totalLength c) (omega arith) (mul-le-mul-left 1000 (total-bounds b .high))
 
-  pub effective-span : Span (effectiveLength c) (1000 * totalLength c) 46004000000 1957
-  unfolding effectiveLength
-  effective-span =
+  pub mesh-length-span : Span (meshLength c) (1000 * totalLength c) 46004000000 1957
+  unfolding meshLength
+  mesh-length-span =
       by-place (λ i. Span i (1000 * totalLength c) 46004000000 1957) (eqb (c .place) 1) (λ e. weighed-span)
       (λ e. span-wider total-point (omega arith) (lit≤ tt) (lit≤ tt))
 
-  pub effective-low : 10000000 ≤ 1000 * totalLength c
-  effective-low = mul-le-mul-left 1000 (total-bounds b .low)
+  pub mesh-length-low : 10000000 ≤ 1000 * totalLength c
+  mesh-length-low = mul-le-mul-left 1000 (total-bounds b .low)
 
 -- ---- ρ·Ki·IG/LM
 
@@ -90,6 +90,6 @@ module _ {c : Case} (b : Bounds c) where
   pub driven-span : Span (drivenEnds c) 0 63468800000 12500001
   unfolding drivenEnds
   driven-span =
-      let x = effective-low b in
+      let x = mesh-length-low b in
       span-quotient 1 0 63468800000 12500000 (omega arith) (omega arith) (omega (arith, drive-by-length))
-      (omega (arith, drive-by-length, mul-le-mul-left (12500000 * (1000 * totalLength c)) x)) drive-span (effective-span b)
+      (omega (arith, drive-by-length, mul-le-mul-left (12500000 * (1000 * totalLength c)) x)) drive-span (mesh-length-span b)

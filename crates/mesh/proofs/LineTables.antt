@@ -7,15 +7,16 @@ use mathlib.Core.List.{List, [], _∷_}
 use native.Mathlib.Omega.{arith}
 use native.Mathlib.Decide.{decLt}
 use lib.Dec.{T, leb, leb→le, lit≤}
-use Rattle.interval.specs.Operations.{natural}
+use Rattle.interval.specs.Operations.{natural, minusOf}
 use Rattle.interval.specs.Span.{Span}
 use Rattle.interval.proofs.Span.{span-natural}
 use Rattle.logarithm.specs.Series.{squareOf, powerOf, termOf, termsOf}
-use Rattle.logarithm.specs.Ends.{doublings, nearOf, endOf, minusOf}
+use Rattle.enclosure.specs.Pi.{πBelow, πAbove}
+use Rattle.logarithm.specs.Ends.{doublings, nearOf, endOf}
+use Rattle.logarithm.proofs.KnownHalvings.{lowBy, highBy, up-by, ln-down}
 use Rattle.case.specs.Bounds.{Between}
-use Rattle.formulas.proofs.Tables.{and-left, and-right}
-use Rattle.mesh.specs.Factor.{eight, πBelow, πAbove, spreadOf, roots, rootOf}
-use Rattle.mesh.proofs.Logarithms.{lowBy, highBy, up-by, ln-down}
+use Rattle.case.proofs.Tests.{both}
+use Rattle.mesh.specs.Factor.{eight, spreadOf, roots, rootOf}
 
 -- ---- rules a ≤ b, and a test that computes them
 
@@ -38,7 +39,7 @@ Kept (r ∷ rs) = (r .less ≤ r .more) × Kept rs
 known : (rs : List Rule) → T (kept rs) → Kept rs
 known [] t = lit≤ tt
 known (r ∷ rs) t =
-    (leb→le (r .less) (r .more) (and-left (leb (r .less) (r .more)) (kept rs) t), known rs (and-right (leb (r .less) (r .more)) (kept rs) t))
+    (leb→le (r .less) (r .more) (both (leb (r .less) (r .more)) (kept rs) t .0), known rs (both (leb (r .less) (r .more)) (kept rs) t .1))
 
 -- a test passes at every number below k
 abbrev passes : (ℕ → Bool) → ℕ → Bool
@@ -47,11 +48,11 @@ passes f (suc k) = f k && passes f k
 
 passes-at : (f : ℕ → Bool) (k i : ℕ) → T (passes f k) → i < k → T (f i)
 passes-at f zero i t h = absurd (omega arith)
-passes-at f (suc k) i t h = go (decLt i k) (passes-at f k i (and-right (f k) (passes f k) t))
+passes-at f (suc k) i t h = go (decLt i k) (passes-at f k i (both (f k) (passes f k) t .1))
   where
     go : Dec (i < k) → (i < k → T (f i)) → T (f i)
     go (yes l) earlier = earlier l
-    go (no l) earlier = let e : i ≡ k = omega arith in rw e (and-left (f k) (passes f k) t)
+    go (no l) earlier = let e : i ≡ k = omega arith in rw e (both (f k) (passes f k) t .0)
 
 -- rules kept at every number of lines
 at-lines : (rules : ℕ → List Rule) {n : ℕ} → T (passes (λ i. kept (rules (2 + i))) 24) → Between 2 n 25 → Kept (rules n)

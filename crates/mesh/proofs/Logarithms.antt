@@ -1,75 +1,24 @@
--- The ends of logarithms: known halvings, growth, and the span of ln G.
+-- The span of ln G, from the ends of ln 25 and ln 65,536.
 -- Assumes nothing.
-use Prim.Native.Nat.{ℕ, _+_, _-_, _*_, _/_, _^_, _≤_, _<_}
+use Prim.Native.Nat.{ℕ, _+_, _≤_}
 use mathlib.Core.Path.{_≡_, _∙_}
 use native.Mathlib.Omega.{arith}
-use native.Mathlib.Nat.{mul-le-mul-left, le-trans}
+use native.Mathlib.Nat.{le-trans}
 use lib.Dec.{lit≤, lit<}
-use lib.Pow.{pow-pos}
 use lib.IntN.{pos}
 use lib.Signed.{_≤ℤ_}
-use borrow.Author.Tests.{lt-ltb, le-ltb}
 use Rattle.interval.specs.Operations.{natural}
 use Rattle.interval.specs.Span.{Span}
 use Rattle.interval.proofs.Choice.{le-pos}
-use Rattle.exact.specs.Fraction.{_≤f_, whole, _·f_, inv, _÷f_}
-use Rattle.exact.specs.Reported.{ten, reported}
-use Rattle.exact.proofs.Order.{trans≤}
-use Rattle.exact.proofs.Consistency.{proper-at}
-use Rattle.exact.proofs.Logarithm.{ln-rises, consistent-ln-of}
-use Rattle.enclosure.proofs.Counts.{over-le}
-use Rattle.logarithm.specs.Series.{unit, squareOf, powerOf, termOf, termsOf}
-use Rattle.logarithm.specs.Ends.{Inside, halvingsOf, baseOf, argumentOf, doublings, nearOf, endOf, upEnds, minusOf, lnEnds}
-use Rattle.logarithm.proofs.Ratio.{scaled, halvings-known}
-use Rattle.logarithm.proofs.LnEnds.{ratio-positive, ln-encloses, up-tight}
+use Rattle.logarithm.specs.Series.{squareOf, powerOf, termOf, termsOf}
+use Rattle.logarithm.specs.Ends.{Inside, halvingsOf, argumentOf, doublings, nearOf, endOf, upEnds, lnEnds}
+use Rattle.logarithm.proofs.KnownHalvings.{up-by, ln-up}
+use Rattle.logarithm.proofs.Growth.{ln-grows}
+use Rattle.logarithm.proofs.LnEnds.{up-tight}
 use Rattle.case.specs.declared.Case.{Case}
 use Rattle.case.specs.Bounds.{Bounds}
 use Rattle.mesh.specs.Factor.{argumentTop, argumentBottom, argumentLog}
 use Rattle.mesh.proofs.Argument.{argument-low, argument-high, top-inside, bottom-inside}
-
--- ---- with m halvings known, p/q from 2^m to 2^(m+1): the ends compute
-
-abbrev pub argumentBy : ℕ → ℕ → ℕ → ℕ
-argumentBy m p q = (p - q * 2 ^ m) * unit / (p + q * 2 ^ m)
-
-abbrev pub lowBy : ℕ → ℕ → ℕ → ℕ
-lowBy m p q = endOf 0 m (argumentBy m p q)
-
-abbrev pub highBy : ℕ → ℕ → ℕ → ℕ
-highBy m p q = endOf 1 m (argumentBy m p q + 1)
-
-pub up-by : (m p : ℕ) {q : ℕ} → 1 ≤ q → q * 2 ^ m ≤ p → p < 2 * (q * 2 ^ m) → upEnds p q ≡ natural (lowBy m p q) (highBy m p q)
-unfolding upEnds argumentOf baseOf
-up-by m p {q} hq l u =
-    let h : q ≤ p = omega (arith, mul-le-mul-left q (pow-pos m)) in
-    rw (halvings-known hq h m l u)
-
-pub ln-up : (p q : ℕ) → q ≤ p → lnEnds p q ≡ upEnds p q
-unfolding lnEnds
-ln-up p q h = rw (le-ltb p q h)
-
-pub ln-down : (p q : ℕ) → p < q → lnEnds p q ≡ minusOf (upEnds q p)
-unfolding lnEnds
-ln-down p q h = rw (lt-ltb p q h)
-
--- ---- growth
-
-module _ {p q p′ q′ : ℕ} (hp : Inside p) (hq : Inside q) (hp′ : Inside p′) (hq′ : Inside q′) (h : p * q′ ≤ p′ * q) where
-  ratio≤ : whole p ÷f whole q ≤f whole p′ ÷f whole q′
-  unfolding whole _·f_ inv _÷f_
-  ratio≤ = omega (arith, scaled p′ (hq′ .low) p, scaled p (hq .low) p′)
-
-  -- the lower end of a logarithm is not above the upper end of a greater number's
-  pub ln-grows : lnEnds p q .lower ≤ℤ lnEnds p′ q′ .upper
-  unfolding reported
-  ln-grows =
-      let greater = consistent-ln-of (ratio-positive (hp′ .low) (hq′ .low)) in
-      over-le (ten 9)
-      (trans≤ (ln-encloses hp hq .low)
-      (trans≤ (ln-rises (ratio-positive (hp .low) (hq .low)) ratio≤ 12 .lowers)
-      (trans≤ (proper-at greater (lit≤ tt) .proper) (ln-encloses hp′ hq′ .high))))
-
--- ---- ln G, from ln 25 to ln 65,536
 
 inside : (n : ℕ) → 1 ≤ n → n ≤ 65536 → Inside n
 inside n l h = record { low = l; high = le-trans h (lit≤ tt) }

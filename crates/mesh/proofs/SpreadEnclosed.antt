@@ -1,37 +1,41 @@
 -- ln(8/(π(2n−1))): its ends include the exact value's ends.
 -- Assumes nothing.
-use Prim.Native.Nat.{ℕ, _-_, _*_, _^_, _≤_, _<_}
+use Prim.Native.Nat.{ℕ, _+_, _-_, _*_, _^_, _≤_, _<_}
+use mathlib.Core.Path.{_≡_}
 use native.Mathlib.Omega.{arith}
 use native.Mathlib.Nat.{mul-pos as nat-pos, mul-le-mul, le-trans}
 use lib.Dec.{lit≤, lit<}
 use lib.IntN.{pos}
 use Rattle.interval.specs.Operations.{natural}
-use Rattle.exact.specs.Fraction.{Fraction, _<f_, _≈f_, whole, _·f_, _÷f_}
+use Rattle.exact.specs.Fraction.{Fraction, _<f_, _≈f_, whole, _+f_, neg, _−f_, _·f_, _÷f_}
 use Rattle.exact.specs.Ends.{Ends}
-use Rattle.exact.specs.Exact.{exactly, _·x_, _÷x_}
+use Rattle.exact.specs.Exact.{exactly, _−x_, _·x_, _÷x_}
 use Rattle.exact.specs.Pi.{π}
 use Rattle.exact.specs.Logarithm.{ln}
-use Rattle.exact.specs.Depth.{Within, Proper, Positive}
+use Rattle.exact.specs.Depth.{workDepth, Within, Proper, Positive, SameEnds}
 use Rattle.exact.specs.Reported.{ten, over, reported}
 use Rattle.interval.proofs.Choice.{pos≤}
 use Rattle.exact.proofs.Reported.{reported-proper}
 use Rattle.exact.proofs.Order.{refl≤, refl≈, trans≈, whole-pos, nonneg}
 use Rattle.exact.proofs.Products.{mul-pos, mul≤}
 use Rattle.exact.proofs.Divisors.{cong÷, expand}
-use Rattle.exact.proofs.Consistency.{consistent-exactly}
+use Rattle.exact.proofs.Consistency.{consistent-exactly, proper-at}
 use Rattle.exact.proofs.Inclusion.{within-refl, within-trans, within-same, within-product, within-quotient}
-use Rattle.exact.proofs.KnownEnds.{product-ends, quotient-ends}
+use Rattle.exact.proofs.KnownEnds.{same-refl, same-trans, product-ends, quotient-ends}
+use Rattle.exact.proofs.Alike.{difference-same, product-same, quotient-same}
+use Rattle.exact.proofs.Fractions.{exactly-same, exactly-difference, exactly-product}
 use Rattle.exact.proofs.Logarithm.{ln-within}
 use Rattle.exact.proofs.Quantity.{quantity-π, quantity-exactly, quantity-product}
-use Rattle.enclosure.specs.Enclosure.{Encloses, workDepth}
+use Rattle.enclosure.specs.Enclosure.{Encloses}
 use Rattle.enclosure.proofs.Constants.{π-encloses}
+use Rattle.enclosure.specs.Pi.{πBelow, πAbove, πEnds}
 use Rattle.logarithm.specs.Ends.{Inside}
 use Rattle.logarithm.proofs.LnEnds.{ln-encloses, ratio-positive}
 use Rattle.case.specs.declared.Case.{Case}
 use Rattle.case.specs.Bounds.{Bounds}
-use Rattle.formulas.specs.Lengths.{h}
-use Rattle.mesh.specs.Factor.{eight, πBelow, πAbove, spreadOf}
-use Rattle.formulas.proofs.Quantities.{quantity-spread}
+use Rattle.formulas.specs.Lengths.{n}
+use Rattle.mesh.specs.Factor.{eight, spreadOf}
+use Rattle.formulas.proofs.Quantities.{quantity-odd, quantity-spread}
 
 -- ---- 8/(π(2n−1)), for odd m = 2n − 1
 
@@ -65,12 +69,12 @@ module _ (m : ℕ) (pm : 0 < m) where
   fractions : Ends
   fractions = record { lower = whole eight ÷f whole (m * πAbove); upper = whole eight ÷f whole (m * πBelow) }
 
-  π-proper : Proper (reported (ten 9) (natural πBelow πAbove))
-  unfolding natural
+  π-proper : Proper (reported (ten 9) πEnds)
+  unfolding πEnds natural
   π-proper = reported-proper (ten 9) (pos≤ (lit≤ tt))
 
   divisor-within : Within ((π ·x exactly (whole m)) workDepth) divisorEnds
-  unfolding divisorEnds exactly reported natural over whole ten
+  unfolding divisorEnds exactly πEnds reported natural over whole ten
   divisor-within =
       within-trans (within-product (quantity-π .consistent) (consistent-exactly (whole m)) (lit≤ tt) (π-encloses .within) (within-refl _))
       (within-same (product-ends π-proper (record { proper = refl≤ (whole m) }) (record { le = lit≤ tt }) (nonneg m)))
@@ -80,7 +84,7 @@ module _ (m : ℕ) (pm : 0 < m) where
   divisor-positive = record { positive = divisor-pos (lit< tt) }
 
   divisor-proper : Proper divisorEnds
-  unfolding divisorEnds reported natural
+  unfolding divisorEnds πEnds reported natural
   divisor-proper = record { proper = mul≤ (nonneg m) (π-proper .proper) }
 
   fractions-within : Within ((exactly (whole 8) ÷x (π ·x exactly (whole m))) workDepth) fractions
@@ -92,6 +96,14 @@ module _ (m : ℕ) (pm : 0 < m) where
       (within-trans (within-same (quotient-ends (record { proper = refl≤ (whole 8) }) divisor-proper (nonneg 8) divisor-positive))
       (within-same (record { lowers = eight-is (lit< tt); uppers = eight-is (lit< tt) })))
 
+-- ---- 2n − 1
+
+odd-is : (m : ℕ) → 1 ≤ m → whole 2 ·f whole m −f whole 1 ≈f whole (2 * m - 1)
+unfolding whole _·f_ _−f_ _+f_ neg
+odd-is m l =
+    let e : 2 * m ≡ (2 * m - 1) + 1 = omega arith in
+    omega (arith, e)
+
 eight-inside : Inside eight
 eight-inside = record { low = lit≤ tt; high = lit≤ tt }
 
@@ -102,7 +114,22 @@ module _ {c : Case} (b : Bounds c) where
       let high : 2 * c .lines - 1 ≤ 49 = omega (arith, b .lines .high) in
       record { low = nat-pos low l; high = le-trans (mul-le-mul high h) (lit≤ tt) }
 
-  pub spread-encloses : Encloses (ln (exactly (whole 8) ÷x (π ·x exactly (whole (2 * c .lines - 1))))) (ten 9) (spreadOf (c .lines))
+  odd-same : SameEnds ((exactly (whole 2) ·x n c −x exactly (whole 1)) workDepth) (exactly (whole (2 * c .lines - 1)) workDepth)
+  unfolding n _−x_
+  odd-same =
+      same-trans (difference-same (exactly-product (whole 2) (whole (c .lines)) workDepth) (same-refl _))
+      (same-trans (exactly-difference (whole 2 ·f whole (c .lines)) (whole 1) workDepth)
+      (exactly-same (odd-is (c .lines) (omega (arith, b .lines .low))) workDepth))
+
+  -- 8 over π times the odd number
+  spread-same : SameEnds ((exactly (whole 8) ÷x (π ·x (exactly (whole 2) ·x n c −x exactly (whole 1)))) workDepth)
+      ((exactly (whole 8) ÷x (π ·x exactly (whole (2 * c .lines - 1)))) workDepth)
+  unfolding _·x_ _÷x_
+  spread-same =
+      let q = quantity-product quantity-π (quantity-odd b) in
+      quotient-same (proper-at (q .consistent) (lit≤ tt)) (q .positive .at workDepth (lit≤ tt)) (same-refl _) (product-same (same-refl _) odd-same)
+
+  pub spread-encloses : Encloses (ln (exactly (whole 8) ÷x (π ·x (exactly (whole 2) ·x n c −x exactly (whole 1))))) (ten 9) (spreadOf (c .lines))
   unfolding spreadOf fractions reported
   spread-encloses =
       let m = 2 * c .lines - 1 in
@@ -112,5 +139,5 @@ module _ {c : Case} (b : Bounds c) where
       record {
         within =
             ln-within (record { positive = ratio-positive (eight-inside .low) (above .low) }) (quantity-spread b .consistent) (lit≤ tt)
-            (fractions-within m pm) (ln-encloses eight-inside above) (ln-encloses eight-inside below);
+            (within-trans (within-same spread-same) (fractions-within m pm)) (ln-encloses eight-inside above) (ln-encloses eight-inside below);
       }

@@ -13,7 +13,7 @@ use Rattle.interval.proofs.Natural.{ordered-natural, natural-product}
 use Rattle.interval.proofs.Rounding.{floorDiv-above, ceilDiv-below}
 use Rattle.interval.proofs.Span.{span-product, span-size}
 use Rattle.exact.specs.Fraction.{Fraction, _≤f_, _≈f_, decimal, _+f_, neg, _−f_, _·f_, inv, _÷f_}
-use Rattle.exact.specs.Reported.{ten, over, reported}
+use Rattle.exact.specs.Reported.{ten, over, reported, AtMost}
 use Rattle.exact.proofs.Order.{trans≤, refl≤, sym≈, trans≈}
 use Rattle.exact.proofs.Sums.{mono+}
 use Rattle.exact.proofs.Products.{mul≤, mul-left≤, mul-nonneg}
@@ -21,11 +21,11 @@ use Rattle.exact.proofs.Quotients.{inv-nonneg}
 use Rattle.exact.proofs.Divisors.{cong÷}
 use Rattle.case.specs.declared.Case.{Case}
 use Rattle.case.specs.Bounds.{Bounds}
-use Rattle.formulas.specs.Lengths.{ρ, LT, IG, Ki}
-use Rattle.formulas.specs.Width.{mV, AtMost, meshWidth}
+use Rattle.formulas.specs.Lengths.{ρ, LT}
+use Rattle.formulas.specs.Width.{mV, referenceKi, referenceCurrent, meshWidth}
 use Rattle.formulas.proofs.Positive.{decimal-nonneg, LT-pos}
 use Rattle.current.specs.Drive.{driveOf}
-use Rattle.current.proofs.DrivingProduct.{drive-is}
+use Rattle.current.proofs.DrivingProduct.{reference-is}
 use Rattle.lengths.specs.Lengths.{totalLength}
 use Rattle.lengths.proofs.Lengths.{total-bounds, total-is}
 use Rattle.mesh.specs.Ends.{meshEnds}
@@ -104,12 +104,12 @@ unfolding perLength mV ten over decimal _·f_ _+f_ _−f_ neg
 apart-volts n t m M p h = record { le = omega (arith, h) }
 
 -- 1/100,000 of ρ·Ki·IG/LT plus 10 mV
-pub mesh-close : {c : Case} → Bounds c → AtMost (decimal 1 5 ·f (ρ c ·f Ki c ·f IG c ÷f LT c) +f decimal 10 3) (reported mV (meshEnds c))
+pub mesh-close : {c : Case} → Bounds c → AtMost (decimal 1 5 ·f (ρ c ·f referenceKi c ·f referenceCurrent c ÷f LT c) +f decimal 10 3) (reported mV (meshEnds c))
 unfolding reported natural
 mesh-close {c} b =
     let a = mesh-apart b in
     let p : 0 < totalLength c = omega (arith, total-bounds b .low) in
-    let same = trans≈ (perLength-is (driveOf c) (totalLength c) p) (sym≈ (cong÷ (LT-pos b) (drive-is c) (total-is c))) in
+    let same = trans≈ (perLength-is (driveOf c) (totalLength c) p) (sym≈ (cong÷ (LT-pos b) (reference-is c) (total-is c))) in
     rw (a .is)
     (record {
       apart =
@@ -120,5 +120,5 @@ mesh-close {c} b =
 pub mesh-narrow : {c : Case} → Bounds c → AtMost (meshWidth c) (reported mV (meshEnds c))
 unfolding meshWidth decimal _÷f_
 mesh-narrow {c} b =
-    let share = trans≤ (mul-nonneg (decimal-nonneg (driveOf c) 9) (inv-nonneg (LT c))) (mul≤ (inv-nonneg (LT c)) (drive-is c .fro)) in
+    let share = trans≤ (mul-nonneg (decimal-nonneg (driveOf c) 9) (inv-nonneg (LT c))) (mul≤ (inv-nonneg (LT c)) (reference-is c .fro)) in
     record { apart = trans≤ (mesh-close b .apart) (mono+ (mul≤ share (record { le = lit≤ tt })) (refl≤ (decimal 10 3))) }

@@ -27,12 +27,12 @@ module _ (c : Case) where
       sumOf (point (pos (1000 * conductorLength c))) (productOf rodWeight (point (pos (rodLength c))) 1000000)
 
   -- LM in 10^−6 m
-  unfoldable pub effectiveLength : Interval
-  effectiveLength = cond (eqb (c .place) 1) weighedLength (point (pos (1000 * totalLength c)))
+  unfoldable pub meshLength : Interval
+  meshLength = cond (eqb (c .place) 1) weighedLength (point (pos (1000 * totalLength c)))
 
   -- ρ·Ki·IG/LM in mV
   unfoldable pub drivenEnds : Interval
-  drivenEnds = quotientOf (point (pos (driveOf c))) effectiveLength 1
+  drivenEnds = quotientOf (point (pos (driveOf c))) meshLength 1
 
   -- the mesh voltage in mV
   unfoldable pub meshEnds : Interval

@@ -1,7 +1,7 @@
 -- The ends of Km and of its parts, by whole-number intervals. Names for the free part: callers use their laws.
 -- Assumes nothing.
 use Prim.Native.Nat.{ℕ, _+_, _-_, _*_, _^_}
-use mathlib.Core.Bool.{cond}
+use mathlib.Core.Bool.{Bool, cond}
 use mathlib.Core.List.{List, [], _∷_}
 use lib.Dec.{eqb}
 use lib.ListN.{getD}
@@ -9,18 +9,13 @@ use lib.IntN.{pos}
 use Rattle.interval.specs.declared.Interval.{Interval}
 use Rattle.interval.specs.Operations.{natural, point, sumOf, scaledOf, productOf, quotientOf}
 use Rattle.enclosure.specs.SquareRoot.{rootPair}
+use Rattle.enclosure.specs.Pi.{πBelow, πAbove, πEnds}
 use Rattle.logarithm.specs.Ends.{lnEnds}
 use Rattle.case.specs.declared.Case.{Case}
 
--- 8/(π(2n−1)) in 10^−9: the dividend, and π from below and from above
+-- the dividend of 8/(π(2n−1)) in 10^−9
 abbrev pub eight : ℕ
 eight = 8000000000
-
-abbrev pub πBelow : ℕ
-πBelow = 3141592653
-
-abbrev pub πAbove : ℕ
-πAbove = 3141592654
 
 -- ln(8/(π(2n−1))) in 10^−9, below 0
 unfoldable pub spreadOf : ℕ → Interval
@@ -54,10 +49,14 @@ module _ (c : Case) where
   unfoldable pub depthFactor : Interval
   depthFactor = rootPair ((1000 + c .depth) * 10 ^ 15)
 
+  -- where Kii is 1
+  abbrev pub perimeterRods : Bool
+  perimeterRods = eqb (c .place) 1
+
   -- Kii in 10^−9
   unfoldable pub innerFactor : Interval
   innerFactor =
-      cond (eqb (c .place) 1) (point (pos 1000000000))
+      cond perimeterRods (point (pos 1000000000))
       (quotientOf (point (pos 1000000000)) (natural (rootOf (c .lines)) (rootOf (c .lines) + 1)) 1000000000)
 
   -- (Kii/Kh)·ln(8/(π(2n−1))) in 10^−9
@@ -66,4 +65,4 @@ module _ (c : Case) where
 
   -- Km in 10^−7
   unfoldable pub geometricFactor : Interval
-  geometricFactor = quotientOf (sumOf argumentLog innerTerm) (scaledOf (natural πBelow πAbove) 2) 10000000
+  geometricFactor = quotientOf (sumOf argumentLog innerTerm) (scaledOf πEnds 2) 10000000

@@ -3,16 +3,15 @@ ghost use mathlib.Core.Path.{_≡_};
 ghost use Rattle.case.specs.Bounds.{Bounds};
 ghost use Rattle.mesh.specs.Factor.{argumentTop, argumentBottom, argumentLog, spreadOf, rootOf, depthFactor, innerFactor, innerTerm, geometricFactor};
 use case::Case;
+use enclosure::PI_ABOVE;
+use enclosure::PI_BELOW;
+use enclosure::pi;
 use interval::Interval;
 use interval::root::root_ends;
 use logarithm::ln_ends;
 
-// 8 and π in 10^-9.
+// 8 in 10^-9.
 const EIGHT: u64 = 8000000000;
-
-const PI_BELOW: u64 = 3141592653;
-
-const PI_ABOVE: u64 = 3141592654;
 
 // The n-th root of 4n² in 10^-9, rounded down, for n from 2 to 25.
 const ROOTS: [u64; 24] = [
@@ -123,6 +122,6 @@ pub fn geometric_factor(c: Case) -> Interval
     requires { ⌜ Bounds c ⌝ }
     ensures { λ r. ⌜ r ≡ geometricFactor c ⌝ }
 {
-    let turn = Interval::natural(PI_BELOW, PI_ABOVE).scaled(2);
+    let turn = pi().scaled(2);
     argument_log(c).sum(inner_term(c)).quotient(turn, 10000000)
 }

@@ -3,7 +3,7 @@ ghost use mathlib.Core.Path.{_≡_};
 ghost use Rattle.case.specs.Bounds.{Bounds};
 ghost use Rattle.mesh.specs.Ends.{drivenEnds, meshEnds};
 use crate::factor::geometric_factor;
-use crate::rods::effective_length;
+use crate::rods::mesh_length;
 use case::Case;
 use current::drive;
 use interval::Interval;
@@ -16,7 +16,7 @@ fn driven(c: Case) -> Interval
     requires { ⌜ Bounds c ⌝ }
     ensures { λ r. ⌜ r ≡ drivenEnds c ⌝ }
 {
-    Interval::point(drive(c)).quotient(effective_length(c), 1)
+    Interval::point(drive(c)).quotient(mesh_length(c), 1)
 }
 
 // Mesh voltage in mV.

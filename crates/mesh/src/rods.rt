@@ -1,7 +1,7 @@
-// LM, the effective length of conductors and rods.
+// LM, the length of conductors and rods that the mesh voltage counts.
 ghost use mathlib.Core.Path.{_≡_};
 ghost use Rattle.case.specs.Bounds.{Bounds};
-ghost use Rattle.mesh.specs.Ends.{diagonal as diagonalEnds, rodWeight, weighedLength, effectiveLength};
+ghost use Rattle.mesh.specs.Ends.{diagonal as diagonalEnds, rodWeight, weighedLength, meshLength};
 use case::Case;
 use interval::Interval;
 use interval::root::root_ends;
@@ -38,9 +38,9 @@ fn weighed_length(c: Case) -> Interval
 }
 
 // LM in micrometres.
-pub fn effective_length(c: Case) -> Interval
+pub fn mesh_length(c: Case) -> Interval
     requires { ⌜ Bounds c ⌝ }
-    ensures { λ r. ⌜ r ≡ effectiveLength c ⌝ }
+    ensures { λ r. ⌜ r ≡ meshLength c ⌝ }
 {
     if c.place == 1 {
         return weighed_length(c);

@@ -1,18 +1,19 @@
 -- g R / 10^9 by the whole amperes and the rest of g, rounded down and up, so that nothing passes 64 bits.
 -- Assumes nothing.
-use Prim.Native.Nat.{ℕ, _+_, _*_, _/_, _%_, _^_, _≤_, _<_}
+use Prim.Native.Nat.{ℕ, _+_, _*_, _/_, _^_, _≤_, _<_}
 use mathlib.Core.Path.{_≡_}
 use native.Mathlib.Omega.{arith}
 use native.Mathlib.Nat.{div-add-mod'}
 use lib.Dec.{lit<}
 use Rattle.interval.specs.Whole.{ceilDiv}
 use Rattle.interval.proofs.Rounding.{floorDiv-below, floorDiv-above, ceilDiv-above, ceilDiv-below}
+use Rattle.resistance.specs.Ends.{restOf}
 
 unfoldable pub down : ℕ → ℕ → ℕ
-down g r = (r * (g / 10 ^ 6 * 1000) + r * (g % 10 ^ 6) / 1000) / 10 ^ 6
+down g r = (r * (g / 10 ^ 6 * 1000) + r * restOf g / 1000) / 10 ^ 6
 
 unfoldable pub up : ℕ → ℕ → ℕ
-up g r = ceilDiv (r * (g / 10 ^ 6 * 1000) + ceilDiv (r * (g % 10 ^ 6)) 1000) (10 ^ 6)
+up g r = ceilDiv (r * (g / 10 ^ 6 * 1000) + ceilDiv (r * restOf g) 1000) (10 ^ 6)
 
 -- p and q are the two parts of g, y is r q over 1000 and x the whole, rounded
 parts-low : (p q r x y : ℕ) → y * 1000 ≤ r * q → x * 10 ^ 6 ≤ r * (p * 1000) + y → x * 10 ^ 9 ≤ r * (p * 10 ^ 6 + q)
@@ -34,7 +35,7 @@ module _ (g r : ℕ) where
   p = g / 10 ^ 6
 
   q : ℕ
-  q = g % 10 ^ 6
+  q = restOf g
 
   whole-is : p * 10 ^ 6 + q ≡ g
   unfolding p q

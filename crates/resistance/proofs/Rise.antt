@@ -1,30 +1,28 @@
 -- The potential rise: its ends, its width and what it encloses.
 -- Assumes nothing.
-use Prim.Native.Nat.{ℕ, _+_, _*_, _/_, _%_, _^_, _≤_, _<_}
-use mathlib.Core.Path.{_≡_, refl, ap}
+use Prim.Native.Nat.{ℕ, _+_, _*_, _/_, _^_, _≤_, _<_}
+use mathlib.Core.Path.{_≡_}
 use native.Mathlib.Omega.{arith}
-use native.Mathlib.Nat.{mul-le-mul, mul-le-mul-left, mul-le-mul-right, le-trans, le-of-mul-le-mul-right}
-use lib.Dec.{lit≤, lit<}
+use native.Mathlib.Nat.{mul-le-mul-right, le-trans, le-of-mul-le-mul-right}
+use lib.Dec.{lit<}
 use lib.IntN.{pos}
 use Rattle.interval.specs.Whole.{ceilDiv}
 use Rattle.interval.specs.Operations.{natural, Ordered}
-use Rattle.interval.specs.Span.{Span, Relative}
-use Rattle.interval.specs.declared.Interval.{Interval}
+use Rattle.interval.specs.Span.{Relative}
 use Rattle.interval.proofs.Natural.{ordered-natural, natural-sum, natural-scaled, natural-outward}
 use Rattle.interval.proofs.Span.{relative-lower, relative-upper}
-use Rattle.exact.specs.Fraction.{_≤f_, whole, decimal, _+f_, neg, _−f_, _·f_}
-use Rattle.exact.specs.Exact.{exactly, _·x_}
-use Rattle.exact.specs.Reported.{ten, over, reported}
+use Rattle.exact.specs.Fraction.{Fraction, _≤f_, whole, decimal, _+f_, neg, _−f_, _·f_}
+use Rattle.exact.specs.Reported.{ten, over, reported, AtMost}
 use Rattle.enclosure.specs.Enclosure.{Encloses}
 use Rattle.enclosure.proofs.Multiples.{encloses-rounded}
 use Rattle.case.specs.declared.Case.{Case}
 use Rattle.case.specs.Bounds.{Bounds}
-use Rattle.formulas.specs.Lengths.{gridCurrent, IG}
-use Rattle.formulas.specs.Resistance.{resistance, potentialRise}
-use Rattle.formulas.specs.Width.{mV, μΩ, AtMost, riseWidth}
+use Rattle.formulas.specs.Current.{gridCurrent, IG}
+use Rattle.formulas.specs.Resistance.{potentialRise}
+use Rattle.formulas.specs.Width.{mV, μΩ, riseWidth}
 use Rattle.formulas.proofs.Positive.{decimal-nonneg}
 use Rattle.formulas.proofs.Consistent.{quantity-resistance}
-use Rattle.resistance.specs.Ends.{resistanceEnds, riseEnds}
+use Rattle.resistance.specs.Ends.{restOf, riseEnds}
 use Rattle.resistance.proofs.CurrentParts.{down, up, down-low, down-near, up-high, up-near}
 use Rattle.resistance.proofs.Spans.{resistance-span}
 use Rattle.resistance.proofs.Enclosed.{resistance-encloses}
@@ -33,10 +31,6 @@ use Rattle.resistance.proofs.Widths.{resistance-near}
 within-allowed : (x z : ℕ) → 2000 * z ≤ 2001 * x + 2000 * 10 → AtMost (riseWidth (reported mV (natural x z))) (reported mV (natural x z))
 unfolding riseWidth reported mV ten over natural decimal _·f_ _+f_ _−f_ neg
 within-allowed x z h = record { apart = record { le = omega arith } }
-
-IG-nonneg : (c : Case) → whole 0 ≤f IG c
-unfolding IG
-IG-nonneg c = decimal-nonneg (gridCurrent c) 6
 
 module _ {c : Case} (b : Bounds c) where
   g : ℕ
@@ -53,7 +47,7 @@ module _ {c : Case} (b : Bounds c) where
   rise-is =
       let r = resistance-near b in
       let k : ℕ = g / 10 ^ 6 * 1000 in
-      let m : ℕ = g % 10 ^ 6 in
+      let m : ℕ = restOf g in
       rw (r .is, natural-scaled (r .a) (r .b) k, natural-scaled (r .a) (r .b) m, natural-outward (r .a * m) (r .b * m) {den = 1000} (lit< tt), natural-sum (r .a * k) (r .b * k) (r .a * m / 1000) (ceilDiv (r .b * m) 1000))
       (natural-outward (r .a * k + r .a * m / 1000) (r .b * k + ceilDiv (r .b * m) 1000) (lit< tt))
 
@@ -95,17 +89,21 @@ module _ {c : Case} (b : Bounds c) where
 
   -- ---- enclosure
 
-  low-share : over (pos (down g low)) mV ≤f IG c ·f over (pos low) μΩ
-  unfolding mV μΩ ten over IG decimal _·f_ g
+  -- IG as a fraction
+  amperes : Fraction
+  amperes = decimal (gridCurrent c) 6
+
+  low-share : over (pos (down g low)) mV ≤f amperes ·f over (pos low) μΩ
+  unfolding mV μΩ ten over amperes decimal _·f_ g
   low-share = record { le = omega (arith, down-low g low) }
 
-  high-share : IG c ·f over (pos high) μΩ ≤f over (pos (up g high)) mV
-  unfolding mV μΩ ten over IG decimal _·f_ g
+  high-share : amperes ·f over (pos high) μΩ ≤f over (pos (up g high)) mV
+  unfolding mV μΩ ten over amperes decimal _·f_ g
   high-share = record { le = omega (arith, up-high g high) }
 
   pub rise-encloses : Encloses (potentialRise c) mV (riseEnds c)
-  unfolding potentialRise natural low high
+  unfolding potentialRise IG amperes natural low high
   rise-encloses =
       rw rise-is
-      (encloses-rounded (IG c) (IG-nonneg c) low-share high-share (quantity-resistance b .consistent)
+      (encloses-rounded amperes (decimal-nonneg (gridCurrent c) 6) low-share high-share (quantity-resistance b .consistent)
       (rw (resistance-near b .is) at (resistance-encloses b)))

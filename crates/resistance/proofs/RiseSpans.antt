@@ -9,7 +9,7 @@ use Rattle.interval.specs.Span.{Span}
 use Rattle.interval.proofs.Span.{span-wider, span-sum, span-scaled, span-outward}
 use Rattle.case.specs.declared.Case.{Case}
 use Rattle.case.specs.Bounds.{Bounds}
-use Rattle.formulas.specs.Lengths.{gridCurrent}
+use Rattle.formulas.specs.Current.{gridCurrent}
 use Rattle.current.proofs.DrivingProduct.{current-bounds}
 use Rattle.resistance.specs.Ends.{resistanceEnds}
 use Rattle.resistance.proofs.Spans.{resistance-span}

@@ -20,7 +20,7 @@ use Rattle.resistance.specs.Ends.{rootTwenty, depthEnds, shapeEnds, widt
 
 pub twenty-span : Span rootTwenty 4472135954 4472135955 1
 unfolding rootTwenty
-twenty-span = span-natural 4472135954 4472135955 (lit≤ tt) (lit≤ tt) (lit≤ tt) (lit≤ tt)
+twenty-span = span-natural _ _ (lit≤ tt) (lit≤ tt) (lit≤ tt) (lit≤ tt)
 
 pub one-span : Span (point (pos (10 ^ 9))) (10 ^ 9) (10 ^ 9) 0
 one-span = span-point (10 ^ 9) (lit≤ tt) (lit≤ tt)

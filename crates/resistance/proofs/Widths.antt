@@ -12,10 +12,10 @@ use Rattle.interval.specs.Span.{Span, Relative}
 use Rattle.interval.proofs.Natural.{natural-scaled, natural-outward}
 use Rattle.interval.proofs.Rounding.{floorDiv-above, ceilDiv-below}
 use Rattle.exact.specs.Fraction.{_≤f_, decimal, _+f_, neg, _−f_, _·f_}
-use Rattle.exact.specs.Reported.{ten, over, reported}
+use Rattle.exact.specs.Reported.{ten, over, reported, AtMost}
 use Rattle.case.specs.declared.Case.{Case}
 use Rattle.case.specs.Bounds.{Bounds}
-use Rattle.formulas.specs.Width.{mV, μΩ, AtMost, resistanceWidth, riseWidth}
+use Rattle.formulas.specs.Width.{mV, μΩ, resistanceWidth, riseWidth}
 use Rattle.resistance.specs.Ends.{perSoilEnds, resistanceEnds}
 use Rattle.resistance.proofs.Spans.{per-soil-span}
 

@@ -5,12 +5,16 @@ use lib.IntN.{pos}
 use Rattle.interval.specs.declared.Interval.{Interval}
 use Rattle.interval.specs.Operations.{natural, point, sumOf, outwardOf, scaledOf, quotientOf}
 use Rattle.case.specs.declared.Case.{Case}
-use Rattle.formulas.specs.Lengths.{gridCurrent}
+use Rattle.formulas.specs.Current.{gridCurrent}
 use Rattle.lengths.specs.Lengths.{sideLength, totalLength}
 
 -- √20 in 10^−9
 unfoldable pub rootTwenty : Interval
 rootTwenty = natural 4472135954 4472135955
+
+-- the part of a current in microamperes below one ampere
+abbrev pub restOf : ℕ → ℕ
+restOf g = g % 10 ^ 6
 
 module _ (c : Case) where
   -- 1 + h·√20/s in 10^−9
@@ -37,5 +41,5 @@ module _ (c : Case) where
   unfoldable pub riseEnds : Interval
   riseEnds =
       outwardOf
-      (sumOf (scaledOf resistanceEnds (gridCurrent c / 10 ^ 6 * 1000)) (outwardOf (scaledOf resistanceEnds (gridCurrent c % 10 ^ 6)) 1000))
+      (sumOf (scaledOf resistanceEnds (gridCurrent c / 10 ^ 6 * 1000)) (outwardOf (scaledOf resistanceEnds (restOf (gridCurrent c))) 1000))
       (10 ^ 6)

@@ -1,7 +1,7 @@
 -- The row of a case within its bounds is right: the ends are right reports, and the verdict is true of the exact values.
 -- Assumes nothing.
 use mathlib.Core.Path.{_≡_, refl}
-use Rattle.exact.specs.Reported.{Reports}
+use Rattle.exact.specs.Reported.{reported, AtMost, Reports}
 use Rattle.enclosure.proofs.Reporting.{reports}
 use Rattle.case.specs.declared.Case.{Case}
 use Rattle.case.specs.Bounds.{Bounds}
@@ -25,7 +25,7 @@ use Rattle.resistance.proofs.Enclosed.{resistance-encloses}
 use Rattle.resistance.proofs.Widths.{resistance-narrow}
 use Rattle.resistance.proofs.Rise.{rise-encloses, rise-narrow}
 use Rattle.row.specs.Row.{RightRow, verdictOf}
-use Rattle.row.specs.Ends.{rowOf}
+use Rattle.row.specs.Ends.{caseVerdict, rowOf}
 use Rattle.row.proofs.Verdicts.{Enclosed, safe-true, unsafe-true}
 
 module _ {c : Case} (b : Bounds c) where
@@ -50,8 +50,13 @@ module _ {c : Case} (b : Bounds c) where
   step-enclosed : Enclosed mV (Step.step c) (stepVoltageEnds c)
   step-enclosed = record { consistent = consistent-step b; encloses = S.step-encloses b }
 
+  -- the width of the row's own pair
+  mesh-width : AtMost (meshWidth c) (reported mV (rowOf c .mesh))
+  unfolding rowOf
+  mesh-width = mesh-narrow b
+
   pub right-row : RightRow c (rowOf c)
-  unfolding rowOf verdictOf
+  unfolding rowOf caseVerdict verdictOf
   right-row =
       record {
         station = refl;
@@ -61,7 +66,7 @@ module _ {c : Case} (b : Bounds c) where
         current = refl;
         tolerable-touch = touch-reports;
         tolerable-step = limit-reports;
-        mesh = reports (λ A. meshWidth c) (consistent-mesh b) (mesh-encloses b) (mesh-narrow b);
+        mesh = reports (λ A. meshWidth c) (consistent-mesh b) (mesh-encloses b) mesh-width;
         step = reports (λ A. stepWidth c) (consistent-step b) (S.step-encloses b) (SW.step-narrow b);
         resistance = resistance-reports;
         rise = reports riseWidth (consistent-rise b) (rise-encloses b) (rise-narrow b);

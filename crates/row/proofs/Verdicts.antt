@@ -11,6 +11,7 @@ use Rattle.interval.specs.declared.Interval.{Interval}
 use Rattle.exact.specs.Exact.{Exact, Above, AtOrBelow}
 use Rattle.exact.specs.Reported.{Scale}
 use Rattle.exact.specs.Depth.{Consistent}
+use Rattle.case.proofs.Tests.{both, one-of}
 use Rattle.enclosure.specs.Enclosure.{Encloses}
 use Rattle.enclosure.proofs.Verdicts.{encloses-at-or-below, encloses-above}
 use Rattle.row.specs.declared.Verdict.{Verdict}
@@ -28,14 +29,6 @@ unsafe-tested : (s u : Bool) → cond s Safe (cond u Unsafe Undecided) ≡ Unsaf
 unsafe-tested true u e = let z : _≡_ {A = ℕ} 0 1 = cc in absurd (omega arith)
 unsafe-tested false true e = tt
 unsafe-tested false false e = let z : _≡_ {A = ℕ} 0 1 = cc in absurd (omega arith)
-
-both : (a b : Bool) → T (a && b) → T a × T b
-both true b t = (tt, t)
-both false b t = absurd t
-
-one-of : (a b : Bool) → T (a || b) → T a ⊎ T b
-one-of true b t = inl tt
-one-of false b t = inr t
 
 -- ---- the exact values
 

@@ -2,21 +2,26 @@
 -- Assumes nothing.
 use lib.IntN.{pos}
 use Rattle.case.specs.declared.Case.{Case}
-use Rattle.formulas.specs.Lengths.{gridCurrent}
+use Rattle.formulas.specs.Current.{gridCurrent}
 use Rattle.formulas.specs.Size as Size
 use Rattle.tolerable.specs.Ends.{touchEnds, stepEnds}
 use Rattle.mesh.specs.Ends.{meshEnds}
 use Rattle.step.specs.Ends.{stepVoltageEnds}
 use Rattle.resistance.specs.Ends.{resistanceEnds, riseEnds}
 use Rattle.row.specs.declared.Row.{Row}
-use Rattle.row.specs.Verdict.{verdict, verdictNumber}
+use Rattle.row.specs.declared.Verdict.{Verdict}
+use Rattle.row.specs.Verdict.{verdict}
+
+-- the verdict of a case
+unfoldable pub caseVerdict : Case → Verdict
+caseVerdict c = verdict (touchEnds c) (stepEnds c) (meshEnds c) (stepVoltageEnds c)
 
 unfoldable pub rowOf : Case → Row
 rowOf c =
     record {
       station = pos (c .station);
       season = pos (c .season);
-      verdict = pos (verdictNumber (verdict (touchEnds c) (stepEnds c) (meshEnds c) (stepVoltageEnds c)));
+      verdict = caseVerdict c;
       size = pos (Size.size c);
       current = pos (gridCurrent c);
       «tolerable_touch» = touchEnds c;

@@ -6,6 +6,7 @@ use mathlib.Core.List.{List, [], _∷_}
 use lib.IntN.{pos}
 use Rattle.interval.specs.declared.Interval.{Interval}
 use Rattle.interval.specs.Operations.{natural}
+use Rattle.row.specs.declared.Verdict.the-variants.{Undecided}
 use Rattle.row.specs.Verdict.{verdict, safe, unsafe, verdictNumber}
 use Rattle.row.specs.Row.{numbers}
 
@@ -25,7 +26,7 @@ pub order : numbers
     (record {
       station = pos 1;
       season = pos 2;
-      verdict = pos 3;
+      verdict = Undecided;
       size = pos 4;
       current = pos 5;
       «tolerable_touch» = natural 6 7;
@@ -36,5 +37,5 @@ pub order : numbers
       rise = natural 16 17;
     })
     ≡ pos 1 ∷ pos 2 ∷ pos 3 ∷ pos 4 ∷ pos 5 ∷ pos 6 ∷ pos 7 ∷ pos 8 ∷ pos 9 ∷ pos 10 ∷ pos 11 ∷ pos 12 ∷ pos 13 ∷ pos 14 ∷ pos 15 ∷ pos 16 ∷ pos 17 ∷ []
-unfolding numbers natural
+unfolding numbers natural verdictNumber
 order = refl

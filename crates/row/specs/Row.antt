@@ -10,7 +10,7 @@ use lib.ListN.{length}
 use Rattle.exact.specs.Exact.{Above, AtOrBelow}
 use Rattle.exact.specs.Reported.{Reports}
 use Rattle.case.specs.declared.Case.{Case}
-use Rattle.formulas.specs.Lengths.{gridCurrent}
+use Rattle.formulas.specs.Current.{gridCurrent}
 use Rattle.formulas.specs.Size
 use Rattle.formulas.specs.Tolerable
 use Rattle.formulas.specs.Mesh
@@ -29,7 +29,7 @@ verdictOf r = verdict (r .«tolerable_touch») (r .«tolerable_step») (r .mesh)
 pub record RightRow (c : Case) (r : Row) : Type 0 where
   pub station : r .station ≡ pos (c .station)
   pub season : r .season ≡ pos (c .season)
-  pub verdict : r .verdict ≡ pos (verdictNumber (verdictOf r))
+  pub verdict : r .verdict ≡ verdictOf r
   pub size : r .size ≡ pos (Size.size c)
   pub current : r .current ≡ pos (gridCurrent c)
   pub tolerable-touch : Reports (Tolerable.tolerableTouch c) mV tolerableWidth (r .«tolerable_touch»)
@@ -43,13 +43,13 @@ pub record RightRow (c : Case) (r : Row) : Type 0 where
   pub unsafe-true : verdictOf r ≡ Unsafe → Above (Mesh.mesh c) (Tolerable.tolerableTouch c) ⊎ Above (Step.step c) (Tolerable.tolerableStep c)
 
 -- "each value line fills 17 of them"
-unfoldable pub rowLength : ℕ
+abbrev pub rowLength : ℕ
 rowLength = 17
 
--- station, season, verdict, size, current, then the lower and upper ends of the six pairs
+-- station, season, verdict by its number, size, current, then the lower and upper ends of the six pairs
 unfoldable pub numbers : Row → List ℤ
 numbers r =
-    r .station ∷ r .season ∷ r .verdict ∷ r .size ∷ r .current
+    r .station ∷ r .season ∷ pos (verdictNumber (r .verdict)) ∷ r .size ∷ r .current
     ∷ r .«tolerable_touch» .lower ∷ r .«tolerable_touch» .upper
     ∷ r .«tolerable_step» .lower ∷ r .«tolerable_step» .upper
     ∷ r .mesh .lower ∷ r .mesh .upper
@@ -59,5 +59,5 @@ numbers r =
     ∷ []
 
 pub row-length : (r : Row) → length (numbers r) ≡ rowLength
-unfolding numbers rowLength
+unfolding numbers
 row-length r = refl

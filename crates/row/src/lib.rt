@@ -9,17 +9,20 @@ use interval::Interval;
 pub use put::put_row;
 pub use work::work_row;
 
+// How many numbers a row has.
+pub const ROW_LENGTH: usize = 17;
+
 pub enum Verdict {
     Safe,
     Unsafe,
     Undecided,
 }
 
-// The seventeen numbers of a row: a pair is two of them, lower end first.
+// The numbers of a row: a pair is two of them, lower end first.
 pub struct Row {
     pub station: i64,
     pub season: i64,
-    pub verdict: i64,
+    pub verdict: Verdict,
     // kcmil
     pub size: i64,
     // microamperes

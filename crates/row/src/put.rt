@@ -1,17 +1,21 @@
-// A row into its seventeen numbers of the table.
+// A row into its numbers of the table.
 ghost use mathlib.Core.Path.{_≡_};
 ghost use lib.ListN.{length};
 ghost use Rattle.row.specs.Row.{numbers, rowLength};
+use crate::ROW_LENGTH;
 use crate::Row;
+use crate::decide::verdict_number;
 
-// The seventeen numbers in the table's order.
-fn row_numbers(r: Row) -> [i64; 17]
+// The numbers in the table's order.
+fn row_numbers(r: Row) -> [i64; ROW_LENGTH]
     ensures { λ a. ⌜ a ≡ numbers r ⌝ }
 {
+    let verdict = r.verdict;
+    let told = verdict_number(verdict);
     [
         r.station,
         r.season,
-        r.verdict,
+        told,
         r.size,
         r.current,
         r.tolerable_touch.lower,
@@ -29,12 +33,12 @@ fn row_numbers(r: Row) -> [i64; 17]
     ]
 }
 
-fn copy_row(a: [i64; 17], row: &mut [i64])
-    requires { ⌜ length (now row) ≡ 17 ⌝ }
+fn copy_row(a: [i64; ROW_LENGTH], row: &mut [i64])
+    requires { ⌜ length (now row) ≡ rowLength ⌝ }
     ensures { λ _. ⌜ now (row .exit) ≡ a ⌝ }
 {
     let mut i = 0;
-    while i < 17 {
+    while i < ROW_LENGTH {
         let z = a[i];
         row[i] = z;
         i += 1;

@@ -2,11 +2,10 @@
 ghost use mathlib.Core.Path.{_≡_};
 ghost use lib.IntN.{pos};
 ghost use Rattle.case.specs.Bounds.{Bounds};
-ghost use Rattle.formulas.specs.Lengths.{gridCurrent};
+ghost use Rattle.formulas.specs.Current.{gridCurrent};
 ghost use Rattle.formulas.specs.Size as Size;
 ghost use Rattle.row.specs.Ends.{rowOf};
 use crate::Row;
-use crate::decide::verdict_number;
 use crate::decide::verdict_of;
 use case::Case;
 
@@ -37,7 +36,7 @@ pub fn work_row(c: Case) -> Row
     Row {
         station: c.station as i64,
         season: c.season as i64,
-        verdict: verdict_number(verdict_of(touch, limit, mesh, step)),
+        verdict: verdict_of(touch, limit, mesh, step),
         size: size_number(c),
         current: current_number(c),
         tolerable_touch: touch,

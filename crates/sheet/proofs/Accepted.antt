@@ -1,77 +1,53 @@
--- A sheet whose answer is a count of rows has passed every check.
+-- A sheet whose answer is a count of rows has passed every check, and each of its cases is within its bounds.
 -- Assumes nothing.
-use Prim.Native.Nat.{ℕ, _*_, _<_}
-use mathlib.Core.Path.{_≡_, refl, _∙_}
+use Prim.Native.Nat.{ℕ, _*_}
+use mathlib.Core.Path.{_≡_, refl, ap, _∙_}
 use mathlib.Core.Bool.{Bool, true, false, cond}
-use mathlib.Core.List.{List, []}
+use mathlib.Core.List.{List}
 use native.Mathlib.Omega.{arith}
-use lib.ListN.{length, getD, take}
-use lib.Dec.{eqb, ltb}
-use borrow.Author.Tests.{eqb-true, eqb-false, ltb-false}
-use Rattle.text.specs.Text.{indexOf, fieldsOf}
-use Rattle.case.specs.Bounds.{Bounds}
+use lib.ListN.{length, length-map}
+use lib.Dec.{ltb}
+use borrow.Author.Tests.{ltb-false}
+use Rattle.text.specs.Text.{fieldsOf}
+use Rattle.case.specs.Columns.{columns, name-count}
+use Rattle.case.specs.Check.{caseFinding}
+use Rattle.case.specs.Bounds.{Placed, Bounds}
 use Rattle.case.proofs.Bounds.{bounds}
+use Rattle.case.proofs.Values.{values-of-case}
+use Rattle.line.specs.Line.{lineValues, lineCase}
 use Rattle.row.specs.Row.{rowLength}
+use Rattle.judgement.specs.declared.Judgement.{Judgement}
+use Rattle.judgement.specs.declared.Judgement.the-variants as judged
+use Rattle.judgement.specs.Sheet.{judgement}
+use Rattle.judgement.specs.Accepted.{SoundLine}
+use Rattle.judgement.proofs.Accepted as judging
 use Rattle.sheet.specs.declared.Answer.{Answer}
 use Rattle.sheet.specs.declared.Answer.the-variants.{Rows, Refused}
-use Rattle.sheet.specs.Limits.{mostLines}
-use Rattle.sheet.specs.Refusal.{textRefused, nameRefused, noLineRefused, manyLinesRefused, tableRefused}
-use Rattle.sheet.specs.Header.{noColumns, nameFault, columnsOf}
-use Rattle.sheet.specs.Line.{lineCase}
-use Rattle.sheet.specs.Sheet.{names, valueLines, badText, roomAnswer, valuesAnswer, namesAnswer, answer}
-use Rattle.sheet.specs.Accepted.{SoundLines, Accepted}
-use Rattle.sheet.specs.Parts.{Header}
-use Rattle.sheet.proofs.HeaderAccepted.{header-accepted}
-use Rattle.sheet.proofs.LinesAccepted.{lines-sound}
-use Rattle.sheet.proofs.Whole.{names-are}
+use Rattle.sheet.specs.Answer.{tableRefused, answerBy, answer}
+use Rattle.sheet.specs.Accepted.{Accepted}
 
--- what a count says of a step of the answer
-first-refused : (b : Bool) (k l c n : ℕ) (a : Answer) → cond b (Refused k l c) a ≡ Rows n → (b ≡ false) × (a ≡ Rows n)
-first-refused true k l c n a e = let z : _≡_ {A = ℕ} 0 1 = cc in absurd (omega arith)
-first-refused false k l c n a e = (refl, e)
+-- what a count of rows says of the judgement
+record Counted (room n : ℕ) (j : Judgement) : Type 0 where
+  lines : j ≡ judged.Lines n
+  room-left : ltb room (rowLength * n) ≡ false
 
-last-refused : (b : Bool) (k l c n : ℕ) (a : Answer) → cond b a (Refused k l c) ≡ Rows n → (b ≡ true) × (a ≡ Rows n)
-last-refused true k l c n a e = (refl, e)
-last-refused false k l c n a e = let z : _≡_ {A = ℕ} 0 1 = cc in absurd (omega arith)
+counted : (room n : ℕ) (j : Judgement) → answerBy room j ≡ Rows n → Counted room n j
+unfolding answerBy tableRefused
+counted room n (judged.Refused k l c) e = let z : _≡_ {A = ℕ} 0 1 = cc in absurd (omega arith)
+counted room n (judged.Lines m) e = go (ltb room (rowLength * m)) refl e
+  where
+    go : (b : Bool) → ltb room (rowLength * m) ≡ b → cond b (Refused 8 0 0) (Rows m) ≡ Rows n → Counted room n (judged.Lines m)
+    go true f h = let z : _≡_ {A = ℕ} 0 1 = cc in absurd (omega arith)
+    go false f h = let q : m ≡ n = cc in record { lines = ap judged.Lines q; room-left = rw (← q) f }
 
 pub accepted : (s : List ℕ) (room n : ℕ) → answer s room ≡ Rows n → Accepted s room n
-unfolding answer namesAnswer valuesAnswer roomAnswer textRefused nameRefused noLineRefused manyLinesRefused tableRefused
+unfolding answer
 accepted s room n e =
-    let p = first-refused (badText s) 1 0 0 n _ e in
-    let q = last-refused (eqb (nameFault 1 noColumns (names s)) 0) 2 1 _ n _ (p .1) in
-    let z = eqb-true (nameFault 1 noColumns (names s)) 0 (q .0) in
-    let r = first-refused (eqb (length (valueLines s)) 0) 4 2 0 n _ (q .1) in
-    let t = first-refused (ltb mostLines (length (valueLines s))) 4 _ 0 n _ (r .1) in
-    let l = lines-sound (columnsOf (names s)) [] _ n _ (valueLines s) (t .1) in
-    let w = first-refused (ltb room _) 8 0 0 n _ (l .then) in
-    let c : n ≡ length (valueLines s) = rows-same (w .1) in
-    record {
-      text = p .0;
-      names-sound = z;
-      placed = header-accepted (names s) z;
-      count = c;
-      some = omega (arith, eqb-false (length (valueLines s)) 0 (r .0));
-      most = rw c (ltb-false mostLines (length (valueLines s)) (t .0));
-      fits = rw c (ltb-false room (rowLength * length (valueLines s)) (w .0));
-      line = λ i h. l .each i (omega arith);
-    }
-  where
-    rows-same : {a b : ℕ} → Rows a ≡ Rows b → b ≡ a
-    rows-same h = cc
+    let c = counted room n (judgement columns s) e in
+    record { sheet = judging.accepted columns s n (c .lines); fits = ltb-false room (rowLength * n) (c .room-left) }
 
--- each case of an accepted sheet is within its bounds
-pub accepted-bounds : {s : List ℕ} {room n : ℕ} (i : ℕ) → Accepted s room n → i < n
-    → Bounds (lineCase (columnsOf (names s)) (fieldsOf (getD (valueLines s) i [])))
-accepted-bounds i a h = bounds (a .placed) (a .line i h .sound)
-
-pub accepted-lines : {s : List ℕ} {room n : ℕ} → Accepted s room n → SoundLines (columnsOf (names s)) (valueLines s)
-accepted-lines a = record { line = λ i h. a .line i (omega (arith, a .count)) }
-
--- ---- for the writer of the rows: the header ends at e
-
-module _ {s : List ℕ} {room n : ℕ} {at : List ℕ} {c : ℕ} (e : ℕ) (a : Accepted s room n) (ends : e ≡ indexOf 10 s) (h : Header (take e s) c at) where
-  pub accepted-fault : c ≡ 0
-  accepted-fault = h .fault-is ∙ rw (← names-are s e (a .text) ends) (a .names-sound)
-
-  pub accepted-columns : at ≡ columnsOf (names s)
-  accepted-columns = h .at-is accepted-fault ∙ rw (← names-are s e (a .text) ends)
+-- the case of a sound line is within its bounds
+pub sound-bounds : {at line : List ℕ} → Placed columns at → SoundLine columns at line → Bounds (lineCase at (fieldsOf line))
+unfolding lineCase lineValues caseFinding
+sound-bounds {at} {line} p l =
+    bounds p (rw (values-of-case (lineValues at (fieldsOf line)) (length-map at _ ∙ p .count ∙ name-count)) (l .values-sound))

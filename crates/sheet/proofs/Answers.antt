@@ -1,27 +1,45 @@
 -- The claim about a sheet and its table, from the answer and the rows.
 -- Assumes nothing.
-use Prim.Native.Nat.{ℕ}
+use Prim.Native.Nat.{ℕ, _*_, _≤_, _<_}
 use mathlib.Core.Path.{_≡_, refl, sym, _∙_}
 use mathlib.Core.List.{List}
 use lib.IntN.{ℤ}
 use lib.ListN.{length}
-use Rattle.sheet.specs.declared.Answer.{Answer}
+use borrow.Author.Tests.{lt-ltb, le-ltb}
+use Rattle.row.specs.Row.{rowLength}
+use Rattle.judgement.proofs.Accepted.{accepted}
 use Rattle.sheet.specs.declared.Answer.the-variants.{Rows, Refused}
-use Rattle.sheet.specs.Header.{columnsOf}
-use Rattle.sheet.specs.Sheet.{names, valueLines, cases, answer}
+use Rattle.case.specs.Columns.{columns}
+use Rattle.header.specs.Header.{columnsOf}
+use Rattle.judgement.specs.declared.Judgement.{Judgement}
+use Rattle.judgement.specs.declared.Judgement.the-variants as judged
+use Rattle.judgement.specs.Sheet.{names, valueLines, judgement}
+use Rattle.sheet.specs.Answer.{tableRefused, answerBy, cases, answer}
+use Rattle.sheet.specs.Accepted.{Accepted}
 use Rattle.sheet.specs.Table.{Filled, TableAfter, Answered}
 use Rattle.sheet.specs.Rows.{casesOf}
 
-pub cases-are : (s : List ℕ) → casesOf (columnsOf (names s)) (valueLines s) ≡ cases s
+pub cases-are : (s : List ℕ) → casesOf (columnsOf columns (names s)) (valueLines s) ≡ cases s
 unfolding casesOf cases
 cases-are s = refl
 
-pub answered-rows : {n : ℕ} {a : Answer} (s : List ℕ) (t u : List ℤ) → a ≡ answer s (length t) → a ≡ Rows n → Filled (cases s) t u
-    → Answered s t u (Rows n)
-unfolding TableAfter
-answered-rows s t u p q f = record { answer-is = sym q ∙ p; table-is = f }
+module _ {j : Judgement} (s : List ℕ) (t : List ℤ) (judged-is : j ≡ judgement columns s) where
+  -- refused by its judgement
+  pub answered-refused : {k l c : ℕ} → j ≡ judged.Refused k l c → Answered s t t (Refused k l c)
+  unfolding TableAfter answer answerBy
+  answered-refused e = record { answer-is = rw (← judged-is, e); table-is = refl }
 
-pub answered-refused : {k l c : ℕ} {a : Answer} (s : List ℕ) (t : List ℤ) → a ≡ answer s (length t) → a ≡ Refused k l c
-    → Answered s t t a
-unfolding TableAfter
-answered-refused s t p q = record { answer-is = p; table-is = rw q refl }
+  -- a table too short
+  pub answered-short : {n : ℕ} → j ≡ judged.Lines n → length t < rowLength * n → Answered s t t (Refused 8 0 0)
+  unfolding TableAfter answer answerBy tableRefused
+  answered-short {n} e h = record { answer-is = rw (← judged-is, e, lt-ltb (length t) (rowLength * n) h); table-is = refl }
+
+  pub answered-rows : {n : ℕ} {u : List ℤ} → j ≡ judged.Lines n → rowLength * n ≤ length t → Filled (cases s) t u → Answered s t u (Rows n)
+  unfolding TableAfter answer answerBy
+  answered-rows {n} e h f = record { answer-is = rw (← judged-is, e, le-ltb (length t) (rowLength * n) h); table-is = f }
+
+  -- what the writer of the rows needs
+  pub room-accepted : {n : ℕ} → j ≡ judged.Lines n → rowLength * n ≤ length t → Accepted s (length t) (length (valueLines s))
+  room-accepted {n} e h =
+      let a = accepted columns s n (sym judged-is ∙ e) in
+      record { sheet = rw (← a .count) a; fits = rw (← a .count) h }

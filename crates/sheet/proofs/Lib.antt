@@ -1,17 +1,3 @@
-pub mod NameTable
-pub mod Naming
-pub mod FieldTurns
-pub mod FreeNames
-pub mod HeaderReading
-pub mod ValuesReading
-pub mod Arranging
-pub mod Keys
-pub mod LineTurns
-pub mod LineJudged
-pub mod Passing
-pub mod Whole
-pub mod HeaderAccepted
-pub mod LinesAccepted
 pub mod Accepted
 pub mod RowParts
 pub mod Writing

@@ -45,10 +45,9 @@ part-of-front k (suc a) (suc m) (x ∷ l) h = part-of-front k a m l (omega arith
 
 -- the rows before row i are kept
 pub row-kept : {i : ℕ} {row t u : List ℤ} (j : ℕ) → Written i row t u → j < i → rowAt u j ≡ rowAt t j
-unfolding rowLength
 row-kept {i} {row} {t} {u} j w h =
-    sym (part-of-front 17 (17 * j) (17 * i) u (omega arith)) ∙ ap (λ (l : List ℤ). take 17 (drop (17 * j) l)) (w .front)
-    ∙ part-of-front 17 (17 * j) (17 * i) t (omega arith)
+    sym (part-of-front rowLength (rowLength * j) (rowLength * i) u (omega arith)) ∙ ap (λ (l : List ℤ). take rowLength (drop (rowLength * j) l)) (w .front)
+    ∙ part-of-front rowLength (rowLength * j) (rowLength * i) t (omega arith)
 
 pub filled-start : (cs : List Case) (t : List ℤ) → FilledTo cs 0 t t
 filled-start cs t = record { size = refl; rows = λ i h. absurd (omega arith); rest = refl }
@@ -56,17 +55,16 @@ filled-start cs t = record { size = refl; rows = λ i h. absurd (omega arith); r
 -- one row more
 pub filled-step : {cs : List Case} {n : ℕ} {row t u w : List ℤ} → FilledTo cs n t u → Written n row u w → RowOf (getD cs n (caseOf [])) row
     → FilledTo cs (n + 1) t w
-unfolding rowLength
 filled-step {cs} {n} {row} {t} {u} {w} f r p =
     record {
       size = r .size ∙ f .size;
       rows = λ i h. at i (eq-or-lt-of-le (omega arith));
       rest =
-          ap (λ (k : ℕ). drop k w) (next n) ∙ r .back ∙ sym (drop-drop 17 (17 * n) u) ∙ ap (drop 17) (f .rest) ∙ drop-drop 17 (17 * n) t
+          ap (λ (k : ℕ). drop k w) (next n) ∙ r .back ∙ sym (drop-drop rowLength (rowLength * n) u) ∙ ap (drop rowLength) (f .rest) ∙ drop-drop rowLength (rowLength * n) t
           ∙ ap (λ (k : ℕ). drop k t) (sym (next n));
     }
   where
-    next : (k : ℕ) → 17 * (k + 1) ≡ 17 * k + 17
+    next : (k : ℕ) → rowLength * (k + 1) ≡ rowLength * k + rowLength
     next k = omega arith
 
     at : (i : ℕ) → (i ≡ n) ⊎ (i < n) → RowOf (getD cs i (caseOf [])) (rowAt w i)

@@ -12,12 +12,13 @@ use Rattle.text.specs.Text.{indexOf, linesOf, fieldsOf}
 use Rattle.text.proofs.Lines.{lines-next, lines-none}
 use Rattle.case.specs.declared.Case.{Case}
 use Rattle.case.specs.Case.{caseOf}
-use Rattle.sheet.specs.Line.{lineCase}
+use Rattle.case.specs.Columns.{columns}
+use Rattle.line.specs.Line.{lineCase}
 use Rattle.sheet.specs.Table.{RowOf, Filled}
 use Rattle.sheet.specs.Rows.{Written, FilledTo, casesOf}
-use Rattle.sheet.specs.Accepted.{SoundLine}
-use Rattle.sheet.specs.Parts.{Skipped}
-use Rattle.sheet.proofs.LineTurns.{line-turn, line-shorter}
+use Rattle.judgement.specs.Accepted.{SoundLine}
+use Rattle.text.specs.Parts.{Skipped}
+use Rattle.text.proofs.LineTurns.{line-turn, line-shorter}
 use Rattle.sheet.proofs.RowParts.{filled-start, filled-step, filled-end}
 
 pub record Writing (s at rest : List ℕ) (n : ℕ) (t u : List ℤ) : Type 0 where
@@ -54,7 +55,7 @@ module _ {s at rest : List ℕ} {n : ℕ} {t u : List ℤ} (e : ℕ) (a : Writin
   pub writing-within : n < length (linesOf s)
   writing-within = first .within
 
-  pub writing-sound : ((i : ℕ) → i < length (linesOf s) → SoundLine at (getD (linesOf s) i [])) → SoundLine at (take e rest)
+  pub writing-sound : ((i : ℕ) → i < length (linesOf s) → SoundLine columns at (getD (linesOf s) i [])) → SoundLine columns at (take e rest)
   writing-sound h = rw (← first .is) (h n (first .within))
 
   pub writing-step : {row w : List ℤ} {c : Case} (r : ℕ) → c ≡ lineCase at (fieldsOf (take e rest)) → RowOf c row → Written n row u w

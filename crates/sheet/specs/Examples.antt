@@ -1,31 +1,32 @@
 -- The answer computed on sheets: document 01's sample, each refusal, and the order of the rules where two are broken at once.
 -- Assumes nothing.
-use Prim.Native.Nat.{ℕ, zero, suc, _+_, _*_, _/_, _%_}
+use Prim.Native.Nat.{ℕ, _+_}
 use mathlib.Core.Path.{_≡_, refl}
 use mathlib.Core.List.{List, [], _∷_, _++_, map}
-use lib.ListN.{length, replicate}
+use lib.ListN.{replicate}
 use Rattle.text.specs.Text.{bytes, onFirst, linesOf, fieldsOf, same}
 use Rattle.text.specs.Value.{digit, digits, plain, isValue, numberFrom, valueOf}
 use Rattle.case.specs.declared.Case.{Case}
-use Rattle.case.specs.Columns.{columns, inRange, indexAmong, nameIndex}
-use Rattle.case.specs.Case.{values, caseOf}
-use Rattle.case.specs.Check.{columnOf, leftOf, outOfRange, agree, disagreement, caseFault}
-use Rattle.row.specs.Row.{rowLength}
+use Rattle.case.specs.Columns.{columns, inRange, nameIndex, named}
+use Rattle.case.specs.Case.{caseOf}
+use Rattle.case.specs.Check.{leftOf, outOfRange, agree, disagreement, finding}
+use Rattle.header.specs.Header.{noColumns, fresh, wrongName, columnsFrom, columnsOf}
+use Rattle.line.specs.Line.{wrongForm, lineValues, lineCase}
+use Rattle.judgement.specs.Limits.{mostBytes, mostLines}
+use Rattle.judgement.specs.Refusal.{textRefused, nameRefused, noLineRefused, manyLinesRefused, lineJudgement}
+use Rattle.judgement.specs.Findings.{orFinding, sameKey, repeats, lineFinding}
+use Rattle.judgement.specs.Sheet.{names, valueLines, badText, linesJudgement, valuesJudgement, namesJudgement, judgement}
 use Rattle.sheet.specs.declared.Answer.{Answer}
 use Rattle.sheet.specs.declared.Answer.the-variants.{Rows, Refused}
-use Rattle.sheet.specs.Limits.{mostBytes, mostLines, nameCount}
-use Rattle.sheet.specs.Refusal.{textRefused, nameRefused, noLineRefused, manyLinesRefused, tableRefused, lineAnswer}
-use Rattle.sheet.specs.Header.{noColumns, fresh, nameFault, columnsFrom, columnsOf}
-use Rattle.sheet.specs.Line.{formFault, lineCase, sameKey, repeats, orCase, lineFault}
-use Rattle.sheet.specs.Sheet.{names, valueLines, cases, badText, roomAnswer, linesAnswer, valuesAnswer, namesAnswer, answer}
+use Rattle.sheet.specs.Answer.{cases, tableRefused, answerBy, answer}
 
 -- the answer and the cases, with all that they are made of
 answerOf : List ℕ → ℕ → Answer
-unfolding onFirst linesOf fieldsOf same digit digits plain isValue numberFrom valueOf columns inRange indexAmong nameIndex values caseOf columnOf leftOf outOfRange agree disagreement caseFault rowLength mostBytes mostLines nameCount textRefused nameRefused noLineRefused manyLinesRefused tableRefused lineAnswer noColumns fresh nameFault columnsFrom columnsOf formFault lineCase sameKey repeats orCase lineFault names valueLines cases badText roomAnswer linesAnswer valuesAnswer namesAnswer answer
+unfolding onFirst linesOf fieldsOf same digit digits plain isValue numberFrom valueOf columns inRange nameIndex named leftOf outOfRange agree disagreement finding textRefused nameRefused noLineRefused manyLinesRefused tableRefused lineJudgement noColumns fresh wrongName columnsFrom columnsOf wrongForm lineValues sameKey repeats orFinding lineFinding names valueLines badText linesJudgement valuesJudgement namesJudgement judgement answerBy answer
 answerOf s room = answer s room
 
 casesOf : List ℕ → List Case
-unfolding onFirst linesOf fieldsOf same numberFrom valueOf columns indexAmong nameIndex caseOf nameCount noColumns columnsFrom columnsOf lineCase names valueLines cases
+unfolding onFirst linesOf fieldsOf same numberFrom valueOf columns nameIndex noColumns columnsFrom columnsOf lineValues lineCase names valueLines cases
 casesOf s = cases s
 
 abbrev head : List ℕ
@@ -65,8 +66,8 @@ examples : List Example
 examples =
     -- 1: empty, too long, no last byte 10
     row [] 34 (Refused 1 0 0)
-    ∷ row (replicate 16385 10) 34 (Refused 1 0 0)
-    ∷ row (replicate 16384 10) 34 (Refused 2 1 1)
+    ∷ row (replicate (mostBytes + 1) 10) 34 (Refused 1 0 0)
+    ∷ row (replicate mostBytes 10) 34 (Refused 2 1 1)
     ∷ row (head ++ bytes "7") 34 (Refused 1 0 0)
     -- 2: unknown, in another case of letters, twice, missing, a nineteenth
     ∷ row (bytes "station,season,Soil\n") 34 (Refused 2 1 3)
@@ -76,9 +77,9 @@ examples =
     ∷ row (bytes "station,season,soil,layer,thick,ms,body,fault,split,xr,lines,space,depth,dia,rods,rodlen,place,metal,\n") 34 (Refused 2 1 19)
     -- 2 comes before 4
     ∷ row (bytes "\n") 34 (Refused 2 1 1)
-    -- 4: no line, and 65
+    -- 4: no line, and one too many
     ∷ row head 34 (Refused 4 2 0)
-    ∷ row (head ++ replicate 65 10) 34 (Refused 4 66 0)
+    ∷ row (head ++ replicate (mostLines + 1) 10) 34 (Refused 4 (mostLines + 2) 0)
     -- 3: wrong forms, too few, too many; an empty line
     ∷ row (head ++ dry ++ bytes "\n") 34 (Refused 3 3 1)
     ∷ row (head ++ bytes "7,1,0400,2500,102,500,70,3180,600,10,11,7000,500,100,0,0,0,1\n") 34 (Refused 3 2 3)
@@ -112,14 +113,3 @@ examples =
 right : map (λ e. answerOf (e .sheet) (e .room)) examples ≡ map (λ e. e .answered) examples
 unfolding answerOf examples sample
 right = refl
-
--- ---- 64 lines pass, 65 are refused: stations 100 and up
-
-manyLines : ℕ → List ℕ
-manyLines zero = []
-manyLines (suc n) =
-    49 ∷ (48 + n / 10) ∷ (48 + n % 10) ∷ bytes ",1,400,2500,102,500,70,3180,600,10,11,7000,500,100,0,0,0,1\n" ++ manyLines n
-
-many : answerOf (head ++ manyLines 64) (17 * 64) ∷ answerOf (head ++ manyLines 65) (17 * 65) ∷ [] ≡ Rows 64 ∷ Refused 4 66 0 ∷ []
-unfolding answerOf manyLines
-many = refl

@@ -1,10 +1,5 @@
-pub mod Limits
-pub mod Refusal
-pub mod Header
-pub mod Line
-pub mod Sheet
-pub mod Parts
-pub mod Accepted
+pub mod Answer
 pub mod Table
+pub mod Accepted
 pub mod Rows
 pub mod Examples

@@ -9,7 +9,7 @@ use Rattle.text.specs.Text.{fieldsOf}
 use Rattle.case.specs.declared.Case.{Case}
 use Rattle.case.specs.Case.{caseOf}
 use Rattle.row.specs.Row.{rowLength}
-use Rattle.sheet.specs.Line.{lineCase}
+use Rattle.line.specs.Line.{lineCase}
 use Rattle.sheet.specs.Table.{rowAt, RowOf}
 
 -- row i of a table is written, and nothing else of it

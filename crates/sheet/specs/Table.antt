@@ -7,21 +7,20 @@ use lib.IntN.{ℤ}
 use lib.ListN.{length, getD, take, drop}
 use Rattle.case.specs.declared.Case.{Case}
 use Rattle.case.specs.Case.{caseOf}
-use Rattle.row.specs.declared.Row.{Row}
 use Rattle.row.specs.Row.{RightRow, numbers, rowLength}
+use Rattle.row.specs.Ends.{rowOf}
 use Rattle.sheet.specs.declared.Answer.{Answer}
 use Rattle.sheet.specs.declared.Answer.the-variants.{Rows, Refused}
-use Rattle.sheet.specs.Sheet.{answer, cases}
+use Rattle.sheet.specs.Answer.{answer, cases}
 
 -- the numbers of row i
 abbrev pub rowAt : List ℤ → ℕ → List ℤ
 rowAt table i = take rowLength (drop (rowLength * i) table)
 
--- some numbers are a right row of a case
-pub record RowOf (c : Case) (numbers-of : List ℤ) : Type 0 where
-  pub row : Row
-  pub is : numbers-of ≡ numbers row
-  pub right : RightRow c row
+-- some numbers are the row of a case, the same as the case asked alone has, and that row is right
+pub record RowOf (c : Case) (row : List ℤ) : Type 0 where
+  pub is : row ≡ numbers (rowOf c)
+  pub right : RightRow c (rowOf c)
 
 -- every case has its own row, in order, "Numbers past the last row keep what they held."
 pub record Filled (cs : List Case) (before after : List ℤ) : Type 0 where

@@ -10,34 +10,40 @@ use Rattle.interval.specs.Operations.{point, quotientOf}
 use Rattle.interval.specs.declared.Interval.{Interval}
 use Rattle.interval.proofs.Span.{span-divisor}
 use Rattle.exact.specs.Fraction.{Fraction, _≈f_, whole, decimal, _+f_, neg, _−f_, _·f_, inv, _÷f_}
-use Rattle.exact.specs.Exact.{exactly}
+use Rattle.exact.specs.Exact.{exactly, _·x_, _÷x_}
+use Rattle.exact.specs.Depth.{Consistent}
 use Rattle.exact.specs.Reported.{Scale, ten, reported}
 use Rattle.exact.proofs.Order.{refl≈, sym≈, trans≈}
 use Rattle.exact.proofs.Sums.{cong+, cong−}
 use Rattle.exact.proofs.Products.{cong·}
 use Rattle.exact.proofs.Divisors.{inv-cong, cong÷}
-use Rattle.exact.proofs.Points.{Point}
+use Rattle.exact.proofs.Points.{Point, point-same}
 use Rattle.exact.proofs.Consistency.{consistent-exactly, consistent-quotient}
-use Rattle.exact.proofs.Quantity.{quantity-π}
+use Rattle.exact.proofs.Factors.{factor-last}
+use Rattle.exact.proofs.Reported.{decimal-over}
+use Rattle.exact.proofs.Quantity.{quantity-exactly, quantity-product, quantity-π}
 use Rattle.enclosure.specs.Enclosure.{Encloses}
-use Rattle.enclosure.proofs.Basics.{encloses-exactly}
+use Rattle.enclosure.proofs.Basics.{encloses-same, encloses-exactly, encloses-count}
 use Rattle.enclosure.proofs.Products.{encloses-product}
 use Rattle.enclosure.proofs.Quotients.{encloses-quotient}
-use Rattle.enclosure.proofs.Constants.{π-encloses}
+use Rattle.enclosure.proofs.Constants.{π-encloses, π-span}
 use Rattle.case.specs.declared.Case.{Case}
 use Rattle.case.specs.Bounds.{Bounds}
-use Rattle.formulas.specs.Lengths.{ρ, D, h, IG, Ki}
+use Rattle.formulas.specs.Lengths.{ρ, D, h, Ki}
+use Rattle.formulas.specs.Current.{IG}
 use Rattle.formulas.specs.Step.{halfPower, LS, Ks, step}
-use Rattle.formulas.specs.Width.{mV}
+use Rattle.formulas.specs.Width.{mV, referenceKi, referenceCurrent}
 use Rattle.formulas.proofs.Positive.{decimal-pos, LS-pos}
+use Rattle.formulas.proofs.Quantities.{quantity-ρ, quantity-Ki, quantity-IG}
+use Rattle.formulas.proofs.Consistent.{consistent-Ks}
 use Rattle.current.specs.Drive.{driveOf}
-use Rattle.current.proofs.DrivingProduct.{drive-is}
+use Rattle.current.proofs.DrivingProduct.{reference-is, drive-encloses}
 use Rattle.lengths.specs.Lengths.{conductorLength, rodLength}
 use Rattle.lengths.proofs.Lengths.{conductor-is, rod-is}
-use Rattle.step.specs.Ends.{πEnds, perMetre, halfPowerOf, reach, spacingSum, spacingFactor, effectiveLength, driveEnds, stepVoltageEnds}
+use Rattle.step.specs.Ends.{perMetre, halfPowerOf, reach, spacingSum, spacingFactor, stepLength, driveEnds, stepVoltageEnds}
 use Rattle.step.proofs.HalfPowers.{power-bounds}
-use Rattle.step.proofs.Spans.{π-span, length-pos}
-use Rattle.step.proofs.Ratios.{inverse-is, counted, counted-point, sum-point, point-same}
+use Rattle.step.proofs.Spans.{point-divisor, length-pos}
+use Rattle.step.proofs.Ratios.{inverse-is, counted, counted-point, sum-point}
 
 -- a fraction between the ends of a pair
 encloses-point : {q : Fraction} {u : Scale} {i : Interval} → Point q (reported u i) → Encloses (exactly q) u i
@@ -81,7 +87,7 @@ module _ {c : Case} (b : Bounds c) where
       (share-point (power-bounds b .low) (omega (arith, b .space .low)))
 
   factor-encloses : Encloses (Ks c) (ten 7) (spacingFactor c)
-  unfolding Ks spacingFactor πEnds ten
+  unfolding Ks spacingFactor ten
   factor-encloses =
       encloses-quotient {u = ten 9} {v = ten 9} (ten 7) (10 ^ 7) refl (span-divisor (lit≤ tt) π-span .0) (consistent-exactly _)
       (quantity-π .consistent) (encloses-point spacing-point) π-encloses
@@ -92,8 +98,8 @@ weighted : (m k : ℕ) → decimal 75 2 ·f decimal m 3 +f decimal 85 2 ·f deci
 unfolding decimal _·f_ _+f_
 weighted m k = omega arith
 
-length-is : (c : Case) → LS c ≈f decimal (50 * effectiveLength c) 6
-unfolding LS effectiveLength
+length-is : (c : Case) → LS c ≈f decimal (50 * stepLength c) 6
+unfolding LS stepLength
 length-is c =
     trans≈ (cong+ (cong· (refl≈ (decimal 75 2)) (conductor-is c)) (cong· (refl≈ (decimal 85 2)) (rod-is c)))
     (weighted (conductorLength c) (rodLength c))
@@ -105,14 +111,31 @@ quotient-point n {m} p =
     point-same (trans≈ (cong· (refl≈ (decimal n 9)) (inverse-is (decimal m 6) p refl)) (omega arith)) (counted-point n m 1 p (ten 3))
 
 module _ {c : Case} (b : Bounds c) where
-  pub drive-point : Point (ρ c ·f Ki c ·f IG c ÷f LS c) (reported mV (driveEnds c))
+  -- what the width refers to lies between the ends
+  pub reference-point : Point (ρ c ·f referenceKi c ·f referenceCurrent c ÷f LS c) (reported mV (driveEnds c))
   unfolding driveEnds
-  drive-point =
-      point-same (cong÷ (LS-pos b) (drive-is c) (length-is c)) (quotient-point (driveOf c) (length-pos b))
+  reference-point =
+      point-same (cong÷ (LS-pos b) (reference-is c) (length-is c)) (quotient-point (driveOf c) (length-pos b))
 
+  driven-consistent : Consistent (exactly (ρ c) ·x Ki c ·x IG c)
+  driven-consistent = quantity-product (quantity-product (quantity-ρ b) (quantity-Ki b)) (quantity-IG b) .consistent
+
+  length-encloses : Encloses (exactly (LS c)) (ten 6) (point (pos (50 * stepLength c)))
+  length-encloses = encloses-count (pos (50 * stepLength c)) (ten 6) (trans≈ (length-is c) (decimal-over (50 * stepLength c) 6))
+
+  driven-encloses : Encloses (exactly (ρ c) ·x Ki c ·x IG c ÷x exactly (LS c)) mV (driveEnds c)
+  unfolding driveEnds mV ten
+  driven-encloses =
+      encloses-quotient (ten 3) 1 refl (point-divisor (50 * stepLength c) (length-pos b) .0) driven-consistent (consistent-exactly (LS c))
+      (drive-encloses c) length-encloses
+
+  -- the code's order: (ρ·Ki·IG/LS)·Ks
   pub step-encloses : Encloses (step c) mV (stepVoltageEnds c)
-  unfolding step Ks stepVoltageEnds mV ten
+  unfolding step stepVoltageEnds mV ten
   step-encloses =
-      encloses-product {u = ten 3} {v = ten 7} (ten 3) (10 ^ 7) refl (consistent-exactly _)
-      (consistent-quotient (quantity-π .positive) (consistent-exactly _) (quantity-π .consistent))
-      (encloses-point drive-point) (factor-encloses b)
+      let s = quantity-exactly (LS-pos b) in
+      encloses-same
+      (factor-last (consistent-exactly (ρ c)) (consistent-Ks b) (quantity-Ki b .consistent) (quantity-IG b .consistent) (s .consistent)
+      (s .positive) (lit≤ tt))
+      (encloses-product {u = ten 3} {v = ten 7} (ten 3) (10 ^ 7) refl (consistent-quotient (s .positive) driven-consistent (s .consistent))
+      (consistent-Ks b) driven-encloses (factor-encloses b))

@@ -10,7 +10,6 @@ use Rattle.interval.specs.declared.Interval.{Interval}
 use Rattle.interval.proofs.Natural.{point-natural, natural-quotient}
 use Rattle.interval.proofs.Rounding.{floorDiv-below, ceilDiv-above}
 use Rattle.exact.specs.Fraction.{Fraction, _≈f_, _+f_, inv}
-use Rattle.exact.specs.Ends.{Ends}
 use Rattle.exact.specs.Reported.{Scale, over, reported}
 use Rattle.exact.proofs.Order.{trans≤}
 use Rattle.exact.proofs.Sums.{mono+}
@@ -51,6 +50,3 @@ sum-point u i j h k =
       low = trans≤ (over-sum (i .lower) (j .lower) u .to) (mono+ (h .low) (k .low));
       high = trans≤ (mono+ (h .high) (k .high)) (over-sum (i .upper) (j .upper) u .fro);
     }
-
-pub point-same : {p q : Fraction} {A : Ends} → p ≈f q → Point q A → Point p A
-point-same e h = record { low = trans≤ (h .low) (e .fro); high = trans≤ (e .to) (h .high) }

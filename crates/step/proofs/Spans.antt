@@ -9,14 +9,15 @@ use lib.Signed.{_≤ℤ_}
 use Rattle.interval.specs.Operations.{point, size, quotientOf, Ordered}
 use Rattle.interval.specs.Span.{Span}
 use Rattle.interval.proofs.Natural.{ordered-natural}
-use Rattle.interval.proofs.Span.{span-natural, span-point, span-size, span-divisor, span-sum, span-product, span-quotient}
+use Rattle.interval.proofs.Span.{span-point, span-size, span-divisor, span-sum, span-product, span-quotient}
+use Rattle.enclosure.proofs.Constants.{π-span}
 use Rattle.case.specs.declared.Case.{Case}
 use Rattle.case.specs.Bounds.{Between, Bounds}
 use Rattle.current.specs.Drive.{driveOf}
 use Rattle.current.proofs.DrivingProduct.{current-bounds}
 use Rattle.lengths.specs.Lengths.{sideLength, conductorLength}
 use Rattle.lengths.proofs.Lengths.{conductor-bounds, rod-bound}
-use Rattle.step.specs.Ends.{πEnds, perMetre, halfPowerOf, reach, spacingSum, spacingFactor, effectiveLength, driveEnds, stepVoltageEnds}
+use Rattle.step.specs.Ends.{perMetre, halfPowerOf, reach, spacingSum, spacingFactor, stepLength, driveEnds, stepVoltageEnds}
 use Rattle.step.proofs.HalfPowers.{power-bounds}
 
 -- a k / d of whole numbers
@@ -34,10 +35,6 @@ point-divisor d p = span-divisor {l = 1} (omega arith) (span-point d {l = 1} {h 
 per-metre-span : (a d high : ℕ) → 0 < d → a * 10 ^ 12 ≤ high * d → Span (perMetre a d) 0 high 1
 unfolding perMetre
 per-metre-span a d high p h = ratio-span a d (10 ^ 12) high p h
-
-pub π-span : Span πEnds 3141592653 3141592654 1
-unfolding πEnds
-π-span = span-natural _ _ (lit≤ tt) (lit≤ tt) (lit≤ tt) (lit≤ tt)
 
 module _ {c : Case} (b : Bounds c) where
   pub depth-span : Span (perMetre 1 (2 * c .depth)) 0 2000000000 1
@@ -72,17 +69,17 @@ lines-outgrow : (n : ℕ) → 2 ≤ n → 644 + 148 * n ≤ 470 * (n * (n - 1))
 lines-outgrow n h = omega (arith, mul-le-mul-right (n - 1) h)
 
 module _ {c : Case} (b : Bounds c) where
-  pub length-bounds : Between 150000 (effectiveLength c) 574000000
-  unfolding effectiveLength
+  pub length-bounds : Between 150000 (stepLength c) 574000000
+  unfolding stepLength
   length-bounds =
       let l = conductor-bounds b in
       record { low = omega (arith, l .low); high = omega (arith, l .high, rod-bound b) }
 
-  pub length-pos : 0 < 50 * effectiveLength c
+  pub length-pos : 0 < 50 * stepLength c
   length-pos = omega (arith, length-bounds .low)
 
-  length-from-lines : 75000 * (c .lines * (c .lines - 1)) ≤ effectiveLength c
-  unfolding effectiveLength conductorLength sideLength
+  length-from-lines : 75000 * (c .lines * (c .lines - 1)) ≤ stepLength c
+  unfolding stepLength conductorLength sideLength
   length-from-lines = omega (arith, mul-le-mul-left (c .lines * (c .lines - 1)) (b .space .low))
 
   drive-from-lines : driveOf c ≤ 5000 * (470 * (c .lines * (c .lines - 1))) * 135040000000
@@ -92,7 +89,7 @@ module _ {c : Case} (b : Bounds c) where
   pub drive-span : Span (driveEnds c) 0 90000000000 1
   unfolding driveEnds
   drive-span =
-      ratio-span (driveOf c) (50 * effectiveLength c) 1 90000000000 length-pos (omega (arith, length-from-lines, drive-from-lines))
+      ratio-span (driveOf c) (50 * stepLength c) 1 90000000000 length-pos (omega (arith, length-from-lines, drive-from-lines))
 
   -- ---- their product
 

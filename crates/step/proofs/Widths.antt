@@ -9,19 +9,19 @@ use Rattle.interval.specs.Operations.{natural}
 use Rattle.interval.proofs.Natural.{natural-product}
 use Rattle.interval.proofs.Rounding.{floorDiv-above, ceilDiv-below}
 use Rattle.exact.specs.Fraction.{Fraction, _≤f_, whole, decimal, _+f_, neg, _−f_, _·f_, _÷f_}
-use Rattle.exact.specs.Reported.{ten, over, reported}
+use Rattle.exact.specs.Reported.{ten, over, reported, AtMost}
 use Rattle.exact.proofs.Order.{trans≤}
 use Rattle.exact.proofs.Sums.{mono+}
 use Rattle.exact.proofs.Products.{mono·}
 use Rattle.case.specs.declared.Case.{Case}
 use Rattle.case.specs.Bounds.{Bounds}
-use Rattle.formulas.specs.Lengths.{ρ, IG, Ki}
+use Rattle.formulas.specs.Lengths.{ρ}
 use Rattle.formulas.specs.Step.{LS}
-use Rattle.formulas.specs.Width.{mV, AtMost, stepWidth}
+use Rattle.formulas.specs.Width.{mV, referenceKi, referenceCurrent, stepWidth}
 use Rattle.formulas.proofs.Positive.{decimal-nonneg}
 use Rattle.step.specs.Ends.{stepVoltageEnds}
 use Rattle.step.proofs.Spans.{drive-span, factor-span}
-use Rattle.step.proofs.Enclosed.{drive-point}
+use Rattle.step.proofs.Enclosed.{reference-point}
 
 -- the products of the ends, rounded to L and U: b is at most 1 above a, d at most 2 above c and within 10^7
 near : (a b c d L U : ℕ) → b ≤ a + 1 → d ≤ c + 2 → d ≤ 10000000 → a * c < L * 10000000 + 10000000 → U * 10000000 < b * d + 10000000
@@ -40,9 +40,9 @@ mV-nonneg n = omega arith
 
 module _ {c : Case} (b : Bounds c) where
   -- ρ·Ki·IG/LS is at least the lower end of the drive
-  drive-low : over (pos (drive-span b .a)) mV ≤f ρ c ·f Ki c ·f IG c ÷f LS c
+  drive-low : over (pos (drive-span b .a)) mV ≤f ρ c ·f referenceKi c ·f referenceCurrent c ÷f LS c
   unfolding reported natural
-  drive-low = (rw (drive-span b .is) at (drive-point b)) .low
+  drive-low = (rw (drive-span b .is) at (reference-point b)) .low
 
   -- 2/10^7 of the lower end of the drive, and 3 mV
   step-near : AtMost (decimal 2 7 ·f over (pos (drive-span b .a)) mV +f decimal 3 3) (reported mV (stepVoltageEnds c))
@@ -57,7 +57,7 @@ module _ {c : Case} (b : Bounds c) where
 
   -- any width from 2/10^7 of ρ·Ki·IG/LS and 3 mV on
   step-within : {share extra : Fraction} → decimal 2 7 ≤f share → decimal 3 3 ≤f extra
-      → AtMost (share ·f (ρ c ·f Ki c ·f IG c ÷f LS c) +f extra) (reported mV (stepVoltageEnds c))
+      → AtMost (share ·f (ρ c ·f referenceKi c ·f referenceCurrent c ÷f LS c) +f extra) (reported mV (stepVoltageEnds c))
   step-within h k =
       let n = trans≤ (decimal-nonneg 2 7) h in
       record { apart = trans≤ (step-near .apart) (mono+ (mono· (mV-nonneg (drive-span b .a)) n h drive-low) k) }

@@ -4,15 +4,12 @@ use Prim.Native.Nat.{ℕ, _+_, _-_, _*_, _^_}
 use lib.IntN.{pos}
 use lib.ListN.{getD}
 use Rattle.interval.specs.declared.Interval.{Interval}
-use Rattle.interval.specs.Operations.{natural, point, sumOf, productOf, quotientOf}
+use Rattle.interval.specs.Operations.{point, sumOf, productOf, quotientOf}
+use Rattle.enclosure.specs.Pi.{πEnds}
 use Rattle.case.specs.declared.Case.{Case}
 use Rattle.formulas.specs.Step.{halfPowers}
 use Rattle.current.specs.Drive.{driveOf}
 use Rattle.lengths.specs.Lengths.{conductorLength, rodLength}
-
--- π, in 10^−9
-unfoldable pub πEnds : Interval
-πEnds = natural 3141592653 3141592654
 
 -- a / d per millimetre, in 10^−9 per metre
 unfoldable pub perMetre : ℕ → ℕ → Interval
@@ -37,12 +34,12 @@ module _ (c : Case) where
   spacingFactor = quotientOf spacingSum πEnds (10 ^ 7)
 
   -- LS, in twentieths of a millimetre
-  unfoldable pub effectiveLength : ℕ
-  effectiveLength = 15 * conductorLength c + 17 * rodLength c
+  unfoldable pub stepLength : ℕ
+  stepLength = 15 * conductorLength c + 17 * rodLength c
 
   -- ρ·Ki·IG/LS, in mV
   unfoldable pub driveEnds : Interval
-  driveEnds = quotientOf (point (pos (driveOf c))) (point (pos (50 * effectiveLength))) 1
+  driveEnds = quotientOf (point (pos (driveOf c))) (point (pos (50 * stepLength))) 1
 
   -- step voltage, in mV
   unfoldable pub stepVoltageEnds : Interval

@@ -2,15 +2,13 @@
 ghost use mathlib.Core.Path.{_≡_};
 ghost use Prim.Native.Nat.{_<_, _^_};
 ghost use Rattle.case.specs.Bounds.{Bounds};
-ghost use Rattle.step.specs.Ends.{perMetre, halfPowerOf, spacingSum, spacingFactor, effectiveLength, driveEnds, stepVoltageEnds};
+ghost use Rattle.step.specs.Ends.{perMetre, halfPowerOf, spacingSum, spacingFactor, stepLength, driveEnds, stepVoltageEnds};
 use case::Case;
 use current::drive;
+use enclosure::pi;
 use interval::Interval;
 use lengths::conductor_length;
 use lengths::rod_length;
-
-// π in 10^-9, rounded down.
-const PI: u64 = 3141592653;
 
 // 2^(n−2) for n from 2 to 25, of which 0.5^(n−2) is the inverse.
 const HALF_POWERS: [u64; 24] = [
@@ -74,13 +72,13 @@ fn spacing_factor(c: Case) -> Interval
     requires { ⌜ Bounds c ⌝ }
     ensures { λ r. ⌜ r ≡ spacingFactor c ⌝ }
 {
-    spacing_sum(c).quotient(Interval::natural(PI, PI + 1), 10000000)
+    spacing_sum(c).quotient(pi(), 10000000)
 }
 
 // LS in twentieths of a millimetre.
-fn effective_length(c: Case) -> u64
+fn step_length(c: Case) -> u64
     requires { ⌜ Bounds c ⌝ }
-    ensures { λ r. ⌜ r ≡ effectiveLength c ⌝ }
+    ensures { λ r. ⌜ r ≡ stepLength c ⌝ }
 {
     15 * conductor_length(c) + 17 * rod_length(c)
 }
@@ -90,7 +88,7 @@ fn drive_per_length(c: Case) -> Interval
     requires { ⌜ Bounds c ⌝ }
     ensures { λ r. ⌜ r ≡ driveEnds c ⌝ }
 {
-    Interval::point(drive(c)).quotient(Interval::point(50 * effective_length(c)), 1)
+    Interval::point(drive(c)).quotient(Interval::point(50 * step_length(c)), 1)
 }
 
 // Step voltage in mV.

@@ -4,3 +4,5 @@ pub mod Digits
 pub mod Form
 pub mod Fields
 pub mod Lines
+pub mod FieldTurns
+pub mod LineTurns

@@ -2,9 +2,9 @@
 ghost use mathlib.Core.Path.{_≡_};
 ghost use Prim.Native.Nat.{_≤_};
 ghost use lib.ListN.{length};
-ghost use Rattle.text.specs.Text.{indexOf, same as sameText};
+ghost use Rattle.text.specs.Text.{indexOf, linesOf, same as sameText};
 ghost use Rattle.text.specs.Value.{fieldValue};
-ghost use Rattle.text.specs.Parts.{digitsValue};
+ghost use Rattle.text.specs.Parts.{digitsValue, Skipped};
 
 // What a field holds: a value, or bytes of a wrong form.
 pub enum Field {
@@ -24,6 +24,31 @@ pub fn find(s: &[u8], b: u8) -> usize
         i += 1;
     }
     i
+}
+
+// The index after the byte at e, or the end of n bytes.
+pub fn skip(e: usize, n: usize) -> usize
+    ensures { λ r. ⌜ Skipped e n r ⌝ }
+{
+    if e < n {
+        return e + 1;
+    }
+    n
+}
+
+// The number of lines.
+pub fn count_lines(s: &[u8]) -> usize
+    ensures { λ r. ⌜ r ≡ length (linesOf (now (s .entry))) ⌝ }
+{
+    let mut rest = s;
+    let mut n: usize = 0;
+    while 0 < rest.len() {
+        let e = find(rest, 10);
+        let next = skip(e, rest.len());
+        rest = &rest[next..];
+        n += 1;
+    }
+    n
 }
 
 // Whether two texts agree byte for byte.

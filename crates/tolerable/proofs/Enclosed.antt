@@ -21,7 +21,7 @@ use Rattle.exact.proofs.Sums.{mono+}
 use Rattle.exact.proofs.Products.{mul≤, mul-left≤, cong·}
 use Rattle.exact.proofs.Points.{Point}
 use Rattle.exact.proofs.Consistency.{consistent-exactly}
-use Rattle.enclosure.specs.Enclosure.{Encloses, workDepth}
+use Rattle.enclosure.specs.Enclosure.{Encloses}
 use Rattle.enclosure.specs.SquareRoot.{squareRoot, rootPair}
 use Rattle.enclosure.proofs.SquareRoot.{pair-ends}
 use Rattle.enclosure.proofs.Basics.{encloses-exactly, encloses-decimal}

@@ -1,43 +1,26 @@
 -- The layer effect: its ends are natural numbers, and Q lies between them.
 -- Assumes nothing.
-use Prim.Native.Nat.{ℕ, zero, suc, _+_, _*_, _-_, _/_, _≤_, _<_}
+use Prim.Native.Nat.{ℕ, _+_, _*_, _/_, _≤_, _<_}
 use mathlib.Core.Path.{_≡_, refl, sym, ap, _∙_}
 use mathlib.Core.Bool.{Bool, true, false, cond}
 use mathlib.Core.Logic.{_⊎_, inl, inr, ⊎-elim}
 use native.Mathlib.Omega.{arith}
-use native.Mathlib.Nat.{mul-le-mul-right, mul-le-mul-left, lt-of-mul-lt-mul-right}
+use native.Mathlib.Nat.{mul-le-mul-right, mul-le-mul-left}
 use lib.Dec.{eqb}
 use borrow.Author.Tests.{ne-eqb}
-use lib.IntN.{ℤ, pos, negsuc, _-ℤ_}
+use lib.IntN.{ℤ, pos, _-ℤ_}
 use Rattle.interval.specs.Signed.{plus, minus}
 use Rattle.interval.specs.Whole.{floorZ, ceilZ, ceilDiv}
 use Rattle.interval.specs.Operations.{natural, point, size, differenceOf, outwardOf}
 use Rattle.interval.specs.Span.{Span}
 use Rattle.interval.specs.declared.Interval.{Interval}
 use Rattle.interval.proofs.Signed.{difference-is, floor-below, floor-above}
-use Rattle.interval.proofs.Rounding.{floorDiv-below, floorDiv-above, ceilDiv-above, ceilDiv-below, ceilDiv-by, ceil-above, ceil-below}
+use Rattle.interval.proofs.Rounding.{ceilDiv-by, ceil-above, ceil-below, floor-is, ceil-is}
 use Rattle.interval.proofs.Sizes.{size-point, size-difference}
 use Rattle.interval.proofs.Span.{span-natural, span-point, span-wider, floor≤ceil, round-near}
 use Rattle.case.specs.declared.Case.{Case}
 use Rattle.case.specs.Bounds.{Bounds, Bare, Layered}
 use Rattle.tolerable.specs.Ends.{layered, layerEnds}
-
--- a signed number that lies where the quotient rounded down lies is that quotient
-floor-is : (z : ℤ) (n d : ℕ) → plus z * d ≤ n + minus z * d → n + minus z * d < plus z * d + d → z ≡ pos (n / d)
-floor-is (pos a) n d h k =
-    let p : a < suc (n / d) = lt-of-mul-lt-mul-right d (omega (arith, floorDiv-above n {d = d} (omega arith))) in
-    let q : n / d < suc a = lt-of-mul-lt-mul-right d (omega (arith, floorDiv-below n d)) in
-    let e : a ≡ n / d = omega arith in
-    ap pos e
-floor-is (negsuc a) n d h k = absurd (omega arith)
-
-ceil-is : (z : ℤ) (n d : ℕ) → 0 < d → n + minus z * d ≤ plus z * d → plus z * d < n + minus z * d + d → z ≡ pos (ceilDiv n d)
-ceil-is (pos a) n d p h k =
-    let l : a < suc (ceilDiv n d) = lt-of-mul-lt-mul-right d (omega (arith, ceilDiv-above n p)) in
-    let m : ceilDiv n d < suc a = lt-of-mul-lt-mul-right d (omega (arith, ceilDiv-below n p)) in
-    let e : a ≡ ceilDiv n d = omega arith in
-    ap pos e
-ceil-is (negsuc a) n d p h k = absurd (omega (arith, mul-le-mul-right d p))
 
 -- A − (B − C) / d, rounded outward, is (A d + C − B) / d rounded outward
 module _ (A B C d n : ℕ) (p : 0 < d) (e : n + B ≡ A * d + C) where
@@ -55,7 +38,7 @@ module _ (A B C d n : ℕ) (p : 0 < d) (e : n + B ≡ A * d + C) where
       (omega (arith, ap (λ (i : ℕ). i * d) s, t, ceil-below gap p, e))
 
   upper-is : pos A -ℤ floorZ gap d ≡ pos (ceilDiv n d)
-  unfolding gap floorZ
+  unfolding gap
   upper-is =
       let z = floorZ gap d in
       let s = difference-is (pos A) z in

@@ -15,11 +15,12 @@ use Rattle.tolerable.proofs.Layer.{layer-span}
 
 pub body-bounds : {c : Case} → Bounds c → Between 116 (bodyFactor c) 157
 unfolding bodyFactor
-body-bounds {c} b = go (eqb (c .body) 50)
+body-bounds {c} b =
+    either (eqb (c .body) 50) (record { low = lit≤ tt; high = lit≤ tt }) (record { low = lit≤ tt; high = lit≤ tt })
   where
-    go : (t : Bool) → Between 116 (cond t 116 157) 157
-    go true = record { low = lit≤ tt; high = lit≤ tt }
-    go false = record { low = lit≤ tt; high = lit≤ tt }
+    either : {k m : ℕ} (t : Bool) → Between 116 k 157 → Between 116 m 157 → Between 116 (cond t k m) 157
+    either true h l = h
+    either false h l = l
 
 pub top-span : {c : Case} → Bounds c → (weight : ℕ) → weight ≤ 12 → Span (topEnds c weight) 232000000 19154000000 1884
 unfolding topEnds

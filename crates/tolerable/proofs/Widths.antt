@@ -13,10 +13,10 @@ use Rattle.interval.specs.declared.Interval.{Interval}
 use Rattle.interval.proofs.Natural.{natural-quotient}
 use Rattle.interval.proofs.Rounding.{floorDiv-above, ceilDiv-below}
 use Rattle.exact.specs.Fraction.{_≤f_, decimal, _+f_, neg, _−f_, _·f_}
-use Rattle.exact.specs.Reported.{ten, over, reported}
+use Rattle.exact.specs.Reported.{ten, over, reported, AtMost}
 use Rattle.case.specs.declared.Case.{Case}
 use Rattle.case.specs.Bounds.{Bounds}
-use Rattle.formulas.specs.Width.{mV, AtMost, tolerableWidth}
+use Rattle.formulas.specs.Width.{mV, tolerableWidth}
 use Rattle.tolerable.specs.Ends.{tolerableEnds, touchEnds, stepEnds}
 use Rattle.tolerable.proofs.Spans.{top-span, time-span}
 

@@ -1,10 +1,10 @@
--- `case::check_case` meets its contract, by the laws of proofs/Verdict.antt.
+-- `case::check_case` meets its contract, by the laws of proofs/Findings.antt.
 -- Assumes nothing.
 use mathlib.Core.Path.{_∙_, ap}
 use borrow.Author.Needs.{needs}
 use Rattle.case.specs.Columns.{columns}
 use Rattle.case.specs.Check.{outOfRange}
-use Rattle.case.proofs.Verdict.{out-of-range, all-in-range}
+use Rattle.case.proofs.Findings.{out-of-range, all-in-range}
 use Rattle.case.proofs.check_case.Statement.{statement}
 use Rattle.case.proofs.check_case.Tie as tie
 

@@ -1,44 +1,28 @@
--- `resistance` answers the ends of a sound record.
+-- `resistance` answers the ends of the resistance of a sound record.
 -- Assumes nothing.
-use mathlib.Core.Path.{_≡_, sym, _∙_}
-use Rattle.case.specs.Check.{recordAnswer}
-use Rattle.case.proofs.Bounds.{record-bounds}
-use Rattle.hocsimbur.specs.Asked.{pairAnswer}
-use Rattle.hocsimbur.proofs.Refusal.{same-refusal}
 use Rattle.row.proofs.Right.{resistance-reports}
+use Rattle.hocsimbur.proofs.Answers.{sound-bounds, pair-told, pair-refused}
 use borrow.Author.Needs.{needs}
 use Rattle.hocsimbur.proofs.resistance.Statement.{statement}
 use Rattle.hocsimbur.proofs.resistance.Tie as tie
 
-check-requires : tie.Need-check-requires
-check-requires c κs = search needs
+judge-requires : tie.Need-judge-requires
+judge-requires c κs = search needs
 
 enum-told : tie.Need-enum-told
 enum-told c = search needs
 
 resistance-requires : tie.Need-resistance-requires
-resistance-requires c κs = record-bounds (sym (c .before .before .check .ensures) ∙ c .enum-told .given .1)
+resistance-requires c κs = sound-bounds _ (c .before .before .judge .ensures) (c .enum-told .given .1)
+
+enum-known-number : tie.Need-enum-known-number
+enum-known-number c = search needs
 
 returns : tie.Need-returns
-unfolding pairAnswer recordAnswer
-returns c =
-    record {
-      answer = rw (sym (c .before .before .before .check .ensures) ∙ c .before .enum-told .given .1, c .resistance .ensures);
-      right = λ e. resistance-reports (record-bounds e);
-    }
-
-refused-pair-requires : tie.Need-refused-pair-requires
-refused-pair-requires c κs = search needs
+returns c = pair-told _ (c .before .before .before .judge .ensures) resistance-reports (c .before .enum-told .given .1) (c .resistance .ensures)
 
 returns-2 : tie.Need-returns-2
-unfolding pairAnswer
-returns-2 c =
-    record {
-      answer = same-refusal _ _ _ (c .refused-pair .ensures) (c .before .before .check .ensures) (c .before .match .keys2);
-      right = λ e. resistance-reports (record-bounds e);
-    }
+returns-2 c = pair-refused _ (c .before .before .before .judge .ensures) (c .before .number .given .1)
 
 pub resistance-spec : {M : Type 1} → statement M
-resistance-spec =
-    tie.close
-    (tie.spec check-requires enum-told resistance-requires returns refused-pair-requires returns-2)
+resistance-spec = tie.close (tie.spec judge-requires enum-told resistance-requires enum-known-number returns returns-2)

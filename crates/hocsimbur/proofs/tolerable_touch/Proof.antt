@@ -1,50 +1,28 @@
--- `tolerable_touch` answers the ends of a sound record.
+-- `tolerable_touch` answers the ends of the tolerable touch voltage of a sound record.
 -- Assumes nothing.
-use mathlib.Core.Path.{_≡_, sym, _∙_}
-use Rattle.case.specs.Check.{recordAnswer}
-use Rattle.case.proofs.Bounds.{record-bounds}
-use Rattle.hocsimbur.specs.Asked.{pairAnswer}
-use Rattle.hocsimbur.proofs.Refusal.{same-refusal}
 use Rattle.row.proofs.Right.{touch-reports}
+use Rattle.hocsimbur.proofs.Answers.{sound-bounds, pair-told, pair-refused}
 use borrow.Author.Needs.{needs}
 use Rattle.hocsimbur.proofs.tolerable_touch.Statement.{statement}
 use Rattle.hocsimbur.proofs.tolerable_touch.Tie as tie
 
-check-requires : tie.Need-check-requires
-check-requires c κs = search needs
+judge-requires : tie.Need-judge-requires
+judge-requires c κs = search needs
 
 enum-told : tie.Need-enum-told
 enum-told c = search needs
 
 tolerable-touch-requires : tie.Need-tolerable-touch-requires
-tolerable-touch-requires c κs = record-bounds (sym (c .before .before .check .ensures) ∙ c .enum-told .given .1)
+tolerable-touch-requires c κs = sound-bounds _ (c .before .before .judge .ensures) (c .enum-told .given .1)
+
+enum-known-number : tie.Need-enum-known-number
+enum-known-number c = search needs
 
 returns : tie.Need-returns
-unfolding pairAnswer recordAnswer
-returns c =
-    record {
-      answer = rw (sym (c .before .before .before .check .ensures) ∙ c .before .enum-told .given .1, c .tolerable-touch .ensures);
-      right = λ e. touch-reports (record-bounds e);
-    }
-
-refused-pair-requires : tie.Need-refused-pair-requires
-refused-pair-requires c κs = search needs
+returns c = pair-told _ (c .before .before .before .judge .ensures) touch-reports (c .before .enum-told .given .1) (c .tolerable-touch .ensures)
 
 returns-2 : tie.Need-returns-2
-unfolding pairAnswer
-returns-2 c =
-    record {
-      answer = same-refusal _ _ _ (c .refused-pair .ensures) (c .before .before .check .ensures) (c .before .match .keys2);
-      right = λ e. touch-reports (record-bounds e);
-    }
+returns-2 c = pair-refused _ (c .before .before .before .judge .ensures) (c .before .number .given .1)
 
 pub tolerable-touch-spec : {M : Type 1} → statement M
-tolerable-touch-spec =
-    tie.close
-    (tie.spec
-    check-requires
-    enum-told
-    tolerable-touch-requires
-    returns
-    refused-pair-requires
-    returns-2)
+tolerable-touch-spec = tie.close (tie.spec judge-requires enum-told tolerable-touch-requires enum-known-number returns returns-2)

@@ -4,7 +4,7 @@ use mathlib.Core.Path.{refl}
 use lib.Dec.{lit<}
 use Rattle.interval.proofs.Fits.{fits-below}
 use Rattle.lengths.specs.Lengths.{rodLength}
-use Rattle.lengths.proofs.Lengths.{rod-bound}
+use Rattle.lengths.proofs.Lengths.{rodlen-high, rod-bound}
 use borrow.Author.Needs.{needs}
 use Rattle.lengths.proofs.rod_length.Statement.{statement}
 use Rattle.lengths.proofs.rod_length.Tie as tie
@@ -13,7 +13,7 @@ cast-result : tie.Need-cast-result
 cast-result c = search needs
 
 cast-result-2 : tie.Need-cast-result-2
-cast-result-2 c = search needs
+cast-result-2 c = fits-below (rodlen-high (c .before .before .pre)) (lit< tt)
 
 mul-result : tie.Need-mul-result
 unfolding rodLength

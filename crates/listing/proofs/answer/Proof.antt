@@ -1,20 +1,9 @@
--- `listing::answer` is safe: the part of the table that is lent lies within it.
+-- `listing::answer` lists the rows that `sheet` answered: an accepted sheet has them in the table.
 -- Assumes nothing.
-use mathlib.Core.Path.{sym}
-use native.Mathlib.Omega.{arith}
-use lib.Seq.{length-take-le}
+use Rattle.listing.proofs.Room.{rows-within}
 use borrow.Author.Needs.{needs}
 use Rattle.listing.proofs.answer.Statement.{statement}
 use Rattle.listing.proofs.answer.Tie as tie
-
-within-requires : tie.Need-within-requires
-within-requires c κs = search needs
-
-array-borrow-prefix-table : tie.Need-array-borrow-prefix-table
-array-borrow-prefix-table c = search needs
-
-slice-aggregate-sheet : tie.Need-slice-aggregate-sheet
-slice-aggregate-sheet c = sym (length-take-le _ _ (array-borrow-prefix-table (c .before)))
 
 sheet-requires : tie.Need-sheet-requires
 sheet-requires c κs = search needs
@@ -22,8 +11,10 @@ sheet-requires c κs = search needs
 enum-known-a : tie.Need-enum-known-a
 enum-known-a c = search needs
 
-rows-requires : tie.Need-rows-requires
-rows-requires c κs = search needs
+lines-requires : tie.Need-lines-requires
+lines-requires c κs =
+    let known = c .before .before in
+    rows-within (known .before .before .before .sheet .ensures) (known .a .given .1)
 
 enum-known-a-2 : tie.Need-enum-known-a-2
 enum-known-a-2 c = search needs
@@ -31,8 +22,14 @@ enum-known-a-2 c = search needs
 refused-requires : tie.Need-refused-requires
 refused-requires c κs = search needs
 
+same-length : tie.Need-same-length
+same-length c = search needs
+
 returns : tie.Need-returns
 returns c = search needs
+
+same-length-2 : tie.Need-same-length-2
+same-length-2 c = search needs
 
 returns-2 : tie.Need-returns-2
 returns-2 c = search needs
@@ -41,13 +38,12 @@ pub answer-spec : {M : Type 1} → statement M
 answer-spec =
     tie.close
     (tie.spec
-    within-requires
-    array-borrow-prefix-table
-    slice-aggregate-sheet
     sheet-requires
     enum-known-a
-    rows-requires
+    lines-requires
     enum-known-a-2
     refused-requires
+    same-length
     returns
+    same-length-2
     returns-2)

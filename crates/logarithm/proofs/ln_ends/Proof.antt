@@ -3,8 +3,8 @@
 use mathlib.Core.Path.{ap, _∙_}
 use native.Mathlib.Omega.{arith}
 use borrow.Author.Tests.{lt-ltb, le-ltb}
-use Rattle.interval.specs.Operations.{size}
-use Rattle.logarithm.specs.Ends.{minusOf, lnEnds}
+use Rattle.interval.specs.Operations.{minusOf}
+use Rattle.logarithm.specs.Ends.{downEnds, lnEnds}
 use Rattle.logarithm.proofs.LnEnds.{up-tight}
 use Rattle.logarithm.proofs.ln_ends.Statement.{statement}
 use Rattle.logarithm.proofs.ln_ends.Tie as tie
@@ -13,17 +13,16 @@ up-ends-requires : tie.Need-up-ends-requires
 up-ends-requires c κs = (c .before .pre .1, (c .before .pre .0, omega arith))
 
 minus-requires : tie.Need-minus-requires
-unfolding size
 minus-requires c κs =
     let s = c .before .before in
     let t = up-tight (s .pre .1) (s .pre .0) (omega arith) in
-    rw (c .up-ends .ensures) (omega (arith, t .small), omega (arith, t .small))
+    rw (c .up-ends .ensures) (omega (arith, t .small))
 
 up-ends-requires-2 : tie.Need-up-ends-requires-2
 up-ends-requires-2 c κs = (c .before .pre .0, (c .before .pre .1, c .if1 .left))
 
 returns : tie.Need-returns
-unfolding lnEnds
+unfolding lnEnds downEnds
 returns c = rw (lt-ltb _ _ (c .before .before .if1 .taken)) (c .minus .ensures ∙ ap minusOf (c .before .up-ends .ensures))
 
 returns-2 : tie.Need-returns-2

@@ -4,7 +4,8 @@ use mathlib.Core.Path.{_≡_, sym, ap, _∙_}
 use mathlib.Core.Bool.{true, false}
 use borrow.Author.Needs.{needs}
 use borrow.Author.Tests.{not-true, not-false}
-use Rattle.logarithm.specs.declared.Answer.the-variants.{Ends}
+use Rattle.interval.specs.declared.Pair.the-variants.{Ends}
+use Rattle.exact.specs.Answered.{RightPair}
 use Rattle.logarithm.specs.Asked.{inside, refused, answerOf}
 use Rattle.logarithm.proofs.RightEnds.{right-ends, inside-known}
 use Rattle.logarithm.proofs.logarithm.Statement.{statement}
@@ -27,24 +28,29 @@ is-inside-requires : tie.Need-is-inside-requires
 is-inside-requires c κs = search needs
 
 returns : tie.Need-returns
-unfolding answerOf refused
-returns c = record { answer = rw (upper-outside c); right = right-ends }
+unfolding answerOf refused RightPair
+returns c = record { answer = rw (upper-outside c); right = tt }
 
 is-inside-requires-2 : tie.Need-is-inside-requires-2
 is-inside-requires-2 c κs = search needs
 
 returns-2 : tie.Need-returns-2
-unfolding answerOf refused
-returns-2 c = record { answer = rw (upper-inside (c .before .before), lower-outside c); right = right-ends }
+unfolding answerOf refused RightPair
+returns-2 c = record { answer = rw (upper-inside (c .before .before), lower-outside c); right = tt }
 
 ln-ends-requires : tie.Need-ln-ends-requires
 ln-ends-requires c κs = (inside-known _ (upper-inside (c .before .before)), inside-known _ (lower-inside c))
 
 returns-3 : tie.Need-returns-3
-unfolding answerOf
+unfolding answerOf RightPair
 returns-3 c =
     let e = c .before in
-    record { answer = rw (upper-inside (e .before .before), lower-inside e) (ap Ends (c .ln-ends .ensures)); right = right-ends }
+    let p = upper-inside (e .before .before) in
+    let q = lower-inside e in
+    record {
+      answer = rw (p, q) (ap Ends (c .ln-ends .ensures));
+      right = rw (c .ln-ends .ensures) (right-ends (inside-known _ p) (inside-known _ q));
+    }
 
 pub logarithm-spec : {M : Type 1} → statement M
 logarithm-spec =

@@ -65,8 +65,8 @@ end-requires-2 c κs =
 fits : {n : ℕ} → n < endBound → n < 2 ^ 63
 fits h = omega arith
 
-pair-requires : tie.Need-pair-requires
-pair-requires c κs =
+natural-requires : tie.Need-natural-requires
+natural-requires c κs =
     let b = end-bounds (c .before .before) in
     rw (c .before .end .ensures, c .end2 .ensures)
     (fits (end-size (omega arith) (b .0) (omega arith)), fits (end-size (omega arith) (b .0) (omega arith)))
@@ -75,7 +75,7 @@ returns : tie.Need-returns
 unfolding upEnds natural
 returns c =
     let e = c .before .before in
-    rw (c .pair .ensures, e .end .ensures, c .before .end2 .ensures, times-is (e .before .before .before .before), argument-is (e .before))
+    rw (c .natural .ensures, e .end .ensures, c .before .end2 .ensures, times-is (e .before .before .before .before), argument-is (e .before))
 
 pub up-ends-spec : {M : Type 1} → statement M
 up-ends-spec =
@@ -88,5 +88,5 @@ up-ends-spec =
     end-requires
     add-end
     end-requires-2
-    pair-requires
+    natural-requires
     returns)

@@ -7,7 +7,7 @@ use Rattle.interval.proofs.Span.{span-divisor}
 use Rattle.current.specs.Drive.{driveOf}
 use Rattle.current.proofs.DrivingProduct.{drive-bound}
 use Rattle.mesh.specs.Ends.{drivenEnds}
-use Rattle.mesh.proofs.LengthSpans.{effective-span, effective-low}
+use Rattle.mesh.proofs.LengthSpans.{mesh-length-span, mesh-length-low}
 use borrow.Author.Needs.{needs}
 use Rattle.mesh.proofs.driven.Statement.{statement}
 use Rattle.mesh.proofs.driven.Tie as tie
@@ -18,14 +18,14 @@ drive-requires c κs = search needs
 point-requires : tie.Need-point-requires
 point-requires c κs = rw (c .drive .ensures) (omega (arith, drive-bound (c .before .pre)))
 
-effective-length-requires : tie.Need-effective-length-requires
-effective-length-requires c κs = search needs
+mesh-length-requires : tie.Need-mesh-length-requires
+mesh-length-requires c κs = search needs
 
 quotient-requires : tie.Need-quotient-requires
 quotient-requires c κs =
     let s = c .before .before .before in
-    rw (c .effective-length .ensures, c .before .point .ensures, c .before .before .drive .ensures, size-point (driveOf (s .args .c)))
-    (span-divisor (omega (arith, effective-low (s .pre))) (effective-span (s .pre)), (lit< tt, omega (arith, drive-bound (s .pre))))
+    rw (c .mesh-length .ensures, c .before .point .ensures, c .before .before .drive .ensures, size-point (driveOf (s .args .c)))
+    (span-divisor (omega (arith, mesh-length-low (s .pre))) (mesh-length-span (s .pre)), (lit< tt, omega (arith, drive-bound (s .pre))))
 
 returns : tie.Need-returns
 unfolding drivenEnds
@@ -34,4 +34,4 @@ returns c = cc
 pub driven-spec : {M : Type 1} → statement M
 driven-spec =
     tie.close
-    (tie.spec drive-requires point-requires effective-length-requires quotient-requires returns)
+    (tie.spec drive-requires point-requires mesh-length-requires quotient-requires returns)

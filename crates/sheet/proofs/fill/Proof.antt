@@ -1,10 +1,10 @@
 -- `fill` reads the names again, then writes the rows.
 -- Assumes nothing.
 use mathlib.Core.Path.{sym}
-use Rattle.sheet.proofs.Accepted.{accepted-fault, accepted-columns, accepted-lines}
+use Rattle.judgement.proofs.Accepted.{accepted-columns}
 use Rattle.sheet.proofs.Answers.{cases-are}
-use Rattle.sheet.proofs.FieldTurns.{part-length}
-use Rattle.sheet.proofs.Whole.{values-are}
+use Rattle.text.proofs.FieldTurns.{part-length}
+use Rattle.judgement.proofs.Whole.{values-are}
 use borrow.Author.Needs.{needs}
 use Rattle.sheet.proofs.fill.Statement.{statement}
 use Rattle.sheet.proofs.fill.Tie as tie
@@ -35,10 +35,11 @@ write-rows-requires c κs =
     let k = c .before .before in
     let h = k .before .before in
     let f = h .before .before in
-    let a = f .before .before .pre in
+    let p = f .before .before .pre in
+    let a = p .sheet in
     let q = accepted-columns _ a (f .find .ensures) (h .read-header .ensures) in
     let v = values-are _ _ _ (a .text) (f .find .ensures) (k .skip .ensures) in
-    (rw q (a .placed), (rw (q, ← v) (accepted-lines a), rw (← v, ← a .count) (a .fits)))
+    (rw q (a .placed), (rw (q, ← v) (a .lines), rw (← v) (p .fits)))
 
 same-length : tie.Need-same-length
 same-length c = search needs
@@ -49,7 +50,7 @@ returns c =
     let h = k .before .before in
     let f = h .before .before in
     let s = f .before .before in
-    rw (← cases-are (s .args .s .now), ← accepted-columns _ (s .pre) (f .find .ensures) (h .read-header .ensures), values-are _ _ _ (s .pre .text) (f .find .ensures) (k .skip .ensures)) (c .before .write-rows .ensures)
+    rw (← cases-are (s .args .s .now), ← accepted-columns _ (s .pre .sheet) (f .find .ensures) (h .read-header .ensures), values-are _ _ _ (s .pre .sheet .text) (f .find .ensures) (k .skip .ensures)) (c .before .write-rows .ensures)
 
 pub fill-spec : {M : Type 1} → statement M
 fill-spec =

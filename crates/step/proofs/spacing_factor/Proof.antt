@@ -3,8 +3,9 @@
 use native.Mathlib.Omega.{arith}
 use lib.Dec.{lit≤, lit<}
 use Rattle.interval.proofs.Span.{span-size, span-divisor}
-use Rattle.step.specs.Ends.{πEnds, spacingFactor}
-use Rattle.step.proofs.Spans.{sum-span, π-span}
+use Rattle.enclosure.proofs.Constants.{π-span}
+use Rattle.step.specs.Ends.{spacingFactor}
+use Rattle.step.proofs.Spans.{sum-span}
 use borrow.Author.Needs.{needs}
 use Rattle.step.proofs.spacing_factor.Statement.{statement}
 use Rattle.step.proofs.spacing_factor.Tie as tie
@@ -12,22 +13,18 @@ use Rattle.step.proofs.spacing_factor.Tie as tie
 spacing-sum-requires : tie.Need-spacing-sum-requires
 spacing-sum-requires c κs = search needs
 
-add-natural : tie.Need-add-natural
-add-natural c = search needs
-
-natural-requires : tie.Need-natural-requires
-natural-requires c κs = search needs
+pi-requires : tie.Need-pi-requires
+pi-requires c κs = search needs
 
 quotient-requires : tie.Need-quotient-requires
-unfolding πEnds
 quotient-requires c κs =
-    rw (c .natural .ensures, c .before .spacing-sum .ensures)
+    rw (c .pi .ensures, c .before .spacing-sum .ensures)
     (span-divisor (lit≤ tt) π-span, (lit< tt, omega (arith, span-size (sum-span (c .before .before .pre)))))
 
 returns : tie.Need-returns
-unfolding πEnds spacingFactor
+unfolding spacingFactor
 returns c = cc
 
 pub spacing-factor-spec : {M : Type 1} → statement M
 spacing-factor-spec =
-    tie.close (tie.spec spacing-sum-requires add-natural natural-requires quotient-requires returns)
+    tie.close (tie.spec spacing-sum-requires pi-requires quotient-requires returns)

@@ -1,17 +1,11 @@
--- `decrement_factor` takes the row by the ranges of the duration.
+-- `decrement_factor` takes the line of the table by the ranges of the duration.
 -- Assumes nothing.
 use native.Mathlib.Omega.{arith}
 use borrow.Author.Needs.{needs}
 use borrow.Author.Tests.{le-leb, lt-leb}
-use Rattle.formulas.specs.Decrement.{rows, rowAt, factor}
+use Rattle.formulas.specs.Decrement.{table10, factorsAt, factor, Df}
 use Rattle.current.proofs.decrement.decrement_factor.Statement.{statement}
 use Rattle.current.proofs.decrement.decrement_factor.Tie as tie
-
-returns : tie.Need-returns
-unfolding factor rowAt rows
-returns c =
-    let x = c .before .args .ms in
-    simp (lt-leb 500 x (omega arith), lt-leb 9 x (omega arith))
 
 entry-requires : tie.Need-entry-requires
 entry-requires c κs = search needs
@@ -31,50 +25,50 @@ entry-requires-5 c κs = search needs
 entry-requires-6 : tie.Need-entry-requires-6
 entry-requires-6 c κs = search needs
 
-returns-2 : tie.Need-returns-2
-unfolding factor rowAt rows
-returns-2 c =
-    let x = c .before .before .before .args .ms in
+returns : tie.Need-returns
+unfolding Df factor factorsAt table10
+returns c =
+    let x = c .before .before .args .c .ms in
     simp (lt-leb 500 x (omega arith), le-leb 9 x (omega arith), lt-leb 50 x (omega arith)) (c .entry .ensures)
 
-returns-3 : tie.Need-returns-3
-unfolding factor rowAt rows
-returns-3 c =
-    let x = c .before .before .before .before .args .ms in
+returns-2 : tie.Need-returns-2
+unfolding Df factor factorsAt table10
+returns-2 c =
+    let x = c .before .before .before .args .c .ms in
     simp (lt-leb 500 x (omega arith), le-leb 9 x (omega arith), le-leb 50 x (omega arith), lt-leb 100 x (omega arith)) (c .entry2 .ensures)
 
-returns-4 : tie.Need-returns-4
-unfolding factor rowAt rows
-returns-4 c =
-    let x = c .before .before .before .before .before .args .ms in
+returns-3 : tie.Need-returns-3
+unfolding Df factor factorsAt table10
+returns-3 c =
+    let x = c .before .before .before .before .args .c .ms in
     simp (lt-leb 500 x (omega arith), le-leb 9 x (omega arith), le-leb 50 x (omega arith), le-leb 100 x (omega arith), lt-leb 200 x (omega arith)) (c .entry3 .ensures)
 
-returns-5 : tie.Need-returns-5
-unfolding factor rowAt rows
-returns-5 c =
-    let x = c .before .before .before .before .before .before .args .ms in
+returns-4 : tie.Need-returns-4
+unfolding Df factor factorsAt table10
+returns-4 c =
+    let x = c .before .before .before .before .before .args .c .ms in
     simp (lt-leb 500 x (omega arith), le-leb 9 x (omega arith), le-leb 50 x (omega arith), le-leb 100 x (omega arith), le-leb 200 x (omega arith), lt-leb 300 x (omega arith)) (c .entry4 .ensures)
 
-returns-6 : tie.Need-returns-6
-unfolding factor rowAt rows
-returns-6 c =
-    let x = c .before .before .before .before .before .before .before .args .ms in
+returns-5 : tie.Need-returns-5
+unfolding Df factor factorsAt table10
+returns-5 c =
+    let x = c .before .before .before .before .before .before .args .c .ms in
     simp (lt-leb 500 x (omega arith), le-leb 9 x (omega arith), le-leb 50 x (omega arith), le-leb 100 x (omega arith), le-leb 200 x (omega arith), le-leb 300 x (omega arith), lt-leb 400 x (omega arith)) (c .entry5 .ensures)
 
-returns-7 : tie.Need-returns-7
-unfolding factor rowAt rows
-returns-7 c =
-    let x = c .before .before .before .before .before .before .before .before .args .ms in
+returns-6 : tie.Need-returns-6
+unfolding Df factor factorsAt table10
+returns-6 c =
+    let x = c .before .before .before .before .before .before .before .args .c .ms in
     simp (lt-leb 500 x (omega arith), le-leb 9 x (omega arith), le-leb 50 x (omega arith), le-leb 100 x (omega arith), le-leb 200 x (omega arith), le-leb 300 x (omega arith), le-leb 400 x (omega arith)) (c .entry6 .ensures)
 
-returns-8 : tie.Need-returns-8
-unfolding factor
-returns-8 c =
-    let x = c .before .before .before .before .before .before .before .args .ms in
+returns-7 : tie.Need-returns-7
+unfolding Df factor
+returns-7 c =
+    let x = c .before .before .before .before .before .before .args .c .ms in
     simp (le-leb 500 x (omega arith))
 
 pub decrement-factor-spec : {M : Type 1} → statement M
 decrement-factor-spec =
     tie.close
     (tie.spec entry-requires entry-requires-2 entry-requires-3 entry-requires-4 entry-requires-5 entry-requires-6
-    returns returns-2 returns-3 returns-4 returns-5 returns-6 returns-7 returns-8)
+    returns returns-2 returns-3 returns-4 returns-5 returns-6 returns-7)

@@ -27,14 +27,8 @@ returns-3 c =
 returns-4 : tie.Need-returns-4
 unfolding ratios columnAt
 returns-4 c =
-    let x = c .before .before .before .before .args .xr in
+    let x = c .before .before .before .args .xr in
     simp (lt-leb x 10 (omega arith), lt-leb x 20 (omega arith), lt-leb x 30 (omega arith), le-leb x 40 (omega arith))
 
-returns-5 : tie.Need-returns-5
-unfolding ratios columnAt
-returns-5 c =
-    let x = c .before .before .before .before .args .xr in
-    simp (lt-leb x 10 (omega arith), lt-leb x 20 (omega arith), lt-leb x 30 (omega arith), lt-leb x 40 (omega arith))
-
 pub entry-spec : {M : Type 1} → statement M
-entry-spec = tie.close (tie.spec returns returns-2 returns-3 returns-4 returns-5)
+entry-spec = tie.close (tie.spec returns returns-2 returns-3 returns-4)

@@ -1,12 +1,10 @@
 -- `grid_current` is the product of fault, split and Df.
 -- Assumes nothing.
-use Prim.Native.Nat.{ℕ, _≤_}
-use mathlib.Core.Path.{_≡_, ap}
+use mathlib.Core.Path.{_≡_}
 use borrow.Author.Needs.{needs}
 use lib.Dec.{lit<}
-use Rattle.case.specs.Bounds.{Bounds}
 use Rattle.formulas.specs.Decrement.{Df}
-use Rattle.formulas.specs.Lengths.{gridCurrent}
+use Rattle.formulas.specs.Current.{gridCurrent}
 use Rattle.formulas.proofs.Decrement.{factor-bounds}
 use Rattle.interval.proofs.Fits.{fits-product, fits-triple}
 use Rattle.current.proofs.decrement.grid_current.Statement.{statement}
@@ -23,7 +21,6 @@ cast-result-2 c = search needs
 
 -- the factor of the case
 factor-is : (c : tie.After-decrement-factor) → c .decrement-factor .result ≡ Df (c .before .args .c)
-unfolding Df
 factor-is c = c .decrement-factor .ensures
 
 mul-result : tie.Need-mul-result

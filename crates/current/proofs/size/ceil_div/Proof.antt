@@ -2,7 +2,7 @@
 -- Assumes nothing.
 use mathlib.Core.Path.{refl}
 use borrow.Author.Needs.{needs}
-use Rattle.current.specs.Size.{ceilDiv}
+use Rattle.interval.specs.Whole.{ceilDiv}
 use Rattle.current.proofs.size.ceil_div.Statement.{statement}
 use Rattle.current.proofs.size.ceil_div.Tie as tie
 

@@ -1,54 +1,53 @@
--- `load` is the product of fault, Df and Kf.
+-- `load` is the product of I and Kf. Every metal of a case has its Kf.
 -- Assumes nothing.
 use mathlib.Core.Path.{_≡_}
 use borrow.Author.Needs.{needs}
 use lib.Dec.{lit<}
-use Rattle.case.specs.Bounds.{Bounds}
-use Rattle.formulas.specs.Decrement.{Df}
-use Rattle.formulas.specs.Size.{duty}
+use Rattle.formulas.specs.Size.{duty, Kf}
 use Rattle.formulas.proofs.Decrement.{factor-bounds}
 use Rattle.formulas.proofs.Size.{kf-bounds}
-use Rattle.interval.proofs.Fits.{fits-product, fits-triple}
+use Rattle.interval.proofs.Fits.{fits-triple}
+use Rattle.current.proofs.Metals.{kf-found, kf-missing}
 use Rattle.current.proofs.size.load.Statement.{statement}
 use Rattle.current.proofs.size.load.Tie as tie
 
-decrement-factor-requires : tie.Need-decrement-factor-requires
-decrement-factor-requires c κs = search needs
+fault-current-requires : tie.Need-fault-current-requires
+fault-current-requires c κs = search needs
 
 kf-requires : tie.Need-kf-requires
 kf-requires c κs = search needs
 
+enum-known-constant : tie.Need-enum-known-constant
+enum-known-constant c = search needs
+
+enum-told : tie.Need-enum-told
+enum-told c = search needs
+
+returns : tie.Need-returns
+returns c =
+    let k = c .before .before in
+    absurd (kf-missing (k .before .before .pre .metal) (k .kf .ensures) (c .enum-told .given .1))
+
 cast-result : tie.Need-cast-result
 cast-result c = search needs
 
-cast-result-2 : tie.Need-cast-result-2
-cast-result-2 c = search needs
-
--- the factor of the case
-factor-is : (c : tie.After-decrement-factor) → c .decrement-factor .result ≡ Df (c .before .args .c)
-unfolding Df
-factor-is c = c .decrement-factor .ensures
+-- the number found is Kf of the case's metal
+kf-is : (c : tie.After-known-told) → c .before .constant .given .0 .0 ≡ Kf (c .before .before .before .before .before .args .c .metal)
+kf-is c =
+    let k = c .before .before .before in
+    kf-found (k .before .before .pre .metal) (k .kf .ensures) (c .before .constant .given .1)
 
 mul-result : tie.Need-mul-result
 mul-result c =
-    let f = c .before .before in
+    let f = c .before .before .before .before in
     let b = f .before .pre in
-    rw (factor-is f) (fits-product (b .fault .high) (factor-bounds b .high) (lit< tt))
-
-cast-result-3 : tie.Need-cast-result-3
-cast-result-3 c = search needs
-
-mul-result-2 : tie.Need-mul-result-2
-mul-result-2 c =
-    let f = c .before .before in
-    let b = f .before .pre in
-    rw (factor-is f, c .before .kf .ensures)
+    rw (f .fault-current .ensures, kf-is c)
     (fits-triple (b .fault .high) (factor-bounds b .high) (kf-bounds (b .metal) .high) (lit< tt))
 
-returns : tie.Need-returns
+returns-2 : tie.Need-returns-2
 unfolding duty
-returns c = rw (factor-is (c .before .before), c .before .kf .ensures)
+returns-2 c = rw (c .before .before .before .before .fault-current .ensures, kf-is c)
 
 pub load-spec : {M : Type 1} → statement M
 load-spec =
-    tie.close (tie.spec decrement-factor-requires kf-requires cast-result cast-result-2 mul-result cast-result-3 mul-result-2 returns)
+    tie.close (tie.spec fault-current-requires kf-requires enum-known-constant enum-told returns cast-result mul-result returns-2)

@@ -21,7 +21,6 @@ floored : (c : tie.After-floor-div) → c .floor-div .result ≡ floorZ (negℤ 
 floored c = rw (negated-is (c .before .fits .a) (c .before .pre .1)) at (c .floor-div .ensures)
 
 small : (c : tie.After-floor-div) → natAbs (c .floor-div .result) < 2 ^ 63
-unfolding floorZ
 small c =
     let a = c .before .args .a in
     rw (floored c) (omega (arith, size-floor (negℤ a) (c .before .args .d), size-neg a))

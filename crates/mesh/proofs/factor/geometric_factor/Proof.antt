@@ -3,18 +3,19 @@
 use native.Mathlib.Omega.{arith}
 use lib.Dec.{lit≤, lit<}
 use Rattle.interval.proofs.Span.{span-size, span-divisor}
+use Rattle.enclosure.proofs.Constants.{π-span}
 use Rattle.mesh.specs.Factor.{geometricFactor}
 use Rattle.mesh.proofs.Logarithms.{argument-span}
-use Rattle.mesh.proofs.FactorSpans.{π-span, turn-span, term-size, total-span}
+use Rattle.mesh.proofs.FactorSpans.{turn-span, term-size, total-span}
 use borrow.Author.Needs.{needs}
 use Rattle.mesh.proofs.factor.geometric_factor.Statement.{statement}
 use Rattle.mesh.proofs.factor.geometric_factor.Tie as tie
 
-natural-requires : tie.Need-natural-requires
-natural-requires c κs = search needs
+pi-requires : tie.Need-pi-requires
+pi-requires c κs = search needs
 
 scaled-requires : tie.Need-scaled-requires
-scaled-requires c κs = rw (c .natural .ensures) (lit< tt, omega (arith, span-size π-span))
+scaled-requires c κs = rw (c .pi .ensures) (lit< tt, omega (arith, span-size π-span))
 
 argument-log-requires : tie.Need-argument-log-requires
 argument-log-requires c κs = search needs
@@ -31,7 +32,7 @@ quotient-requires : tie.Need-quotient-requires
 quotient-requires c κs =
     let l = c .before .before in
     let s = l .before .before .before in
-    rw (c .sum .ensures, c .before .inner-term .ensures, l .argument-log .ensures, l .before .scaled .ensures, l .before .before .natural .ensures)
+    rw (c .sum .ensures, c .before .inner-term .ensures, l .argument-log .ensures, l .before .scaled .ensures, l .before .before .pi .ensures)
     (span-divisor (lit≤ tt) turn-span, (lit< tt, omega (arith, span-size (total-span (s .pre)))))
 
 returns : tie.Need-returns
@@ -42,7 +43,7 @@ pub geometric-factor-spec : {M : Type 1} → statement M
 geometric-factor-spec =
     tie.close
     (tie.spec
-    natural-requires
+    pi-requires
     scaled-requires
     argument-log-requires
     inner-term-requires

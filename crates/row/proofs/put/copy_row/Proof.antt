@@ -14,24 +14,25 @@ use mathlib.Core.Path.{_≡_, refl, sym, _∙_}
 use native.Mathlib.Omega.{arith}
 use lib.ListN.{length, take, set}
 use borrow.Author.Needs.{needs}
+use Rattle.row.specs.Row.{rowLength}
 use Rattle.row.proofs.put.copy_row.Statement.{statement}
 use Rattle.row.proofs.put.copy_row.Tie as tie
 
 -- after the last number
-copied : (row a : List ℤ) (i : ℕ) → length a ≡ 17 → (i ≤ 17) × ((length row ≡ 17) × (take i row ≡ take i a)) → 17 ≤ i → row ≡ a
+copied : (row a : List ℤ) (i : ℕ) → length a ≡ rowLength → (i ≤ rowLength) × ((length row ≡ rowLength) × (take i row ≡ take i a)) → rowLength ≤ i → row ≡ a
 copied row a i n h l =
     sym (take-all i row (omega (arith, h .1 .0))) ∙ h .1 .1 ∙ take-all i a (omega arith)
 
 -- one number more
-next : (row a : List ℤ) (i : ℕ) → i < 17 → length row ≡ 17 → length a ≡ 17 → take i row ≡ take i a
+next : (row a : List ℤ) (i : ℕ) → i < rowLength → length row ≡ rowLength → length a ≡ rowLength → take i row ≡ take i a
     → take (i + 1) (set row i (getD a i (pos 0))) ≡ take (i + 1) a
 next row a i l n m e = rw (add-one, take-suc-set row i (getD a i (pos 0)) (omega arith), take-suc a i (pos 0) (omega arith), e)
 
 abbrev Inv-loop : tie.InvT-loop
-Inv-loop row₀ a i₀ row i = (i ≤ 17) × ((length row ≡ 17) × (take i row ≡ take i a))
+Inv-loop row₀ a i₀ row i = (i ≤ rowLength) × ((length row ≡ rowLength) × (take i row ≡ take i a))
 
 abbrev μ-loop : tie.MeasureT-loop
-μ-loop row₀ a i₀ row i = 17 - i
+μ-loop row₀ a i₀ row i = rowLength - i
 
 loop-holds : tie.Need-loop-holds Inv-loop μ-loop
 loop-holds c = (omega arith, (c .pre, refl))

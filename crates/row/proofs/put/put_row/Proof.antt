@@ -10,7 +10,6 @@ row-numbers-requires : tie.Need-row-numbers-requires
 row-numbers-requires c κs = search needs
 
 copy-row-requires : tie.Need-copy-row-requires
-unfolding rowLength
 copy-row-requires c κs = c .before .before .pre
 
 same-length : tie.Need-same-length

@@ -5,13 +5,10 @@ use native.Mathlib.Omega.{arith}
 use mir.Syntax.{w64}
 use mir.Val.{SFits}
 use mir.Facts.{toZ-ofZ, toZ-pos}
-use Rattle.row.specs.Ends.{rowOf}
+use Rattle.row.specs.Ends.{caseVerdict, rowOf}
 use borrow.Author.Needs.{needs}
 use Rattle.row.proofs.work.work_row.Statement.{statement}
 use Rattle.row.proofs.work.work_row.Tie as tie
-
-verdict-held : (c : tie.After-verdict-number) → SFits w64 (c .verdict-number .result)
-verdict-held c = search needs
 
 size-held : (c : tie.After-size-number) → SFits w64 (c .size-number .result)
 size-held c = search needs
@@ -40,9 +37,6 @@ cast-t7 c = search needs
 verdict-of-requires : tie.Need-verdict-of-requires
 verdict-of-requires c κs = search needs
 
-verdict-number-requires : tie.Need-verdict-number-requires
-verdict-number-requires c κs = search needs
-
 size-number-requires : tie.Need-size-number-requires
 size-number-requires c κs = search needs
 
@@ -56,22 +50,20 @@ potential-rise-requires : tie.Need-potential-rise-requires
 potential-rise-requires c κs = search needs
 
 returns : tie.Need-returns
-unfolding rowOf
+unfolding rowOf caseVerdict
 returns c =
     let p = c .before in
     let q = p .before in
     let z = q .before in
-    let n = z .before in
-    let o = n .before in
+    let o = z .before in
     let m = o .before .before .before in
     let k = m .before in
     let h = k .before in
     let g = h .before in
     let s = g .before in
-    let v = verdict-held n in
     let f = size-held z in
     let i = current-held q in
-    rw (toZ-pos w64 {n = s .args .c .station} (omega arith), toZ-pos w64 {n = s .args .c .season} (omega arith), toZ-ofZ v, toZ-ofZ f, toZ-ofZ i, c .potential-rise .ensures, p .resistance .ensures, q .current-number .ensures, z .size-number .ensures, n .verdict-number .ensures, o .verdict-of .ensures, m .step-voltage .ensures, k .mesh-voltage .ensures, h .tolerable-step .ensures, g .tolerable-touch .ensures)
+    rw (toZ-pos w64 {n = s .args .c .station} (omega arith), toZ-pos w64 {n = s .args .c .season} (omega arith), toZ-ofZ f, toZ-ofZ i, c .potential-rise .ensures, p .resistance .ensures, q .current-number .ensures, z .size-number .ensures, o .verdict-of .ensures, m .step-voltage .ensures, k .mesh-voltage .ensures, h .tolerable-step .ensures, g .tolerable-touch .ensures)
 
 pub work-row-spec : {M : Type 1} → statement M
 work-row-spec =
@@ -84,7 +76,6 @@ work-row-spec =
     cast-t6
     cast-t7
     verdict-of-requires
-    verdict-number-requires
     size-number-requires
     current-number-requires
     resistance-requires

@@ -12,37 +12,30 @@ work-row-requires : tie.Need-work-row-requires
 work-row-requires c κs = search needs
 
 mul-a : tie.Need-mul-a
-unfolding rowLength
 mul-a c = search needs
 
 add-b : tie.Need-add-b
-unfolding rowLength
 add-b c = search needs
 
 mul-put-row : tie.Need-mul-put-row
-unfolding rowLength
 mul-put-row c = search needs
 
 sub-put-row : tie.Need-sub-put-row
-unfolding rowLength
 sub-put-row c = search needs
 
 part-put-row-start : tie.Need-part-put-row-start
 part-put-row-start c = search needs
 
 part-put-row-end : tie.Need-part-put-row-end
-unfolding rowLength
 part-put-row-end c = search needs
 
 put-row-requires : tie.Need-put-row-requires
-unfolding rowLength
 put-row-requires c κs = search needs
 
 same-length : tie.Need-same-length
 same-length c = search needs
 
 returns : tie.Need-returns
-unfolding rowLength
 returns c =
     let p = c .before in
     let w = p .before .before in

@@ -3,13 +3,11 @@
 use mathlib.Core.Path.{refl}
 use native.Mathlib.Omega.{arith}
 use lib.ListN.{length}
-use Rattle.case.proofs.Bounds.{bounds}
 use Rattle.case.specs.Bounds.{Bounds}
-use Rattle.row.specs.Row.{rowLength}
-use Rattle.row.specs.Ends.{rowOf}
 use Rattle.row.proofs.Right.{right-row}
-use Rattle.sheet.proofs.FieldTurns.{part-length}
-use Rattle.sheet.proofs.LineTurns.{line-shorter}
+use Rattle.text.proofs.FieldTurns.{part-length}
+use Rattle.text.proofs.LineTurns.{line-shorter}
+use Rattle.sheet.proofs.Accepted.{sound-bounds}
 use Rattle.sheet.proofs.Writing.{Writing, writing-start, writing-within, writing-sound, writing-step, writing-end}
 use borrow.Author.Needs.{needs}
 use Rattle.sheet.proofs.rows.write_rows.Statement.{statement}
@@ -22,12 +20,12 @@ abbrev μ-loop : tie.MeasureT-loop
 μ-loop s at table₀ rest₀ n₀ table rest n = length rest
 
 -- the case of a line is within its bounds
-sound-bounds : (c : tie.After-case-line Inv-loop μ-loop) → Bounds (c .case-line .result)
-sound-bounds c =
+line-bounds : (c : tie.After-case-line Inv-loop μ-loop) → Bounds (c .case-line .result)
+line-bounds c =
     let f = c .before .before in
     let l = f .before .before in
     let a = l .before .before in
-    rw (c .case-line .ensures) (bounds (a .pre .0) (writing-sound _ (l .loop .inv) (f .before .loop-test .taken) (f .find .ensures) (a .pre .1 .0 .line) .sound))
+    rw (c .case-line .ensures) (sound-bounds (a .pre .0) (writing-sound _ (l .loop .inv) (f .before .loop-test .taken) (f .find .ensures) (a .pre .1 .0 .line)))
 
 loop-holds : tie.Need-loop-holds Inv-loop μ-loop
 loop-holds c = writing-start _ _ _
@@ -43,16 +41,15 @@ case-line-requires c κs =
     let f = c .before in
     let l = f .before .before in
     let a = l .before .before in
-    (a .pre .0, writing-sound _ (l .loop .inv) (f .before .loop-test .taken) (f .find .ensures) (a .pre .1 .0 .line) .form)
+    (a .pre .0, writing-sound _ (l .loop .inv) (f .before .loop-test .taken) (f .find .ensures) (a .pre .1 .0 .line) .form-sound)
 
 write-row-requires : tie.Need-write-row-requires Inv-loop μ-loop
-unfolding rowLength
 write-row-requires c κs =
     let k = c .before in
     let f = k .before .before in
     let l = f .before .before in
     let a = l .before .before in
-    (sound-bounds k, omega (arith, l .loop .inv .filled .size, a .pre .1 .1, writing-within _ (l .loop .inv) (f .before .loop-test .taken) (f .find .ensures)))
+    (line-bounds k, omega (arith, l .loop .inv .filled .size, a .pre .1 .1, writing-within _ (l .loop .inv) (f .before .loop-test .taken) (f .find .ensures)))
 
 skip-requires : tie.Need-skip-requires Inv-loop μ-loop
 skip-requires c κs = search needs
@@ -82,7 +79,7 @@ loop-again c =
     let k = w .before .before in
     let f = k .before .before in
     let l = f .before .before in
-    writing-step _ (l .loop .inv) (f .before .loop-test .taken) (f .find .ensures) _ (k .case-line .ensures) (record { row = rowOf (k .case-line .result); is = refl; right = right-row (sound-bounds k) }) (w .write-row .ensures) (c .before .skip .ensures)
+    writing-step _ (l .loop .inv) (f .before .loop-test .taken) (f .find .ensures) _ (k .case-line .ensures) (record { is = refl; right = right-row (line-bounds k) }) (w .write-row .ensures) (c .before .skip .ensures)
 
 same-length : tie.Need-same-length Inv-loop μ-loop
 same-length c = c .before .loop .inv .filled .size

@@ -1,0 +1,54 @@
+// The end of a line: the answer to its question.
+use hocsimbur::Case;
+use hocsimbur::Interval;
+use hocsimbur::Number;
+use hocsimbur::Pair;
+use hocsimbur::Row;
+use hocsimbur::RowAnswer;
+use print::bytes;
+use print::refused;
+use row::ROW_LENGTH;
+use row::put_row;
+
+// No question has this kind, or not with these numbers.
+pub fn unknown() {
+    bytes(b"unknown\n");
+}
+
+// A number that the rules settle.
+pub fn settled(answer: Number) {
+    match answer {
+        Number::Is(n) => {
+            print::number(n);
+            bytes(b"\n");
+        }
+        Number::Refused(why, line, column) => refused(why, line, column),
+    }
+}
+
+fn both(pair: Interval) {
+    let ends = [pair.lower, pair.upper];
+    listing::numbers(&ends);
+}
+
+// A pair of ends.
+pub fn ends(answer: Pair) {
+    match answer {
+        Pair::Ends(pair) => both(pair),
+        Pair::Refused(why, line, column) => refused(why, line, column),
+    }
+}
+
+fn whole(row: Row) {
+    let mut numbers = [0i64; ROW_LENGTH];
+    put_row(row, &mut numbers);
+    listing::numbers(&numbers);
+}
+
+// A row.
+pub fn numbers(answer: RowAnswer) {
+    match answer {
+        RowAnswer::Is(row) => whole(row),
+        RowAnswer::Refused(why, line, column) => refused(why, line, column),
+    }
+}

@@ -1,0 +1,15 @@
+-- The ends of π in 10^−9.
+-- Assumes nothing.
+use Prim.Native.Nat.{ℕ}
+use Rattle.interval.specs.declared.Interval.{Interval}
+use Rattle.interval.specs.Operations.{natural}
+
+-- rounded down and up
+abbrev pub πBelow : ℕ
+πBelow = 3141592653
+
+abbrev pub πAbove : ℕ
+πAbove = 3141592654
+
+unfoldable pub πEnds : Interval
+πEnds = natural πBelow πAbove

@@ -1,0 +1,61 @@
+-- Every width of document 01, 'What exact means', worked by hand on its sample yard, and on that yard with twenty rods of 7.5 m along the
+-- perimeter: a width made wider or narrower is refused here.
+-- Assumes nothing.
+use Prim.Native.Nat.{ℕ, _+_, _-_}
+use mathlib.Core.List.{List, [], _∷_}
+use lib.IntN.{pos}
+use lib.Dec.{lit≤}
+use Rattle.interval.specs.declared.Interval.{Interval}
+use Rattle.exact.specs.Fraction.{Fraction, _≤f_, _≈f_, whole, decimal, _+f_, _·f_, inv, _÷f_}
+use Rattle.exact.specs.Reported.{ten, over, reported}
+use Rattle.case.specs.declared.Case.{Case}
+use Rattle.case.specs.Case.{caseOf}
+use Rattle.formulas.specs.Decrement.{ratios, table10, factorsAt, columnAt, factor, Df}
+use Rattle.formulas.specs.Lengths.{ρ, D, Lr, side, Lc, LR, LT}
+use Rattle.formulas.specs.Current.{gridCurrent}
+use Rattle.formulas.specs.Step.{LS}
+use Rattle.formulas.specs.Width.{mV, μΩ, tolerableWidth, resistanceWidth, riseWidth, referenceKi, referenceCurrent, meshWidth, stepWidth}
+use Rattle.formulas.proofs.Tables.{Every}
+
+-- the sample by its rods, their length and their place
+sampleWith : ℕ → ℕ → ℕ → Case
+sampleWith rods rodlen place =
+    caseOf (7 ∷ 1 ∷ 400 ∷ 2500 ∷ 102 ∷ 500 ∷ 70 ∷ 3180 ∷ 600 ∷ 10 ∷ 11 ∷ 7000 ∷ 500 ∷ 100 ∷ rods ∷ rodlen ∷ place ∷ 1 ∷ [])
+
+abbrev sample : Case
+sample = sampleWith 0 0 0
+
+abbrev rodded : Case
+rodded = sampleWith 20 7500 1
+
+-- a pair by its lower end, which counts; the upper end stands a little above
+abbrev from : ℕ → Interval
+from n = record { lower = pos n; upper = pos (n + 50) }
+
+record Worked : Type 0 where
+  width : Fraction
+  number : Fraction
+
+abbrev worked : Fraction → Fraction → Worked
+worked w n = record { width = w; number = n }
+
+widths : List Worked
+widths =
+    -- 1/10,000 of 840.5 V, and 10 mV
+    worked (tolerableWidth (reported mV (from 840500))) (decimal 9405 5)
+    -- 1/10,000 of 2.776 ohms, and 2 micro-ohms
+    ∷ worked (resistanceWidth (reported μΩ (from 2776000))) (decimal 2796 7)
+    -- 1/2,000 of 5296.608 V, and 10 mV
+    ∷ worked (riseWidth (reported mV (from 5296608))) (decimal 2658304 6)
+    -- 1/10,000 of 400·2.272·1908/1540, and 10 mV
+    ∷ worked (meshWidth sample) (whole 18879904 ÷f whole 154000000)
+    -- 1/10,000 of 400·2.272·1908/1155, and 10 mV
+    ∷ worked (stepWidth sample) (whole 18494904 ÷f whole 115500000)
+    -- with rods: over 1690 and over 1282.5
+    ∷ worked (meshWidth rodded) (whole 19029904 ÷f whole 169000000)
+    ∷ worked (stepWidth rodded) (whole 18622404 ÷f whole 128250000)
+    ∷ []
+
+as-worked : Every (λ w. w .width ≈f w .number) widths
+unfolding widths sampleWith tolerableWidth resistanceWidth riseWidth meshWidth stepWidth referenceKi referenceCurrent gridCurrent Df factor factorsAt table10 columnAt ratios ρ D Lr side Lc LR LT LS mV μΩ reported ten over inv whole decimal _+f_ _·f_ _÷f_
+as-worked = (record { to = record { le = lit≤ tt }; fro = record { le = lit≤ tt } }, (record { to = record { le = lit≤ tt }; fro = record { le = lit≤ tt } }, (record { to = record { le = lit≤ tt }; fro = record { le = lit≤ tt } }, (record { to = record { le = lit≤ tt }; fro = record { le = lit≤ tt } }, (record { to = record { le = lit≤ tt }; fro = record { le = lit≤ tt } }, (record { to = record { le = lit≤ tt }; fro = record { le = lit≤ tt } }, (record { to = record { le = lit≤ tt }; fro = record { le = lit≤ tt } }, tt)))))))

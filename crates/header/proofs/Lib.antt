@@ -1,0 +1,5 @@
+pub mod NameTable
+pub mod Naming
+pub mod FreeNames
+pub mod HeaderReading
+pub mod HeaderAccepted

@@ -1,0 +1,53 @@
+-- `header::names::name_of` meets its contract: the search of proofs/Naming.antt.
+-- Assumes nothing.
+use Prim.Native.Nat.{_-_}
+use mathlib.Core.Path.{sym, _∙_}
+use native.Mathlib.Omega.{arith}
+use borrow.Author.Needs.{needs}
+use Rattle.case.specs.Columns.{columns, nameCount, name-count}
+use Rattle.header.proofs.Naming.{Naming, naming-start, naming-found, naming-step, naming-end}
+use Rattle.header.proofs.names.name_of.Statement.{statement}
+use Rattle.header.proofs.names.name_of.Tie as tie
+
+abbrev Inv-loop : tie.InvT-loop
+Inv-loop s k₀ k = Naming columns s k
+
+abbrev μ-loop : tie.MeasureT-loop
+μ-loop s k₀ k = nameCount - k
+
+loop-holds : tie.Need-loop-holds Inv-loop μ-loop
+loop-holds c = naming-start _ _
+
+is-name-requires : tie.Need-is-name-requires Inv-loop μ-loop
+is-name-requires c κs = search needs
+
+returns : tie.Need-returns Inv-loop μ-loop
+returns c =
+    naming-found (c .before .before .before .loop .inv) (omega (arith, name-count)) (sym (c .before .is-name .ensures) ∙ c .if1 .taken)
+
+add-k : tie.Need-add-k Inv-loop μ-loop
+add-k c = search needs
+
+loop-less : tie.Need-loop-less Inv-loop μ-loop
+loop-less c = search needs
+
+loop-again : tie.Need-loop-again Inv-loop μ-loop
+loop-again c =
+    naming-step (c .before .before .before .loop .inv) (omega (arith, name-count)) (sym (c .before .is-name .ensures) ∙ c .if1 .left)
+
+returns-2 : tie.Need-returns-2 Inv-loop μ-loop
+returns-2 c = naming-end (c .before .loop .inv) (omega (arith, name-count))
+
+pub name-of-spec : {M : Type 1} → statement M
+name-of-spec =
+    tie.close
+    (tie.spec
+    Inv-loop
+    μ-loop
+    loop-holds
+    is-name-requires
+    returns
+    add-k
+    loop-less
+    loop-again
+    returns-2)

@@ -1,0 +1,100 @@
+-- Intervals below 0 as minus an interval of naturals: products with one, and sums.
+-- Assumes nothing.
+use Prim.Native.Nat.{ℕ, zero, suc, _+_, _-_, _*_, _/_, _≤_, _<_}
+use mathlib.Core.Path.{_≡_, refl, sym, ap, _∙_}
+use native.Mathlib.Omega.{arith}
+use native.Mathlib.Nat.{mul-le-mul-left, mul-le-mul-right}
+use lib.IntN.{pos, negℤ, negℤ-negℤ, _*ℤ_}
+use lib.Signed.{_≤ℤ_}
+use Rattle.interval.specs.declared.Interval.{Interval}
+use Rattle.interval.specs.Whole.{floorZ, ceilZ, ceilDiv, minZ, maxZ}
+use Rattle.interval.specs.Operations.{natural, size, sumOf, differenceOf, minusOf, cornersOf, outwardOf, productOf}
+use Rattle.interval.specs.Span.{Span}
+use Rattle.interval.proofs.Signed.{neg-plus, neg-minus, size-neg, le-halves}
+use Rattle.interval.proofs.Choice.{min-cases, max-cases}
+use Rattle.interval.proofs.Rounding.{floor-pos, ceil-pos}
+use Rattle.interval.proofs.Natural.{natural-difference, natural-product}
+
+-- ---- products
+
+pos-neg : (m n : ℕ) → pos m *ℤ negℤ (pos n) ≡ negℤ (pos (m * n))
+pos-neg m zero = let e : m * 0 ≡ 0 = omega arith in rw e
+pos-neg m (suc n) = refl
+
+-- the lesser and the greater of two numbers below 0
+module _ {m n : ℕ} (h : m ≤ n) where
+  same : negℤ (pos m) ≤ℤ negℤ (pos n) → negℤ (pos m) ≡ negℤ (pos n)
+  same k =
+      let e : m ≡ n = omega (arith, le-halves k, neg-plus (pos m), neg-minus (pos m), neg-plus (pos n), neg-minus (pos n)) in
+      ap (λ t. negℤ (pos t)) e
+
+  min-rising : minZ (negℤ (pos n)) (negℤ (pos m)) ≡ negℤ (pos n)
+  min-rising = min-cases (λ z. z ≡ negℤ (pos n)) (negℤ (pos n)) (negℤ (pos m)) (λ k. refl) same
+
+  max-rising : maxZ (negℤ (pos n)) (negℤ (pos m)) ≡ negℤ (pos m)
+  max-rising = max-cases (λ z. z ≡ negℤ (pos m)) (negℤ (pos n)) (negℤ (pos m)) (λ k. refl) (λ k. sym (same k))
+
+  min-falling : minZ (negℤ (pos m)) (negℤ (pos n)) ≡ negℤ (pos n)
+  min-falling = min-cases (λ z. z ≡ negℤ (pos n)) (negℤ (pos m)) (negℤ (pos n)) same (λ k. refl)
+
+  max-falling : maxZ (negℤ (pos m)) (negℤ (pos n)) ≡ negℤ (pos m)
+  max-falling = max-cases (λ z. z ≡ negℤ (pos m)) (negℤ (pos m)) (negℤ (pos n)) (λ k. sym (same k)) (λ k. refl)
+
+floor-negated : (n : ℕ) {d : ℕ} → 0 < d → floorZ (negℤ (pos n)) d ≡ negℤ (pos (ceilDiv n d))
+unfolding ceilZ
+floor-negated n {d} h = sym (negℤ-negℤ (floorZ (negℤ (pos n)) d)) ∙ ap negℤ (ceil-pos n h)
+
+ceil-negated : (n : ℕ) {d : ℕ} → 0 < d → ceilZ (negℤ (pos n)) d ≡ negℤ (pos (n / d))
+unfolding ceilZ
+ceil-negated n h = rw (negℤ-negℤ (pos n), floor-pos n h)
+
+outward-negated : (m n : ℕ) {den : ℕ} → 0 < den → outwardOf (minusOf (natural m n)) den ≡ minusOf (natural (m / den) (ceilDiv n den))
+unfolding outwardOf minusOf natural
+outward-negated m n {den} h = cc (floor-negated n h, ceil-negated m h)
+
+module _ {a b c d : ℕ} (ab : a ≤ b) (cd : c ≤ d) where
+  corners-negated : cornersOf (natural a b) (minusOf (natural c d)) ≡ minusOf (natural (a * c) (b * d))
+  unfolding cornersOf minusOf natural
+  corners-negated =
+      rw (pos-neg a d, pos-neg a c, pos-neg b d, pos-neg b c)
+      (cc (
+        min-rising (mul-le-mul-left a cd),
+        min-rising (mul-le-mul-left b cd),
+        min-falling (mul-le-mul-right d ab),
+        max-rising (mul-le-mul-left a cd),
+        max-rising (mul-le-mul-left b cd),
+        max-falling (mul-le-mul-right c ab),
+      ))
+
+  natural-negated : {den : ℕ} → 0 < den → productOf (natural a b) (minusOf (natural c d)) den ≡ minusOf (productOf (natural a b) (natural c d) den)
+  unfolding productOf
+  natural-negated {den} h =
+      ap (λ i. outwardOf i den) corners-negated ∙ outward-negated (a * c) (b * d) h ∙ ap minusOf (sym (natural-product ab cd h))
+
+pub product-negated : {i j : Interval} {l h w l′ h′ w′ den : ℕ} → Span i l h w → Span j l′ h′ w′ → 0 < den
+    → productOf i (minusOf j) den ≡ minusOf (productOf i j den)
+product-negated s t p = rw (s .is, t .is) (natural-negated (s .order) (t .order) p)
+
+-- ---- sums and sizes
+
+pub sum-negated : (i j : Interval) → sumOf i (minusOf j) ≡ differenceOf i j
+unfolding sumOf differenceOf minusOf
+sum-negated i j = refl
+
+pub span-difference : {i j : Interval} {l h w l′ h′ w′ : ℕ} → h′ ≤ l → Span i l h w → Span j l′ h′ w′ → Span (differenceOf i j) 0 h (w + w′)
+span-difference p s t =
+    let q : t .b ≤ s .a = omega (arith, s .from, t .to) in
+    let r : t .a ≤ s .b = omega (arith, t .order, s .order) in
+    record {
+      a = s .a - t .b;
+      b = s .b - t .a;
+      is = rw (s .is, t .is) (natural-difference (s .a) (s .b) (t .a) (t .b) q r);
+      from = omega arith;
+      order = omega (arith, t .order, s .order);
+      to = omega (arith, s .to);
+      near = omega (arith, s .near, t .near);
+    }
+
+pub size-negated : (i : Interval) → size (minusOf i) ≡ size i
+unfolding size minusOf
+size-negated i = omega (arith, size-neg (i .lower), size-neg (i .upper))

@@ -1,0 +1,6 @@
+pub mod Keys
+pub mod LineJudged
+pub mod Passing
+pub mod Whole
+pub mod LinesAccepted
+pub mod Accepted

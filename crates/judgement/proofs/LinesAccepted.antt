@@ -1,0 +1,57 @@
+-- Lines whose answer is a count of lines are sound.
+-- Assumes nothing.
+use Prim.Native.Nat.{ℕ, zero, suc, _<_}
+use mathlib.Core.Path.{_≡_, refl}
+use mathlib.Core.Bool.{Bool, true, false, cond}
+use mathlib.Core.List.{List, [], _∷_}
+use native.Mathlib.Omega.{arith}
+use lib.ListN.{length, getD}
+use lib.Dec.{eqb}
+use borrow.Author.Tests.{eqb-true}
+use Rattle.text.specs.Text.{fieldsOf}
+use Rattle.case.specs.Columns.{Form}
+use Rattle.case.specs.declared.Finding.{Finding}
+use Rattle.case.specs.declared.Finding.the-variants as found
+use Rattle.judgement.specs.declared.Judgement.{Judgement}
+use Rattle.judgement.specs.declared.Judgement.the-variants.{Lines}
+use Rattle.judgement.specs.declared.LineFinding.{LineFinding}
+use Rattle.judgement.specs.declared.LineFinding.the-variants.{Sound, Form as WrongForm, OutOfRange, Disagreement}
+use Rattle.line.specs.Line.{wrongForm, lineValues}
+use Rattle.judgement.specs.Findings.{orFinding, lineFinding}
+use Rattle.judgement.specs.Sheet.{linesJudgement}
+use Rattle.judgement.specs.Accepted.{SoundLine}
+use Rattle.judgement.proofs.LineJudged.{sound-line}
+
+sound-form : (b : Bool) (c : ℕ) (f : LineFinding) → cond b f (WrongForm c) ≡ Sound → (b ≡ true) × (f ≡ Sound)
+sound-form true c f e = (refl, e)
+sound-form false c f e = let z : _≡_ {A = ℕ} 0 1 = cc in absurd (omega arith)
+
+sound-case : (f : Finding) (next : LineFinding) → orFinding f next ≡ Sound → f ≡ found.Sound
+unfolding orFinding
+sound-case found.Sound next e = refl
+sound-case (found.OutOfRange c) next e = let z : _≡_ {A = ℕ} 0 1 = cc in absurd (omega arith)
+sound-case (found.Disagreement c) next e = let z : _≡_ {A = ℕ} 0 1 = cc in absurd (omega arith)
+
+sound-checks : (form : Form) (at line : List ℕ) (earlier : List (List ℕ)) → lineFinding form at earlier (fieldsOf line) ≡ Sound → SoundLine form at line
+unfolding lineFinding
+sound-checks form at line earlier e =
+    let q = sound-form (eqb (wrongForm form 1 (fieldsOf line)) 0) _ _ e in
+    record { form-sound = eqb-true _ 0 (q .0); values-sound = sound-case _ _ (q .1) }
+
+pub record LinesSound (form : Form) (at : List ℕ) (ls : List (List ℕ)) (sound : Judgement) (m : ℕ) : Type 0 where
+  pub each : (i : ℕ) → i < length ls → SoundLine form at (getD ls i [])
+  pub then : sound ≡ Lines m
+
+pub lines-sound : (form : Form) (at : List ℕ) (earlier : List (List ℕ)) (n m : ℕ) (sound : Judgement) (ls : List (List ℕ)) → linesJudgement form at earlier n sound ls ≡ Lines m
+    → LinesSound form at ls sound m
+unfolding linesJudgement
+lines-sound form at earlier n m sound [] e = record { each = λ i h. absurd (omega arith); then = e }
+lines-sound form at earlier n m sound (l ∷ ls) e =
+    let f = sound-line n _ (lineFinding form at earlier (fieldsOf l)) refl e in
+    let t = lines-sound form at (lineValues at (fieldsOf l) ∷ earlier) (suc n) m sound ls (f .1) in
+    record { each = cons (sound-checks form at l earlier (f .0)) (t .each); then = t .then }
+  where
+    cons : SoundLine form at l → ((i : ℕ) → i < length ls → SoundLine form at (getD ls i [])) → (i : ℕ) → i < suc (length ls)
+        → SoundLine form at (getD (l ∷ ls) i [])
+    cons p r zero h = p
+    cons p r (suc i) h = r i (omega arith)

@@ -1,0 +1,56 @@
+-- `judgement::pass::refusal` meets its contract.
+-- Assumes nothing.
+use borrow.Author.Needs.{needs}
+use Rattle.judgement.specs.Refusal.{lineJudgement}
+use Rattle.judgement.proofs.pass.refusal.Statement.{statement}
+use Rattle.judgement.proofs.pass.refusal.Tie as tie
+
+enum-told : tie.Need-enum-told
+enum-told c = search needs
+
+enum-known-f : tie.Need-enum-known-f
+enum-known-f c = search needs
+
+enum-known-f-2 : tie.Need-enum-known-f-2
+enum-known-f-2 c = search needs
+
+enum-known-f-3 : tie.Need-enum-known-f-3
+enum-known-f-3 c = search needs
+
+enum-told-2 : tie.Need-enum-told-2
+enum-told-2 c = search needs
+
+returns : tie.Need-returns
+unfolding lineJudgement
+returns c = rw (c .enum-told .given .1)
+
+returns-2 : tie.Need-returns-2
+unfolding lineJudgement
+returns-2 c = rw (c .before .f .given .1)
+
+returns-3 : tie.Need-returns-3
+unfolding lineJudgement
+returns-3 c = rw (c .before .f2 .given .1)
+
+returns-4 : tie.Need-returns-4
+unfolding lineJudgement
+returns-4 c = rw (c .before .f3 .given .1)
+
+returns-5 : tie.Need-returns-5
+unfolding lineJudgement
+returns-5 c = rw (c .enum-told2 .given .1)
+
+pub refusal-spec : {M : Type 1} → statement M
+refusal-spec =
+    tie.close
+    (tie.spec
+    enum-told
+    enum-known-f
+    enum-known-f-2
+    enum-known-f-3
+    enum-told-2
+    returns
+    returns-2
+    returns-3
+    returns-4
+    returns-5)

@@ -1,0 +1,33 @@
+-- What holds of a sheet that is judged to have n value lines: proved in proofs/Accepted.antt.
+-- Assumes nothing.
+use Prim.Native.Nat.{ℕ, _≤_, _<_}
+use mathlib.Core.Path.{_≡_}
+use mathlib.Core.Bool.{false}
+use mathlib.Core.List.{List, []}
+use lib.ListN.{length, getD}
+use Rattle.text.specs.Text.{fieldsOf}
+use Rattle.case.specs.declared.Finding.the-variants as found
+use Rattle.case.specs.Columns.{Form}
+use Rattle.case.specs.Check.{finding}
+use Rattle.case.specs.Bounds.{Placed}
+use Rattle.header.specs.Header.{noColumns, wrongName, columnsOf}
+use Rattle.line.specs.Line.{wrongForm, lineValues}
+use Rattle.judgement.specs.Limits.{mostLines}
+use Rattle.judgement.specs.Sheet.{names, valueLines, badText}
+
+-- a line of sound form with sound values
+pub record SoundLine (form : Form) (at line : List ℕ) : Type 0 where
+  pub form-sound : wrongForm form 1 (fieldsOf line) ≡ 0
+  pub values-sound : finding form at (lineValues at (fieldsOf line)) ≡ found.Sound
+
+pub record SoundLines (form : Form) (at : List ℕ) (lines : List (List ℕ)) : Type 0 where
+  pub line : (i : ℕ) → i < length lines → SoundLine form at (getD lines i [])
+
+pub record Accepted (form : Form) (s : List ℕ) (n : ℕ) : Type 0 where
+  pub text : badText s ≡ false
+  pub names-sound : wrongName form 1 (noColumns form) (names s) ≡ 0
+  pub placed : Placed form (columnsOf form (names s))
+  pub count : n ≡ length (valueLines s)
+  pub some : 1 ≤ n
+  pub most : n ≤ mostLines
+  pub lines : SoundLines form (columnsOf form (names s)) (valueLines s)

@@ -1,0 +1,6 @@
+pub mod Limits
+pub mod Refusal
+pub mod Findings
+pub mod Sheet
+pub mod Parts
+pub mod Accepted

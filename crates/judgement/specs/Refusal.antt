@@ -1,0 +1,31 @@
+-- Refusals 1 to 7: number, line and column. Document 01, 'The result table'.
+-- Assumes nothing.
+use Prim.Native.Nat.{ℕ, _+_}
+use Rattle.judgement.specs.declared.Judgement.{Judgement}
+use Rattle.judgement.specs.declared.Judgement.the-variants.{Refused}
+use Rattle.judgement.specs.declared.LineFinding.{LineFinding}
+use Rattle.judgement.specs.declared.LineFinding.the-variants.{Sound, Form, OutOfRange, Disagreement, Repeated}
+use Rattle.judgement.specs.Limits.{mostLines}
+
+-- "sheet empty, over 16,384 bytes, or last byte not 10"
+unfoldable pub textRefused : Judgement
+textRefused = Refused 1 0 0
+
+-- "name unknown, or the same as one further left; or fewer than 18 names (first missing column)"
+unfoldable pub nameRefused : ℕ → Judgement
+nameRefused column = Refused 2 1 column
+
+-- "no value line (line 2), or more than 64 (line 66)"
+unfoldable pub noLineRefused : Judgement
+noLineRefused = Refused 4 2 0
+
+unfoldable pub manyLinesRefused : Judgement
+manyLinesRefused = Refused 4 (mostLines + 2) 0
+
+-- the refusal of a value line, or the judgement `sound` where nothing is wrong with the line
+unfoldable pub lineJudgement : ℕ → Judgement → LineFinding → Judgement
+lineJudgement line sound Sound = sound
+lineJudgement line sound (Form column) = Refused 3 line column
+lineJudgement line sound (OutOfRange column) = Refused 5 line column
+lineJudgement line sound (Disagreement column) = Refused 6 line column
+lineJudgement line sound Repeated = Refused 7 line 0

@@ -1,0 +1,51 @@
+-- The judgement of every sheet of a form: the count of its value lines, or a refusal. Document 01, 'The result table': "The order is 1, 2, 4;
+-- then line by line 3, 5, 6, 7".
+-- Assumes nothing.
+use Prim.Native.Nat.{ℕ, suc, _-_}
+use mathlib.Core.Bool.{Bool, cond, not, _||_}
+use mathlib.Core.List.{List, [], _∷_}
+use lib.ListN.{length, getD, drop}
+use lib.Dec.{ltb, eqb}
+use Rattle.text.specs.Text.{linesOf, fieldsOf}
+use Rattle.case.specs.Columns.{Form}
+use Rattle.header.specs.Header.{noColumns, wrongName, columnsOf}
+use Rattle.line.specs.Line.{lineValues}
+use Rattle.judgement.specs.declared.Judgement.{Judgement}
+use Rattle.judgement.specs.declared.Judgement.the-variants.{Lines}
+use Rattle.judgement.specs.Limits.{mostBytes, mostLines}
+use Rattle.judgement.specs.Refusal.{textRefused, nameRefused, noLineRefused, manyLinesRefused, lineJudgement}
+use Rattle.judgement.specs.Findings.{lineFinding}
+
+-- "Its first line holds names, and each later line holds values in that order."
+unfoldable pub names : List ℕ → List (List ℕ)
+names s = fieldsOf (getD (linesOf s) 0 [])
+
+unfoldable pub valueLines : List ℕ → List (List ℕ)
+valueLines s = drop 1 (linesOf s)
+
+-- "sheet empty, over 16,384 bytes, or last byte not 10"
+unfoldable pub badText : List ℕ → Bool
+badText s = eqb (length s) 0 || ltb mostBytes (length s) || not (eqb (getD s (length s - 1) 0) 10)
+
+module _ (form : Form) where
+  -- line by line from line n on, after the values of earlier lines; `sound` is the judgement where nothing is wrong with any line
+  unfoldable pub linesJudgement : List ℕ → List (List ℕ) → ℕ → Judgement → List (List ℕ) → Judgement
+  linesJudgement at earlier n sound [] = sound
+  linesJudgement at earlier n sound (line ∷ lines) =
+      lineJudgement n (linesJudgement at (lineValues at (fieldsOf line) ∷ earlier) (suc n) sound lines) (lineFinding form at earlier (fieldsOf line))
+
+  -- 4, then the lines
+  unfoldable pub valuesJudgement : List ℕ → List (List ℕ) → Judgement
+  valuesJudgement at lines =
+      cond (eqb (length lines) 0) noLineRefused
+      (cond (ltb mostLines (length lines)) manyLinesRefused (linesJudgement at [] 2 (Lines (length lines)) lines))
+
+  -- 2, then the values
+  unfoldable pub namesJudgement : List ℕ → Judgement
+  namesJudgement s =
+      cond (eqb (wrongName form 1 (noColumns form) (names s)) 0) (valuesJudgement (columnsOf form (names s)) (valueLines s))
+      (nameRefused (wrongName form 1 (noColumns form) (names s)))
+
+  -- 1, then the names
+  unfoldable pub judgement : List ℕ → Judgement
+  judgement s = cond (badText s) textRefused (namesJudgement s)

@@ -1,0 +1,2 @@
+pub mod ValuesReading
+pub mod Arranging

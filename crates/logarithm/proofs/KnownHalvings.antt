@@ -1,0 +1,36 @@
+-- Where the halvings of a fraction are known, the ends of its logarithm compute.
+-- Assumes nothing.
+use Prim.Native.Nat.{ℕ, _+_, _-_, _*_, _/_, _^_, _≤_, _<_}
+use mathlib.Core.Path.{_≡_}
+use native.Mathlib.Omega.{arith}
+use native.Mathlib.Nat.{mul-le-mul-left}
+use lib.Pow.{pow-pos}
+use borrow.Author.Tests.{lt-ltb, le-ltb}
+use Rattle.interval.specs.Operations.{natural, minusOf}
+use Rattle.logarithm.specs.Series.{unit}
+use Rattle.logarithm.specs.Ends.{baseOf, argumentOf, endOf, upEnds, downEnds, lnEnds}
+use Rattle.logarithm.proofs.Ratio.{halvings-known}
+
+-- with m halvings: p/q lies from 2^m to 2^(m+1)
+abbrev pub argumentBy : ℕ → ℕ → ℕ → ℕ
+argumentBy m p q = (p - q * 2 ^ m) * unit / (p + q * 2 ^ m)
+
+abbrev pub lowBy : ℕ → ℕ → ℕ → ℕ
+lowBy m p q = endOf 0 m (argumentBy m p q)
+
+abbrev pub highBy : ℕ → ℕ → ℕ → ℕ
+highBy m p q = endOf 1 m (argumentBy m p q + 1)
+
+pub up-by : (m p : ℕ) {q : ℕ} → 1 ≤ q → q * 2 ^ m ≤ p → p < 2 * (q * 2 ^ m) → upEnds p q ≡ natural (lowBy m p q) (highBy m p q)
+unfolding upEnds argumentOf baseOf
+up-by m p {q} hq l u =
+    let h : q ≤ p = omega (arith, mul-le-mul-left q (pow-pos m)) in
+    rw (halvings-known hq h m l u)
+
+pub ln-up : (p q : ℕ) → q ≤ p → lnEnds p q ≡ upEnds p q
+unfolding lnEnds
+ln-up p q h = rw (le-ltb p q h)
+
+pub ln-down : (p q : ℕ) → p < q → lnEnds p q ≡ minusOf (upEnds q p)
+unfolding lnEnds downEnds
+ln-down p q h = rw (lt-ltb p q h)

@@ -1,0 +1,49 @@
+-- `mesh_length` is LM by the place of the rods.
+-- Assumes nothing.
+use native.Mathlib.Omega.{arith}
+use native.Mathlib.Nat.{mul-le-mul-left}
+use lib.Dec.{lit<}
+use borrow.Author.Tests.{eq-eqb, ne-eqb}
+use Rattle.interval.proofs.Fits.{fits-below}
+use Rattle.lengths.proofs.Lengths.{total-bounds}
+use Rattle.mesh.specs.Ends.{meshLength}
+use borrow.Author.Needs.{needs}
+use Rattle.mesh.proofs.rods.mesh_length.Statement.{statement}
+use Rattle.mesh.proofs.rods.mesh_length.Tie as tie
+
+weighed-length-requires : tie.Need-weighed-length-requires
+weighed-length-requires c κs = search needs
+
+returns : tie.Need-returns
+unfolding meshLength
+returns c = simp (eq-eqb (c .before .before .before .args .c .place) 1 (c .before .if1 .taken)) (c .weighed-length .ensures)
+
+total-length-requires : tie.Need-total-length-requires
+total-length-requires c κs = search needs
+
+mul-point : tie.Need-mul-point
+mul-point c =
+    let s = c .before .before .before in
+    rw (c .total-length .ensures) (fits-below (mul-le-mul-left 1000 (total-bounds (s .pre) .high)) (lit< tt))
+
+point-requires : tie.Need-point-requires
+point-requires c κs =
+    let s = c .before .before .before in
+    rw (c .total-length .ensures) (omega (arith, total-bounds (s .pre) .high))
+
+returns-2 : tie.Need-returns-2
+unfolding meshLength
+returns-2 c =
+    let e = c .before .before in
+    rw (ne-eqb (e .before .before .args .c .place) 1 (e .if1 .left)) (cc)
+
+pub mesh-length-spec : {M : Type 1} → statement M
+mesh-length-spec =
+    tie.close
+    (tie.spec
+    weighed-length-requires
+    returns
+    total-length-requires
+    mul-point
+    point-requires
+    returns-2)

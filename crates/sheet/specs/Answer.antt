@@ -1,0 +1,34 @@
+-- The answer to every sheet and table length, and the cases of a sheet. Document 01, 'The result table': "The order is 1, 2, 4; then line by
+-- line 3, 5, 6, 7; then 8."
+-- Assumes nothing.
+use Prim.Native.Nat.{ℕ, _*_}
+use mathlib.Core.Bool.{cond}
+use mathlib.Core.List.{List, map}
+use lib.Dec.{ltb}
+use Rattle.text.specs.Text.{fieldsOf}
+use Rattle.case.specs.declared.Case.{Case}
+use Rattle.case.specs.Columns.{columns}
+use Rattle.header.specs.Header.{columnsOf}
+use Rattle.line.specs.Line.{lineCase}
+use Rattle.row.specs.Row.{rowLength}
+use Rattle.judgement.specs.declared.Judgement.{Judgement}
+use Rattle.judgement.specs.declared.Judgement.the-variants as judged
+use Rattle.judgement.specs.Sheet.{names, valueLines, judgement}
+use Rattle.sheet.specs.declared.Answer.{Answer}
+use Rattle.sheet.specs.declared.Answer.the-variants.{Rows, Refused}
+
+-- the cases of a sheet's value lines
+unfoldable pub cases : List ℕ → List Case
+cases s = map (λ line. lineCase (columnsOf columns (names s)) (fieldsOf line)) (valueLines s)
+
+-- "table shorter than 17 numbers a line"
+unfoldable pub tableRefused : Answer
+tableRefused = Refused 8 0 0
+
+-- 1 to 7 by the judgement of the sheet, then 8, or the count of rows
+unfoldable pub answerBy : ℕ → Judgement → Answer
+answerBy room (judged.Lines count) = cond (ltb room (rowLength * count)) tableRefused (Rows count)
+answerBy room (judged.Refused number line column) = Refused number line column
+
+unfoldable pub answer : List ℕ → ℕ → Answer
+answer s room = answerBy room (judgement columns s)

@@ -1,0 +1,59 @@
+-- A turn of a loop over lines: rest holds the lines that are left, the first of them ends at e, and the others begin at r.
+-- Assumes nothing.
+use Prim.Native.Nat.{ℕ, suc, _+_, _-_, _≤_, _<_}
+use mathlib.Core.Path.{_≡_, sym, ap, _∙_}
+use mathlib.Core.Logic.{⊎-elim}
+use mathlib.Core.List.{List, _∷_}
+use native.Mathlib.Numerals.{add-one}
+use native.Mathlib.Nat.{eq-or-lt-of-le, lt-of-not-le}
+use native.Mathlib.Decide.{decLe}
+use native.Mathlib.Omega.{arith}
+use lib.ListN.{length, take, drop, length-drop, drop-of-length-le}
+use Rattle.text.specs.Text.{indexOf, linesOf}
+use Rattle.text.proofs.Searching.{index-within}
+use Rattle.text.proofs.Lines.{lines-next, lines-none}
+use Rattle.text.specs.Parts.{Skipped}
+use Rattle.text.proofs.FieldTurns.{part-end}
+
+-- what is left after a part is shorter, whatever byte ends the part
+pub skipped-shorter : (rest : List ℕ) {e r : ℕ} → 0 < length rest → Skipped e (length rest) r → length (take (length rest - r) (drop r rest)) < length rest
+skipped-shorter rest {e} {r} some s = rw (part-end rest r) (go (decLe (length rest) e))
+  where
+    go : Dec (length rest ≤ e) → length (drop r rest) < length rest
+    go (yes h) = omega (arith, s .none h, length-drop r rest)
+    go (no h) = omega (arith, s .next (lt-of-not-le h), length-drop r rest)
+
+module _ (rest : List ℕ) (e r : ℕ) (some : 0 < length rest) (ends : e ≡ indexOf 10 rest) (s : Skipped e (length rest) r) where
+  -- what is left after the line
+  line-rest : take (length rest - r) (drop r rest) ≡ drop (suc e) rest
+  line-rest =
+      part-end rest r
+      ∙ ⊎-elim
+      (λ h. drop-of-length-le rest {i = r} (omega (arith, s .none (omega arith))) ∙ sym (drop-of-length-le rest {i = suc e} (omega arith)))
+      (λ h. ap (λ (n : ℕ). drop n rest) (s .next (omega arith) ∙ add-one e))
+      (eq-or-lt-of-le (index-within 10 rest))
+
+  pub line-turn : linesOf rest ≡ take e rest ∷ linesOf (take (length rest - r) (drop r rest))
+  line-turn = rw (line-rest, ends) (lines-next rest some)
+
+  pub line-shorter : length (take (length rest - r) (drop r rest)) < length rest
+  line-shorter = rw line-rest (omega (arith, length-drop (suc e) rest))
+
+-- the count: n lines are passed
+pub record Counting (s rest : List ℕ) (n : ℕ) : Type 0 where
+  pub lines : length (linesOf s) ≡ n + length (linesOf rest)
+  pub short : n + length rest ≤ length s
+
+pub counting-start : (s : List ℕ) → Counting s s 0
+counting-start s = record { lines = omega arith; short = omega arith }
+
+pub counting-step : {s rest : List ℕ} {n : ℕ} (e r : ℕ) → Counting s rest n → 0 < length rest → e ≡ indexOf 10 rest → Skipped e (length rest) r
+    → Counting s (take (length rest - r) (drop r rest)) (n + 1)
+counting-step {rest = rest} e r a some ends k =
+    record {
+      lines = omega (arith, a .lines, ap length (line-turn rest e r some ends k));
+      short = omega (arith, a .short, line-shorter rest e r some ends k);
+    }
+
+pub counting-end : {s rest : List ℕ} {n : ℕ} → Counting s rest n → length rest ≤ 0 → n ≡ length (linesOf s)
+counting-end {rest = rest} a h = omega (arith, a .lines, ap length (lines-none rest h))

@@ -1,0 +1,65 @@
+"""Counts the instructions that the program `verdict` takes for a line of a sheet.
+
+    rt check verdict && python3 tests/cost.py [--program target/bin/verdict] [--sheet FILE]
+
+It needs valgrind. Each figure is a difference of two runs, on the whole sheet and on its first two
+lines, so that the program's start and the line of names do not count. A sheet whose last line
+repeats the first one's station and season is judged to its end and not written, which tells judging
+from working. What the functions in PRINTING take is left out; the little of the printing that is
+compiled into `main` stays in the second figure.
+"""
+
+import argparse
+import re
+import subprocess
+import tempfile
+from pathlib import Path
+
+PROGRAM = "target/bin/verdict"
+SHEET = Path(__file__).parents[1] / "crates" / "rows" / "stdin"
+PRINTING = ("print::signed", "write.c:write")
+SHORT = 2  # lines; fewer cannot repeat one
+
+
+def instructions(program, lines):
+    """All instructions of a run on a sheet, without those of printing."""
+    with tempfile.NamedTemporaryFile() as profile:
+        run = ("valgrind", "--tool=callgrind", f"--callgrind-out-file={profile.name}", program)
+        subprocess.run(run, input=b"\n".join(lines) + b"\n", capture_output=True, check=True)
+        shown = subprocess.run(("callgrind_annotate", "--threshold=100", profile.name),
+                               capture_output=True, check=True, text=True).stdout
+    counts = re.findall(r"^ *([\d,]+) \([ \d.]+%\)  (.+)$", shown, flags=re.MULTILINE)
+    counts = [(int(count.replace(",", "")), name) for count, name in counts]
+    total = next(count for count, name in counts if name == "PROGRAM TOTALS")
+    return total - sum(count for count, name in counts if any(part in name for part in PRINTING))
+
+
+def refused_at_the_end(lines):
+    """The sheet with the first line's station and season in its last line."""
+    names, first, *_, last = (line.split(b",") for line in lines)
+    for at in map(names.index, (b"station", b"season")):
+        last[at] = first[at]
+    return [*lines[:-1], b",".join(last)]
+
+
+def a_line(program, lines, change):
+    """Instructions for one value line more."""
+    short = lines[: 1 + SHORT]
+    more = instructions(program, change(lines)) - instructions(program, change(short))
+    return more / (len(lines) - len(short))
+
+
+def main():
+    parser = argparse.ArgumentParser(description=__doc__.split("\n")[0])
+    parser.add_argument("--program", default=PROGRAM)
+    parser.add_argument("--sheet", default=SHEET, type=Path)
+    asked = parser.parse_args()
+    lines = asked.sheet.read_bytes().split(b"\n")[:-1]
+    judged = a_line(asked.program, lines, refused_at_the_end)
+    whole = a_line(asked.program, lines, list)
+    print(f"{judged:.0f} instructions to judge a line")
+    print(f"{whole - judged:.0f} instructions to work out and write its row")
+
+
+if __name__ == "__main__":
+    main()
