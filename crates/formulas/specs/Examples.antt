@@ -1,9 +1,11 @@
--- The decrement factor and the conductor size computed on examples.
+-- The decrement factor, the conductor size and the half-powers computed on examples.
 -- Assumes nothing.
 use Prim.Native.Nat.{ℕ}
 use mathlib.Core.Path.{_≡_, refl}
 use mathlib.Core.List.{List, [], _∷_, map}
+use Rattle.exact.specs.Fraction.{Fraction, whole, inv}
 use Rattle.case.specs.Case.{caseOf}
+use Rattle.formulas.specs.Step.{halfPower}
 use Rattle.formulas.specs.Decrement.{ratios, table10, factorsAt, columnAt, factor, Df}
 use Rattle.formulas.specs.Size.{constants, Kf, smallest, duty, enough, size}
 
@@ -49,3 +51,13 @@ metals = refl
 asymmetrical : sizeOf 80000 9 40 11 ∷ sizeOf 80000 9 1 11 ∷ [] ≡ 385 ∷ 360 ∷ []
 unfolding sizeOf
 asymmetrical = refl
+
+-- the half-powers of document 01's table, one over each number: 2^(n−2) for n from 2 to 25
+halfPowerAt : ℕ → Fraction
+unfolding halfPower
+halfPowerAt n = halfPower (caseOf (7 ∷ 1 ∷ 400 ∷ 0 ∷ 0 ∷ 500 ∷ 70 ∷ 3180 ∷ 600 ∷ 10 ∷ n ∷ 7000 ∷ 500 ∷ 100 ∷ 0 ∷ 0 ∷ 0 ∷ 1 ∷ []))
+
+half-powers : map halfPowerAt (2 ∷ 3 ∷ 4 ∷ 5 ∷ 6 ∷ 7 ∷ 8 ∷ 9 ∷ 10 ∷ 11 ∷ 12 ∷ 13 ∷ 14 ∷ 15 ∷ 16 ∷ 17 ∷ 18 ∷ 19 ∷ 20 ∷ 21 ∷ 22 ∷ 23 ∷ 24 ∷ 25 ∷ [])
+    ≡ map (λ p. inv (whole p)) (1 ∷ 2 ∷ 4 ∷ 8 ∷ 16 ∷ 32 ∷ 64 ∷ 128 ∷ 256 ∷ 512 ∷ 1024 ∷ 2048 ∷ 4096 ∷ 8192 ∷ 16384 ∷ 32768 ∷ 65536 ∷ 131072 ∷ 262144 ∷ 524288 ∷ 1048576 ∷ 2097152 ∷ 4194304 ∷ 8388608 ∷ [])
+unfolding halfPowerAt
+half-powers = refl

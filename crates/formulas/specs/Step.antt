@@ -1,8 +1,6 @@
--- Step voltage in volts. Document 01, 'The formulas'.
+-- Step voltage in volts. Document 01, 'The formulas', and request (b) of document 02.
 -- Assumes nothing.
-use Prim.Native.Nat.{ℕ, _-_}
-use mathlib.Core.List.{List, [], _∷_}
-use lib.ListN.{getD}
+use Prim.Native.Nat.{_-_, _^_}
 use Rattle.exact.specs.Fraction.{Fraction, whole, decimal, _+f_, _−f_, _·f_, inv, _÷f_}
 use Rattle.exact.specs.Exact.{Exact, exactly, _·x_, _÷x_}
 use Rattle.exact.specs.Pi.{π}
@@ -10,17 +8,10 @@ use Rattle.case.specs.declared.Case.{Case}
 use Rattle.formulas.specs.Lengths.{ρ, D, h, Lc, LR, Ki}
 use Rattle.formulas.specs.Current.{IG}
 
--- "The 24 half-powers are held as a table": 2^(n−2) for n from 2 to 25, of which 0.5^(n−2) is the inverse
-unfoldable pub halfPowers : List ℕ
-halfPowers =
-    1 ∷ 2 ∷ 4 ∷ 8 ∷ 16 ∷ 32 ∷ 64 ∷ 128 ∷ 256 ∷ 512 ∷ 1024 ∷ 2048 ∷ 4096 ∷ 8192 ∷ 16384 ∷ 32768
-    ∷ 65536 ∷ 131072 ∷ 262144 ∷ 524288 ∷ 1048576 ∷ 2097152 ∷ 4194304 ∷ 8388608
-    ∷ []
-
 module _ (c : Case) where
-  -- 0.5^(n−2)
+  -- 0.5^(n−2), one over 2^(n−2). Document 02, (b): "working the power of one half itself"
   unfoldable pub halfPower : Fraction
-  halfPower = inv (whole (getD halfPowers (c .lines - 2) 1))
+  halfPower = inv (whole (2 ^ (c .lines - 2)))
 
   -- "LS = 0.75·Lc + 0.85·LR"
   unfoldable pub LS : Fraction

@@ -2,12 +2,10 @@
 -- Assumes nothing.
 use Prim.Native.Nat.{ℕ, _+_, _-_, _*_, _^_}
 use lib.IntN.{pos}
-use lib.ListN.{getD}
 use Rattle.interval.specs.declared.Interval.{Interval}
 use Rattle.interval.specs.Operations.{point, sumOf, productOf, quotientOf}
 use Rattle.enclosure.specs.Pi.{πEnds}
 use Rattle.case.specs.declared.Case.{Case}
-use Rattle.formulas.specs.Step.{halfPowers}
 use Rattle.current.specs.Drive.{driveOf}
 use Rattle.lengths.specs.Lengths.{conductorLength, rodLength}
 
@@ -18,7 +16,7 @@ perMetre a d = quotientOf (point (pos a)) (point (pos d)) (10 ^ 12)
 module _ (c : Case) where
   -- 2^(n−2)
   unfoldable pub halfPowerOf : ℕ
-  halfPowerOf = getD halfPowers (c .lines - 2) 1
+  halfPowerOf = 2 ^ (c .lines - 2)
 
   -- D + h, in millimetres
   unfoldable pub reach : ℕ

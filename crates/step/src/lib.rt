@@ -10,40 +10,12 @@ use interval::Interval;
 use lengths::conductor_length;
 use lengths::rod_length;
 
-// 2^(n−2) for n from 2 to 25, of which 0.5^(n−2) is the inverse.
-const HALF_POWERS: [u64; 24] = [
-    1,
-    2,
-    4,
-    8,
-    16,
-    32,
-    64,
-    128,
-    256,
-    512,
-    1024,
-    2048,
-    4096,
-    8192,
-    16384,
-    32768,
-    65536,
-    131072,
-    262144,
-    524288,
-    1048576,
-    2097152,
-    4194304,
-    8388608,
-];
-
-// 2^(n−2) of the case.
+// 2^(n−2), of which 0.5^(n−2) is the inverse.
 fn half_power(c: Case) -> u64
     requires { ⌜ Bounds c ⌝ }
     ensures { λ r. ⌜ r ≡ halfPowerOf c ⌝ }
 {
-    HALF_POWERS[(c.lines - 2) as usize]
+    1u64 << (c.lines - 2)
 }
 
 // a / d per millimetre, in 10^-9 per metre.

@@ -1,7 +1,11 @@
--- `half_power` reads the table of half-powers, which is that of the formulas.
+-- `half_power` shifts one: the power stays below the width.
 -- Assumes nothing.
-use Rattle.step.proofs.HalfPowers.{power-entry}
-use Rattle.formulas.specs.Step.{halfPowers}
+use Prim.Native.Nat.{_*_}
+use mathlib.Core.Path.{_≡_, _∙_}
+use native.Mathlib.Nat.{mod-eq-of-lt, one-mul}
+use native.Mathlib.Omega.{arith}
+use Rattle.step.specs.Ends.{halfPowerOf}
+use Rattle.step.proofs.HalfPowers.{power-bounds}
 use borrow.Author.Needs.{needs}
 use Rattle.step.proofs.half_power.Statement.{statement}
 use Rattle.step.proofs.half_power.Tie as tie
@@ -12,15 +16,15 @@ sub-result c = search needs
 cast-result : tie.Need-cast-result
 cast-result c = search needs
 
-mul-result : tie.Need-mul-result
-mul-result c = search needs
-
-array-read-result : tie.Need-array-read-result
-array-read-result c = search needs
+shl-result : tie.Need-shl-result
+shl-result c = search needs
 
 returns : tie.Need-returns
-unfolding halfPowers
-returns c = power-entry (c .before .pre)
+unfolding halfPowerOf
+returns c =
+    let p = halfPowerOf (c .before .args .c) in
+    let e : 1 * p ≡ p = one-mul p in
+    mod-eq-of-lt (omega (arith, power-bounds (c .before .pre))) ∙ e
 
 pub half-power-spec : {M : Type 1} → statement M
-half-power-spec = tie.close (tie.spec sub-result cast-result mul-result array-read-result returns)
+half-power-spec = tie.close (tie.spec sub-result cast-result shl-result returns)
