@@ -89,15 +89,15 @@ LOWER, OVER_LT, OVER_LS = "lower end", "rho*Ki*IG/LT", "rho*Ki*IG/LS"
 QUANTITIES = (
     Quantity("tolerable_touch", 1000, Fraction(1, 10000), LOWER, 10),
     Quantity("tolerable_step", 1000, Fraction(1, 10000), LOWER, 10),
-    Quantity("mesh", 1000, Fraction(1, 10000), OVER_LT, 10),
-    Quantity("step", 1000, Fraction(1, 10000), OVER_LS, 10),
+    Quantity("mesh", 1000, Fraction(1, 100000), OVER_LT, 10),
+    Quantity("step", 1000, Fraction(1, 100000), OVER_LS, 10),
     Quantity("resistance", 10**6, Fraction(1, 10000), LOWER, 2),
     Quantity("rise", 1000, Fraction(1, 2000), LOWER, 10),
 )
 FIRST_PAIR = 5  # place in the row of the first pair's lower end
 
 LN_UNITS = 10**9  # the logarithm is told in billionths
-LN_WIDTH = 2000
+LN_WIDTH = 200
 LN_MAX = 10**15
 
 MIN_DEPTH = 3

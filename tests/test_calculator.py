@@ -584,7 +584,7 @@ class Judging(unittest.TestCase):
         lower = [row[i] for i in range(5, 17, 2)]
         wanted = (
             Fraction(lower[0], 10000) + 10, Fraction(lower[1], 10000) + 10,
-            driving / 1540 * 1000 / 10000 + 10, driving / (Fraction(3, 4) * 1540) * 1000 / 10000 + 10,
+            driving / 1540 / 100 + 10, driving / (Fraction(3, 4) * 1540) / 100 + 10,
             Fraction(lower[4], 10000) + 2, Fraction(lower[5], 2000) + 10,
         )
         self.assertEqual(calc.allowed_widths(YARD, row), wanted)
@@ -669,9 +669,9 @@ class Judging(unittest.TestCase):
         # ln(22/7) = 1.14513230430300291...
         self.assertEqual(calc.judge_ln(22, 7, 1145132304, 1145132305, DEPTHS), [])
         self.assertEqual(calc.judge_ln(7, 22, -1145132305, -1145132304, DEPTHS), [])
-        self.assertEqual(calc.judge_ln(22, 7, 1145132304, 1145134304, DEPTHS), [])
+        self.assertEqual(calc.judge_ln(22, 7, 1145132304, 1145132504, DEPTHS), [])
         self.assertEqual(calc.judge_ln(1, 1, 0, 0, DEPTHS), [])
-        for lower, upper in ((1145132304, 1145134305), (1145132305, 1145132306),
+        for lower, upper in ((1145132304, 1145132505), (1145132305, 1145132306),
                              (1145132303, 1145132304), (1145132305, 1145132304)):
             self.assertNotEqual(calc.judge_ln(22, 7, lower, upper, DEPTHS), [])
         self.assertRaises(ValueError, calc.judge_ln, 0, 1, 0, 0, DEPTHS)

@@ -1,4 +1,4 @@
--- Every width of document 01, 'What exact means', worked by hand on its sample yard, and on that yard with twenty rods of 7.5 m along the
+-- Every width of document 01, 'What exact means', as changed by request (j), worked by hand on its sample yard, and on that yard with twenty rods of 7.5 m along the
 -- perimeter: a width made wider or narrower is refused here.
 -- Assumes nothing.
 use Prim.Native.Nat.{ℕ, _+_, _-_}
@@ -47,13 +47,13 @@ widths =
     ∷ worked (resistanceWidth (reported μΩ (from 2776000))) (decimal 2796 7)
     -- 1/2,000 of 5296.608 V, and 10 mV
     ∷ worked (riseWidth (reported mV (from 5296608))) (decimal 2658304 6)
-    -- 1/10,000 of 400·2.272·1908/1540, and 10 mV
-    ∷ worked (meshWidth sample) (whole 18879904 ÷f whole 154000000)
-    -- 1/10,000 of 400·2.272·1908/1155, and 10 mV
-    ∷ worked (stepWidth sample) (whole 18494904 ÷f whole 115500000)
+    -- 1/100,000 of 400·2.272·1908/1540, and 10 mV
+    ∷ worked (meshWidth sample) (whole 32739904 ÷f whole 1540000000)
+    -- 1/100,000 of 400·2.272·1908/1155, and 10 mV
+    ∷ worked (stepWidth sample) (whole 28889904 ÷f whole 1155000000)
     -- with rods: over 1690 and over 1282.5
-    ∷ worked (meshWidth rodded) (whole 19029904 ÷f whole 169000000)
-    ∷ worked (stepWidth rodded) (whole 18622404 ÷f whole 128250000)
+    ∷ worked (meshWidth rodded) (whole 34239904 ÷f whole 1690000000)
+    ∷ worked (stepWidth rodded) (whole 30164904 ÷f whole 1282500000)
     ∷ []
 
 as-worked : Every (λ w. w .width ≈f w .number) widths

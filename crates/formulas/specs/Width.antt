@@ -1,4 +1,4 @@
--- How far apart the two ends of a reported pair may be. Document 01, 'What exact means'.
+-- How far apart the two ends of a reported pair may be. Document 01, 'What exact means', and request (j) of document 02.
 -- Assumes nothing.
 use Rattle.exact.specs.Fraction.{Fraction, whole, decimal, _+f_, _·f_, _÷f_}
 use Rattle.exact.specs.Ends.{Ends}
@@ -34,10 +34,10 @@ referenceKi c = decimal 644 3 +f decimal 148 3 ·f whole (c .lines)
 unfoldable pub referenceCurrent : Case → Fraction
 referenceCurrent c = decimal (gridCurrent c) 6
 
--- "Mesh: 1/10,000 of ρ·Ki·IG/LT plus 10 mV."
+-- request (j): "mesh and step ends at most 1/100,000 of their reference voltage plus 10 mV", for mesh ρ·Ki·IG/LT
 unfoldable pub meshWidth : Case → Fraction
-meshWidth c = decimal 1 4 ·f (ρ c ·f referenceKi c ·f referenceCurrent c ÷f LT c) +f decimal 10 3
+meshWidth c = decimal 1 5 ·f (ρ c ·f referenceKi c ·f referenceCurrent c ÷f LT c) +f decimal 10 3
 
--- "Step: 1/10,000 of ρ·Ki·IG/LS plus 10 mV."
+-- for step ρ·Ki·IG/LS
 unfoldable pub stepWidth : Case → Fraction
-stepWidth c = decimal 1 4 ·f (ρ c ·f referenceKi c ·f referenceCurrent c ÷f LS c) +f decimal 10 3
+stepWidth c = decimal 1 5 ·f (ρ c ·f referenceKi c ·f referenceCurrent c ÷f LS c) +f decimal 10 3

@@ -15,7 +15,7 @@ use Rattle.logarithm.specs.Ends.{most, Inside, lnEnds}
 use Rattle.logarithm.specs.Asked.{width, inside}
 use Rattle.logarithm.proofs.LnEnds.{ln-holds, ln-ordered, ln-narrow}
 
-narrow-width : (i : Interval) → Narrow i 2000 → AtMost width (reported (ten 9) i)
+narrow-width : (i : Interval) → Narrow i 200 → AtMost width (reported (ten 9) i)
 unfolding reported over ten decimal width _+f_ neg _−f_
 narrow-width i h = record { apart = record { le = omega (arith, h .narrow) } }
 

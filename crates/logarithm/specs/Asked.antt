@@ -13,9 +13,9 @@ use Rattle.interval.specs.declared.Pair.{Pair}
 use Rattle.interval.specs.declared.Pair.the-variants.{Ends, Refused}
 use Rattle.logarithm.specs.Ends.{most, lnEnds}
 
--- "at most 2,000 apart": 2,000 billionths
+-- request (j) of document 02: "The logarithm's ends must be at most 200 billionths apart"
 unfoldable pub width : Fraction
-width = decimal 2000 9
+width = decimal 200 9
 
 unfoldable pub inside : ℕ → Bool
 inside n = leb 1 n && leb n most

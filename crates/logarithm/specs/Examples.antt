@@ -42,7 +42,7 @@ lower-outside : answerOf 1000000000000000 1000000000000001 ≡ Refused 5 0 2
 unfolding inside refused answerOf
 lower-outside = refl
 
--- "at most 2,000 apart": two millionths
-width-is : width ≈f decimal 2 6
+-- 200 billionths: two ten-millionths
+width-is : width ≈f decimal 2 7
 unfolding width decimal
 width-is = record { to = record { le = lit≤ tt }; fro = record { le = lit≤ tt } }

@@ -103,10 +103,9 @@ apart-volts : (n t m M : ℕ) (p : 0 < t) → 100000000 * t * M ≤ 100000000 * 
 unfolding perLength mV ten over decimal _·f_ _+f_ _−f_ neg
 apart-volts n t m M p h = record { le = omega (arith, h) }
 
--- 1/100,000 of ρ·Ki·IG/LT plus 10 mV
-pub mesh-close : {c : Case} → Bounds c → AtMost (decimal 1 5 ·f (ρ c ·f referenceKi c ·f referenceCurrent c ÷f LT c) +f decimal 10 3) (reported mV (meshEnds c))
-unfolding reported natural
-mesh-close {c} b =
+pub mesh-narrow : {c : Case} → Bounds c → AtMost (meshWidth c) (reported mV (meshEnds c))
+unfolding meshWidth reported natural
+mesh-narrow {c} b =
     let a = mesh-apart b in
     let p : 0 < totalLength c = omega (arith, total-bounds b .low) in
     let same = trans≈ (perLength-is (driveOf c) (totalLength c) p) (sym≈ (cong÷ (LT-pos b) (reference-is c) (total-is c))) in
@@ -116,9 +115,3 @@ mesh-close {c} b =
           trans≤ (apart-volts (driveOf c) (totalLength c) (a .m) (a .M) p (a .near))
           (mono+ (mul-left≤ (decimal-nonneg 1 5) (same .to)) (refl≤ (decimal 10 3)));
     })
-
-pub mesh-narrow : {c : Case} → Bounds c → AtMost (meshWidth c) (reported mV (meshEnds c))
-unfolding meshWidth decimal _÷f_
-mesh-narrow {c} b =
-    let share = trans≤ (mul-nonneg (decimal-nonneg (driveOf c) 9) (inv-nonneg (LT c))) (mul≤ (inv-nonneg (LT c)) (reference-is c .fro)) in
-    record { apart = trans≤ (mesh-close b .apart) (mono+ (mul≤ share (record { le = lit≤ tt })) (refl≤ (decimal 10 3))) }

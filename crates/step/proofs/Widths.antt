@@ -1,4 +1,4 @@
--- The step voltage's ends are no further apart than document 01 allows: 1/10,000 of ρ·Ki·IG/LS plus 10 mV.
+-- The step voltage's ends are no further apart than allowed: 1/100,000 of ρ·Ki·IG/LS plus 10 mV.
 -- Assumes nothing.
 use Prim.Native.Nat.{ℕ, _+_, _*_, _^_, _≤_, _<_}
 use native.Mathlib.Omega.{arith}
