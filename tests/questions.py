@@ -19,7 +19,7 @@ FILE = Path(__file__).parents[1] / "crates" / "asked" / "stdin"
 MOST_BYTES = 262144  # what the program reads
 SEED, RANDOM_RECORDS = 1, 50
 
-RECORD_KINDS = ("factor", "size", "touch", "step", "resistance", "row")
+RECORD_KINDS = ("factor", "size", "tolerable", "resistance", "row")
 
 # A yard with a layer and with rods at its perimeter.
 YARD = Case(
@@ -97,7 +97,7 @@ def sizes():
 
 def tolerable():
     for (soil, layer, thick), kind, body, ms in product(
-            SURFACES, ("touch", "step", "row"), (50, 70), SURFACE_MS):
+            SURFACES, ("tolerable", "row"), (50, 70), SURFACE_MS):
         yield line(kind, YARD._replace(soil=soil, layer=layer, thick=thick, body=body, ms=ms))
 
 
@@ -163,8 +163,8 @@ def no_questions():
     """Lines that are broken: a kind that is none, too few or too many numbers, no number."""
     sound = line("factor", YARD)
     yield from ("", ",", "factor", "ln", "ln,", "ln,1", "ln,1,", "ln,1,2,3", "ln,1,2,", "ln,,1")
-    yield from (line(kind, YARD) for kind in ("", "ln", "factors", "facto", "Factor", "row ", "17"))
-    yield from (sound + ",1", sound + ",", sound[:-2], sound[:-1], "step,1,2")
+    yield from (line(kind, YARD) for kind in ("", "ln", "factors", "facto", "Factor", "row ", "17", "touch", "step"))
+    yield from (sound + ",1", sound + ",", sound[:-2], sound[:-1], "tolerable,1,2")
     yield from (f"ln,{number},1" for number in (2**64, 10**19 * 2, 10**40, "-1", "+1", "1.0", "x"))
 
 

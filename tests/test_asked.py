@@ -19,11 +19,11 @@ STDOUT = questions.FILE.with_name("stdout")
 DEPTHS = (3, 6, 9, 12)
 
 SETTLED = {"factor": calc.decrement_thousandths, "size": calc.conductor_kcmil}
-PAIRS = {"touch": "tolerable_touch", "step": "tolerable_step", "resistance": "resistance"}
+PAIRS = {"tolerable": ("tolerable_touch", "tolerable_step"), "resistance": ("resistance",)}
 COUNTS = {"ln": 2, **{kind: calc.COLUMN_COUNT for kind in RECORD_KINDS}}
 MOST_NUMBER = 2**64 - 1
 # The least count of different questions of each kind.
-LEAST = {"factor": 250, "size": 300, "touch": 200, "step": 200, "resistance": 250, "row": 350,
+LEAST = {"factor": 250, "size": 300, "tolerable": 200, "resistance": 250, "row": 350,
          "ln": 400}
 RESISTANCE_NAMES = ("soil", "lines", "space", "depth", "rods", "rodlen", "place")
 
@@ -57,11 +57,13 @@ def judge(kind, asked, answer):
         return [] if answer == (number,) else [f"{answer}, not {number}"]
     if kind == "row":
         return calc.judge_row(asked, answer, DEPTHS)
-    if len(answer) != 2:
-        return [f"{answer} is no pair"]
+    names = PAIRS.get(kind, (kind,))
+    if len(answer) != 2 * len(names):
+        return [f"{answer} is not {len(names)} pairs"]
     if kind == "ln":
         return calc.judge_ln(*asked, *answer, DEPTHS)
-    return judge_ends(PAIRS[kind], asked, answer)
+    pairs = zip(answer[::2], answer[1::2])
+    return [wrong for name, pair in zip(names, pairs) for wrong in judge_ends(name, asked, pair)]
 
 
 def judge_ends(name, case, pair):
@@ -145,14 +147,20 @@ class Judging(Asked):
 
     def test_a_changed_pair_is_wrong(self):
         for kind in (*PAIRS, "ln"):
-            for asked, (lower, upper) in list(self.answered(kind).items())[::7]:
-                width = upper - lower
-                for changed in ((upper + width + 3, upper + 2 * width + 6),
-                                (lower - width - 3, lower - 3),
-                                (upper + 1, lower), (lower - 10**6, upper + 10**6),
-                                (lower,), (lower, upper, upper)):
-                    self.assertTrue(judge(kind, asked, changed), f"{kind} {asked} {changed}")
+            for asked, answer in list(self.answered(kind).items())[::7]:
+                for at in range(0, len(answer), 2):
+                    lower, upper = answer[at : at + 2]
+                    width = upper - lower
+                    for pair in ((upper + width + 3, upper + 2 * width + 6),
+                                 (lower - width - 3, lower - 3),
+                                 (upper + 1, lower), (lower - 10**6, upper + 10**6),
+                                 (lower,), (lower, upper, upper)):
+                        changed = answer[:at] + pair + answer[at + 2 :]
+                        self.assertTrue(judge(kind, asked, changed), f"{kind} {asked} {changed}")
 
+    def test_touch_and_step_exchanged_are_wrong(self):
+        for asked, answer in list(self.answered("tolerable").items())[::7]:
+            self.assertTrue(judge("tolerable", asked, answer[2:] + answer[:2]))
 
     def test_a_changed_row_is_wrong(self):
         for case, row in list(self.answered("row").items())[::7]:
@@ -185,14 +193,22 @@ class Yards(Asked):
             (70, 1000): (180550, 251200),
         }
         for (body, ms), voltages in wanted.items():
-            for kind, voltage in zip(("touch", "step"), voltages):
-                pairs = [
-                    pair for case, pair in self.answered(kind).items()
-                    if (case.soil, case.layer, case.body, case.ms) == (100, 0, body, ms)
-                ]
-                self.assertTrue(pairs)
-                for lower, upper in pairs:
-                    self.assertTrue(lower <= voltage <= upper, f"{kind} {lower} {upper}")
+            told = [
+                answer for case, answer in self.answered("tolerable").items()
+                if (case.soil, case.layer, case.body, case.ms) == (100, 0, body, ms)
+            ]
+            self.assertTrue(told)
+            for touch_lower, touch_upper, step_lower, step_upper in told:
+                self.assertTrue(touch_lower <= voltages[0] <= touch_upper)
+                self.assertTrue(step_lower <= voltages[1] <= step_upper)
+
+    def test_the_four_numbers_are_those_in_the_row(self):
+        rows = self.answered("row")
+        both = [(answer, rows[case]) for case, answer in self.answered("tolerable").items()
+                if case in rows]
+        self.assertGreaterEqual(len(both), 100)
+        for answer, row in both:
+            self.assertEqual(answer, row[calc.FIRST_PAIR : calc.FIRST_PAIR + 4])
 
 
 class Coverage(Asked):
@@ -255,11 +271,9 @@ class Coverage(Asked):
             "thin": lambda case: case.thick == 20,
             "thick": lambda case: case.thick == 300,
         }
-        for kind, (what, test), body, ms in product(
-            ("touch", "step"), layers.items(), (50, 70), (9, 3000)
-        ):
+        for (what, test), body, ms in product(layers.items(), (50, 70), (9, 3000)):
             self.assertHas(
-                kind,
+                "tolerable",
                 lambda case: test(case) and (case.body, case.ms) == (body, ms),
                 f"{what}, {body} kg, {ms} ms",
             )

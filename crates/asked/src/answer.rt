@@ -5,6 +5,7 @@ use hocsimbur::Number;
 use hocsimbur::Pair;
 use hocsimbur::Row;
 use hocsimbur::RowAnswer;
+use hocsimbur::Tolerable;
 use print::bytes;
 use print::refused;
 use row::ROW_LENGTH;
@@ -36,6 +37,19 @@ pub fn ends(answer: Pair) {
     match answer {
         Pair::Ends(pair) => both(pair),
         Pair::Refused(why, line, column) => refused(why, line, column),
+    }
+}
+
+fn four(touch: Interval, step: Interval) {
+    let ends = [touch.lower, touch.upper, step.lower, step.upper];
+    listing::numbers(&ends);
+}
+
+// The ends of tolerable touch and step.
+pub fn voltages(answer: Tolerable) {
+    match answer {
+        Tolerable::Ends(touch, step) => four(touch, step),
+        Tolerable::Refused(why, line, column) => refused(why, line, column),
     }
 }
 

@@ -3,6 +3,7 @@ use crate::answer::ends;
 use crate::answer::numbers;
 use crate::answer::settled;
 use crate::answer::unknown;
+use crate::answer::voltages;
 use crate::fields::Numbers;
 use crate::fields::read;
 use crate::fields::record;
@@ -20,10 +21,8 @@ fn on_record(kind: &[u8], c: Case) {
         settled(hocsimbur::decrement_factor(c));
     } else if same(kind, b"size") {
         settled(hocsimbur::conductor_size(c));
-    } else if same(kind, b"touch") {
-        ends(hocsimbur::tolerable_touch(c));
-    } else if same(kind, b"step") {
-        ends(hocsimbur::tolerable_step(c));
+    } else if same(kind, b"tolerable") {
+        voltages(hocsimbur::touch_and_step(c));
     } else if same(kind, b"resistance") {
         ends(hocsimbur::resistance(c));
     } else if same(kind, b"row") {

@@ -1,5 +1,5 @@
 -- What is asked of one case as a record. Document 01, 'The result table': "Decrement factor (in thousandths), conductor size, tolerable touch,
--- tolerable step and resistance may each be asked alone, from a record, with the same checks."
+-- tolerable step and resistance may each be asked alone, from a record, with the same checks.", as changed by request (f) of document 02.
 -- Assumes nothing.
 use Prim.Native.Nat.{ℕ}
 use mathlib.Core.Path.{_≡_}
@@ -9,7 +9,7 @@ use Rattle.interval.specs.declared.Pair.the-variants as pair
 use Rattle.exact.specs.Fraction.{Fraction}
 use Rattle.exact.specs.Ends.{Ends}
 use Rattle.exact.specs.Exact.{Exact}
-use Rattle.exact.specs.Reported.{Scale}
+use Rattle.exact.specs.Reported.{Scale, Reports}
 use Rattle.exact.specs.Answered.{RightPair}
 use Rattle.case.specs.declared.Case.{Case}
 use Rattle.case.specs.Check.{recordJudged, recordAnswer}
@@ -24,6 +24,8 @@ use Rattle.row.specs.Row.{RightRow}
 use Rattle.row.specs.Ends.{rowOf}
 use Rattle.hocsimbur.specs.declared.Number.{Number}
 use Rattle.hocsimbur.specs.declared.Number.the-variants as number
+use Rattle.hocsimbur.specs.declared.Tolerable.{Tolerable}
+use Rattle.hocsimbur.specs.declared.Tolerable.the-variants as tolerable
 use Rattle.hocsimbur.specs.declared.RowAnswer.{RowAnswer}
 use Rattle.hocsimbur.specs.declared.RowAnswer.the-variants as row
 
@@ -47,14 +49,31 @@ pub record PairAnswered (x : Exact) (u : Scale) (width : Ends → Fraction) (end
   pub answer : r ≡ pairAnswer ends c
   pub right : RightPair x u width r
 
-abbrev pub TouchAnswered : Case → Pair → Type 0
-TouchAnswered c = PairAnswered (tolerableTouch c) mV tolerableWidth touchEnds c
-
-abbrev pub StepAnswered : Case → Pair → Type 0
-StepAnswered c = PairAnswered (tolerableStep c) mV tolerableWidth stepEnds c
-
 abbrev pub ResistanceAnswered : Case → Pair → Type 0
 ResistanceAnswered c = PairAnswered (R.resistance c) μΩ resistanceWidth resistanceEnds c
+
+-- ---- request (f): "The two separate questions are merged into one that gives both pairs of ends from one root."
+
+-- two pairs, touch first, or refusal 5 or 6 with line 0
+unfoldable pub tolerableAnswer : Case → Tolerable
+tolerableAnswer c = recordAnswer tolerable.Refused (tolerable.Ends (touchEnds c) (stepEnds c)) (recordJudged c)
+
+-- "Its four numbers, touch first, are those in the case's row", and each pair reports its exact value
+pub record RightVoltages (c : Case) (touch step : Interval) : Type 0 where
+  pub touch-in-row : touch ≡ rowOf c .«tolerable_touch»
+  pub step-in-row : step ≡ rowOf c .«tolerable_step»
+  pub touch-right : Reports (tolerableTouch c) mV tolerableWidth touch
+  pub step-right : Reports (tolerableStep c) mV tolerableWidth step
+
+unfoldable pub RightTolerable : Case → Tolerable → Type 0
+RightTolerable c (tolerable.Ends touch step) = RightVoltages c touch step
+RightTolerable c (tolerable.Refused number line column) = Unit {0}
+
+-- the answer by the names of its ends, and what holds of them. Two wrong programs: one that gives step first breaks `answer`; one that weighs
+-- both as touch, by those names, breaks `right`.
+pub record TolerableAnswered (c : Case) (r : Tolerable) : Type 0 where
+  pub answer : r ≡ tolerableAnswer c
+  pub right : RightTolerable c r
 
 -- a row, or refusal 5 or 6 with line 0
 unfoldable pub rowAnswer : Case → RowAnswer

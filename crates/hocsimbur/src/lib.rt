@@ -6,7 +6,7 @@ use case::judge;
 pub use interval::Interval;
 pub use interval::Pair;
 ghost use mathlib.Core.Path.{_≡_};
-ghost use Rattle.hocsimbur.specs.Asked.{factorAnswer, sizeAnswer, TouchAnswered, StepAnswered, ResistanceAnswered, RowAnswered};
+ghost use Rattle.hocsimbur.specs.Asked.{factorAnswer, sizeAnswer, TolerableAnswered, ResistanceAnswered, RowAnswered};
 pub use logarithm::logarithm;
 pub use row::Row;
 pub use sheet::Answer;
@@ -15,6 +15,12 @@ pub use sheet::sheet;
 // A number that the rules settle, or a refusal with number, line and column.
 pub enum Number {
     Is(u64),
+    Refused(u32, usize, usize),
+}
+
+// The ends of the tolerable voltages, touch first, or a refusal with number, line and column.
+pub enum Tolerable {
+    Ends(Interval, Interval),
     Refused(u32, usize, usize),
 }
 
@@ -44,23 +50,18 @@ pub fn conductor_size(c: Case) -> Number
     }
 }
 
-// The ends of the tolerable touch voltage in mV.
-pub fn tolerable_touch(c: Case) -> Pair
-    ensures { λ r. ⌜ TouchAnswered c r ⌝ }
+// The ends of the tolerable touch and step voltage in mV.
+pub fn touch_and_step(c: Case) -> Tolerable
+    ensures { λ r. ⌜ TolerableAnswered c r ⌝ }
 {
     match judge(c) {
-        Judged::Sound => Pair::Ends(tolerable::tolerable_touch(c)),
-        Judged::Refused(number, line, column) => Pair::Refused(number, line, column),
-    }
-}
-
-// The ends of the tolerable step voltage in mV.
-pub fn tolerable_step(c: Case) -> Pair
-    ensures { λ r. ⌜ StepAnswered c r ⌝ }
-{
-    match judge(c) {
-        Judged::Sound => Pair::Ends(tolerable::tolerable_step(c)),
-        Judged::Refused(number, line, column) => Pair::Refused(number, line, column),
+        Judged::Sound => {
+            let limits = tolerable::touch_and_step(c);
+            let touch = limits.touch;
+            let step = limits.step;
+            Tolerable::Ends(touch, step)
+        }
+        Judged::Refused(number, line, column) => Tolerable::Refused(number, line, column),
     }
 }
 

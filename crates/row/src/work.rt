@@ -29,8 +29,9 @@ pub fn work_row(c: Case) -> Row
     requires { ⌜ Bounds c ⌝ }
     ensures { λ r. ⌜ r ≡ rowOf c ⌝ }
 {
-    let touch = tolerable::tolerable_touch(c);
-    let limit = tolerable::tolerable_step(c);
+    let limits = tolerable::touch_and_step(c);
+    let touch = limits.touch;
+    let limit = limits.step;
     let mesh = mesh::mesh_voltage(c);
     let step = step::step_voltage(c);
     Row {

@@ -8,6 +8,7 @@ use Rattle.interval.specs.declared.Interval.{Interval}
 use Rattle.interval.specs.Operations.{point, sumOf, differenceOf, outwardOf, scaledOf, quotientOf}
 use Rattle.enclosure.specs.SquareRoot.{rootPair}
 use Rattle.case.specs.declared.Case.{Case}
+use Rattle.tolerable.specs.declared.TouchAndStep.{TouchAndStep}
 
 module _ (c : Case) where
   -- Q with a layer, in 10^−3 ohm metres
@@ -41,3 +42,6 @@ module _ (c : Case) where
 
   unfoldable pub stepEnds : Interval
   stepEnds = tolerableEnds 12
+
+  unfoldable pub touchAndStep : TouchAndStep
+  touchAndStep = record { touch = touchEnds; step = stepEnds }

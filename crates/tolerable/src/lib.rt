@@ -2,10 +2,16 @@
 ghost use mathlib.Core.Path.{_≡_};
 ghost use Prim.Native.Nat.{_≤_};
 ghost use Rattle.case.specs.Bounds.{Bounds};
-ghost use Rattle.tolerable.specs.Ends.{layered as layeredEnds, layerEnds, bodyFactor, timeRoot, topEnds, tolerableEnds, touchEnds, stepEnds};
+ghost use Rattle.tolerable.specs.Ends.{layered as layeredEnds, layerEnds, bodyFactor, timeRoot, topEnds, tolerableEnds, touchAndStep};
 use case::Case;
 use interval::Interval;
 use interval::root::root_ends;
+
+// The ends of the tolerable voltages.
+pub struct TouchAndStep {
+    pub touch: Interval,
+    pub step: Interval,
+}
 
 // Q with a surface layer: the difference of layer and soil is signed, and its share is rounded outward.
 fn layered(c: Case) -> Interval
@@ -58,26 +64,24 @@ fn top(c: Case, weight: u64) -> Interval
     Interval::point(2000000).sum(effect).scaled(body_factor(c))
 }
 
-fn tolerable(c: Case, weight: u64) -> Interval
+// That over √t, in mV.
+fn over_root(c: Case, weight: u64, root: Interval) -> Interval
     requires { ⌜ Bounds c ⌝ }
     requires { ⌜ weight ≤ 12 ⌝ }
+    requires { ⌜ root ≡ timeRoot c ⌝ }
     ensures { λ r. ⌜ r ≡ tolerableEnds c weight ⌝ }
 {
-    top(c, weight).quotient(time_root(c), 50000)
+    top(c, weight).quotient(root, 50000)
 }
 
-// Tolerable touch voltage in mV.
-pub fn tolerable_touch(c: Case) -> Interval
+// Tolerable touch and step voltage in mV, from one root.
+pub fn touch_and_step(c: Case) -> TouchAndStep
     requires { ⌜ Bounds c ⌝ }
-    ensures { λ r. ⌜ r ≡ touchEnds c ⌝ }
+    ensures { λ r. ⌜ r ≡ touchAndStep c ⌝ }
 {
-    tolerable(c, 3)
-}
-
-// Tolerable step voltage in mV.
-pub fn tolerable_step(c: Case) -> Interval
-    requires { ⌜ Bounds c ⌝ }
-    ensures { λ r. ⌜ r ≡ stepEnds c ⌝ }
-{
-    tolerable(c, 12)
+    let root = time_root(c);
+    TouchAndStep {
+        touch: over_root(c, 3, root),
+        step: over_root(c, 12, root),
+    }
 }

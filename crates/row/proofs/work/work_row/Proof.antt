@@ -5,6 +5,7 @@ use native.Mathlib.Omega.{arith}
 use mir.Syntax.{w64}
 use mir.Val.{SFits}
 use mir.Facts.{toZ-ofZ, toZ-pos}
+use Rattle.tolerable.specs.Ends.{touchAndStep}
 use Rattle.row.specs.Ends.{caseVerdict, rowOf}
 use borrow.Author.Needs.{needs}
 use Rattle.row.proofs.work.work_row.Statement.{statement}
@@ -16,11 +17,8 @@ size-held c = search needs
 current-held : (c : tie.After-current-number) → SFits w64 (c .current-number .result)
 current-held c = search needs
 
-tolerable-touch-requires : tie.Need-tolerable-touch-requires
-tolerable-touch-requires c κs = search needs
-
-tolerable-step-requires : tie.Need-tolerable-step-requires
-tolerable-step-requires c κs = search needs
+touch-and-step-requires : tie.Need-touch-and-step-requires
+touch-and-step-requires c κs = search needs
 
 mesh-voltage-requires : tie.Need-mesh-voltage-requires
 mesh-voltage-requires c κs = search needs
@@ -28,11 +26,11 @@ mesh-voltage-requires c κs = search needs
 step-voltage-requires : tie.Need-step-voltage-requires
 step-voltage-requires c κs = search needs
 
-cast-t6 : tie.Need-cast-t6
-cast-t6 c = search needs
-
 cast-t7 : tie.Need-cast-t7
 cast-t7 c = search needs
+
+cast-t8 : tie.Need-cast-t8
+cast-t8 c = search needs
 
 verdict-of-requires : tie.Need-verdict-of-requires
 verdict-of-requires c κs = search needs
@@ -50,7 +48,7 @@ potential-rise-requires : tie.Need-potential-rise-requires
 potential-rise-requires c κs = search needs
 
 returns : tie.Need-returns
-unfolding rowOf caseVerdict
+unfolding rowOf caseVerdict touchAndStep
 returns c =
     let p = c .before in
     let q = p .before in
@@ -58,23 +56,21 @@ returns c =
     let o = z .before in
     let m = o .before .before .before in
     let k = m .before in
-    let h = k .before in
-    let g = h .before in
-    let s = g .before in
+    let t = k .before .before .before in
+    let s = t .before in
     let f = size-held z in
     let i = current-held q in
-    rw (toZ-pos w64 {n = s .args .c .station} (omega arith), toZ-pos w64 {n = s .args .c .season} (omega arith), toZ-ofZ f, toZ-ofZ i, c .potential-rise .ensures, p .resistance .ensures, q .current-number .ensures, z .size-number .ensures, o .verdict-of .ensures, m .step-voltage .ensures, k .mesh-voltage .ensures, h .tolerable-step .ensures, g .tolerable-touch .ensures)
+    rw (toZ-pos w64 {n = s .args .c .station} (omega arith), toZ-pos w64 {n = s .args .c .season} (omega arith), toZ-ofZ f, toZ-ofZ i, c .potential-rise .ensures, p .resistance .ensures, q .current-number .ensures, z .size-number .ensures, o .verdict-of .ensures, m .step-voltage .ensures, k .mesh-voltage .ensures, t .touch-and-step .ensures)
 
 pub work-row-spec : {M : Type 1} → statement M
 work-row-spec =
     tie.close
     (tie.spec
-    tolerable-touch-requires
-    tolerable-step-requires
+    touch-and-step-requires
     mesh-voltage-requires
     step-voltage-requires
-    cast-t6
     cast-t7
+    cast-t8
     verdict-of-requires
     size-number-requires
     current-number-requires
