@@ -1,7 +1,8 @@
 """A separately written calculator for sheets of square ground grids.
 
-It follows document 01 (Square Ground Grids: Seasonal Sheets and Voltage Ends)
-sentence by sentence, in exact fractions, and judges reported rows against it.
+It follows document 01 (Square Ground Grids: Seasonal Sheets and Voltage Ends),
+as the requests of document 02 that have landed change it, sentence by sentence,
+in exact fractions, and judges reported rows against it.
 
     python3 tests/calculator.py [--depth K] [--table N] < sheet
 """
@@ -15,7 +16,7 @@ from fractions import Fraction
 from functools import lru_cache
 
 # --------------------------------------------------------------------------
-# Every limit, name, range and constant of document 01, in one place.
+# Every limit, name, range and constant of the documents, in one place.
 # --------------------------------------------------------------------------
 
 LINE_END = b"\n"
@@ -32,7 +33,9 @@ COLUMNS = (
     ("soil", ((10, 5000),)),
     ("layer", ((0, 0), (100, 10000))),
     ("thick", ((0, 0), (20, 300))),
-    ("ms", ((9, 3000),)),
+    ("shock", ((9, 3000),)),
+    ("clear", ((9, 3000),)),
+    ("wire", ((9, 3000),)),
     ("body", ((50, 50), (70, 70))),
     ("fault", ((100, 80000),)),
     ("split", ((1, 1000),)),
@@ -50,6 +53,9 @@ NAMES = tuple(name for name, _ in COLUMNS)
 NAME_BYTES = tuple(name.encode("ascii") for name in NAMES)
 RANGES = tuple(spans for _, spans in COLUMNS)
 COLUMN_COUNT = len(COLUMNS)
+
+# The shock time, the fault's clearing time and the back-up clearing time for the wire.
+CLOCKS = ("shock", "clear", "wire")
 
 # Groups whose members are all 0 or all not 0; the first one's column is told,
 # and the first group comes before the second.
@@ -107,6 +113,11 @@ SHOWN_DECIMALS = 6
 Case = namedtuple("Case", NAMES)
 Refusal = namedtuple("Refusal", "number line column")
 Ends = namedtuple("Ends", [quantity.name for quantity in QUANTITIES])
+
+
+def with_one_time(case, ms):
+    """A case of document 01, whose one time each clock gets."""
+    return case._replace(**dict.fromkeys(CLOCKS, ms))
 
 
 # --------------------------------------------------------------------------
@@ -287,7 +298,7 @@ def ln_ends(p, q, k):
 # --------------------------------------------------------------------------
 
 def read_sheet(sheet, table_length=None):
-    """A refusal, or the cases of a sheet (18 numbers each, document order).
+    """A refusal, or the cases of a sheet (each a record, in document order).
 
     table_length counts the numbers of the caller's table; None is enough.
     "The order is 1, 2, 4; then line by line 3, 5, 6, 7; then 8."
@@ -307,7 +318,7 @@ def read_sheet(sheet, table_length=None):
 
 def check_names(names):
     """Refusal 2: the leftmost unknown or repeated name, else the first missing
-    column.  A 19th name after 18 good ones is always unknown or repeated.
+    column.  A name after all good ones is always unknown or repeated.
     """
     for column, name in enumerate(names, start=1):
         if name not in NAME_BYTES or name in names[: column - 1]:
@@ -347,7 +358,7 @@ def read_value_lines(names, value_lines):
 
 
 def wrong_form_column(fields):
-    """Refusal 3: the leftmost wrong, missing or 19th value, or 0.
+    """Refusal 3: the leftmost wrong, missing or surplus value, or 0.
 
     An empty line parts into one empty field, "an empty value in column 1".
     """
@@ -388,7 +399,7 @@ def check_case(case, line, order):
 
 
 def check_record(numbers):
-    """A case asked as a record of 18 numbers: a refusal 5 or 6, or None.
+    """A case asked as a record: a refusal 5 or 6, or None.
 
     Its line is 0 and its column the place in the table of names.
     """
@@ -406,11 +417,11 @@ def is_short(table_length, rows):
 
 def decrement_thousandths(case):
     """Df: "the row is the longest duration not above t, the column the
-    smallest X/R not below xr; from 500 ms on Df is 1.000".
+    smallest X/R not below xr; from 500 ms on Df is 1.000"; t is the clear time.
     """
-    if case.ms >= DECREMENT_ONE_FROM_MS:
+    if case.clear >= DECREMENT_ONE_FROM_MS:
         return DECREMENT_ONE
-    entries = max(row for row in DECREMENT_ROWS if row[0] <= case.ms)[1]
+    entries = max(row for row in DECREMENT_ROWS if row[0] <= case.clear)[1]
     return entries[next(i for i, xr in enumerate(DECREMENT_XR) if xr >= case.xr)]
 
 
@@ -420,10 +431,13 @@ def grid_current_microamperes(case):
 
 
 def size_squared(case):
-    """The square of I * Kf * sqrt(t), with I = fault * Df in kA."""
+    """The square of I * Kf * sqrt(t), with I = fault * Df in kA.
+
+    "conductor size uses wire with the factor from clear".
+    """
     kiloamperes = Fraction(case.fault * decrement_thousandths(case), 10**6)
     factor = Fraction(METAL_KF[case.metal], 100)
-    return (kiloamperes * factor) ** 2 * seconds(case.ms)
+    return (kiloamperes * factor) ** 2 * seconds(case.wire)
 
 
 def conductor_kcmil(case):
@@ -493,9 +507,9 @@ def surface_effect(case):
     return case.layer - edge * difference / (2 * metres(case.thick) + edge)
 
 
-def tolerable_ends(weight, effect, body, ms, k):
-    """(1000 + weight * Q) * k / sqrt(t)."""
-    return (1000 + weight * effect) * BODY_K[body] / root_ends(seconds(ms), 2, k)
+def tolerable_ends(weight, effect, body, shock, k):
+    """(1000 + weight * Q) * k / sqrt(t), with t the shock time."""
+    return (1000 + weight * effect) * BODY_K[body] / root_ends(seconds(shock), 2, k)
 
 
 def mesh_argument(case):
@@ -574,8 +588,8 @@ def exact_ends(case, k):
     effect = surface_effect(case)
     resistance = resistance_ends(case, k)
     return Ends(
-        tolerable_ends(TOUCH_WEIGHT, effect, case.body, case.ms, k),
-        tolerable_ends(STEP_WEIGHT, effect, case.body, case.ms, k),
+        tolerable_ends(TOUCH_WEIGHT, effect, case.body, case.shock, k),
+        tolerable_ends(STEP_WEIGHT, effect, case.body, case.shock, k),
         mesh_ends(case, k),
         step_ends(case, k),
         resistance,

@@ -24,9 +24,10 @@ DEEP_EVERY = 20  # one row in so many is judged at the deeper, dearer depths too
 RUN_SECONDS = 10
 HEADER_NAMES = list(calc.NAMES)
 LIMIT_DEPTH = 9
+OLD_NAME = "ms"  # of document 01, in the place of the three clocks
 
 # The stored batch.
-BATCH_SEED, BATCH_COUNT = 33, 150
+BATCH_SEED, BATCH_COUNT = 35, 150
 BATCH_END = b"\0"
 BATCH_SHORT, BATCH_LONG, BATCH_LONGS = 2000, 16386, 5
 BATCH_FILE = Path(__file__).parents[1] / "crates" / "batch" / "stdin"
@@ -149,7 +150,17 @@ def fewer_names(sheet, rng):
     del sheet.names[rng.randrange(len(sheet.names)):]
 
 
-def nineteen_names(sheet, rng):
+def old_names(sheet, rng):
+    """A sheet of document 01's own names: one time where the three clocks are."""
+    kept, *dropped = rng.sample(calc.CLOCKS, len(calc.CLOCKS))
+    for name in dropped:
+        at = sheet.names.index(name)
+        for fields in (sheet.names, *sheet.lines):
+            del fields[at]
+    sheet.names[sheet.names.index(kept)] = OLD_NAME
+
+
+def surplus_name(sheet, rng):
     sheet.names.append(rng.choice(("", "soil", "extra", sheet.names[0])))
 
 
@@ -221,8 +232,8 @@ def several(sheet, rng):
 
 
 FIELD_DAMAGES = (
-    nothing, at_the_limit, unknown_name, repeated_name, fewer_names, nineteen_names, wrong_form,
-    too_few_values, too_many_values, empty_line, no_value_line, many_lines, out_of_range,
+    nothing, at_the_limit, unknown_name, repeated_name, fewer_names, old_names, surplus_name,
+    wrong_form, too_few_values, too_many_values, empty_line, no_value_line, many_lines, out_of_range,
     disagreement, repeated_key, several,
 )
 
@@ -248,7 +259,8 @@ def byte_order_mark(text, rng):
 
 
 def only_one_byte_value(text, rng):
-    return rng.choice((b",", b"\n", b"0", b"\xff", b"\0")) * rng.choice((1, 2, 17, 18, 65, 66, 300))
+    counts = (1, 2, calc.COLUMN_COUNT - 1, calc.COLUMN_COUNT, 65, 66, 300)
+    return rng.choice((b",", b"\n", b"0", b"\xff", b"\0")) * rng.choice(counts)
 
 
 def near_the_most_bytes(text, rng):

@@ -52,7 +52,7 @@ def read_row(fields):
 
 
 def read_rows(text):
-    """What the program `rows` printed: a refusal, or the rows, each a list of 17 numbers."""
+    """What the program `rows` printed: a refusal, or the rows, each a list of its numbers."""
     return read_answer(text, ROW_NAMES, read_row)
 
 

@@ -23,14 +23,15 @@ RECORD_KINDS = ("factor", "size", "tolerable", "resistance", "row")
 
 # A yard with a layer and with rods at its perimeter.
 YARD = Case(
-    station=7, season=1, soil=400, layer=2500, thick=102, ms=500, body=70, fault=3180, split=600,
-    xr=10, lines=11, space=7000, depth=500, dia=100, rods=20, rodlen=7500, place=1, metal=1)
+    station=7, season=1, soil=400, layer=2500, thick=102, shock=500, clear=500, wire=500,
+    body=70, fault=3180, split=600, xr=10, lines=11, space=7000, depth=500, dia=100, rods=20,
+    rodlen=7500, place=1, metal=1)
 
 # Both sides of each edge of Table 10.
-FACTOR_MS = (8, 9, 49, 50, 99, 100, 199, 200, 299, 300, 399, 400, 499, 500, 3000, 3001)
+FACTOR_CLEAR = (8, 9, 49, 50, 99, 100, 199, 200, 299, 300, 399, 400, 499, 500, 3000, 3001)
 FACTOR_XR = (0, 1, 10, 11, 20, 21, 30, 31, 40, 41)
 
-# A metal, ms and X/R, and the current above which the conductor is one kcmil larger.
+# A metal, its one time and X/R, and the current above which the conductor is one kcmil larger.
 SIZE_EDGES = (
     (1, 1000, 10, 1000), (1, 2560, 10, 79375), (1, 50, 20, 60735), (1, 99, 40, 8690),
     (2, 2560, 10, 31250), (2, 2560, 10, 62500), (2, 50, 10, 66841), (2, 99, 20, 67296),
@@ -45,12 +46,42 @@ SIZE_EDGES = (
     (11, 2560, 10, 12500), (11, 2560, 10, 75000), (11, 250, 40, 40787), (11, 99, 40, 58431),
 )
 
+# The same with a clear and a wire time that differ.
+SIZE_EDGES_APART = (
+    (1, 9, 2560, 40, 78125), (1, 50, 1000, 10, 62500), (2, 9, 90, 40, 4755),
+    (2, 50, 9, 20, 53091), (3, 300, 1000, 20, 49369), (3, 100, 999, 10, 71041),
+    (4, 300, 2250, 20, 71322), (4, 9, 40, 10, 20341), (5, 400, 999, 10, 8031),
+    (5, 300, 90, 20, 78206), (6, 100, 2560, 10, 62500), (6, 400, 1000, 30, 45974),
+    (7, 300, 250, 20, 7369), (7, 400, 999, 30, 75224), (8, 400, 3000, 30, 50203),
+    (8, 9, 90, 30, 64820), (9, 9, 1000, 30, 62500), (9, 100, 40, 10, 62500),
+    (10, 100, 1000, 10, 50000), (10, 200, 2560, 20, 31250), (11, 50, 40, 10, 40787),
+    (11, 100, 90, 20, 40787),
+)
+SIZE_MS = (9, 50, 250, 499, 1000, 3000)
+
+# Document 01's yards, with one time: size by metal, current and time; factor by time and X/R.
+WORKED_SIZES = (
+    (1, 20000, 3000), (4, 20000, 3000), (8, 20000, 3000), (1, 1000, 1000), (1, 1001, 1000),
+    (5, 1000, 1000),
+)
+WORKED_FACTORS = ((99, 11), (100, 11), (499, 40), (500, 40))
+WORKED_VOLTAGES = ((50, 1000), (50, 250), (70, 1000))  # body and time, over bare soil of 100
+
+# Three clocks at both ends of their range, and the clear time at both sides of two edges of Table 10.
+CLOCK_KINDS = ("factor", "size", "tolerable", "row")
+CLOCK_ENDS = (9, 3000)
+CLOCK_TIMES = (
+    *product(CLOCK_ENDS, CLOCK_ENDS, CLOCK_ENDS),
+    *((shock, clear, wire) for clear in (49, 50, 499, 500) for shock, wire in ((9, 3000), (3000, 9))),
+    (250, 100, 1000), (1000, 250, 100), (100, 1000, 250),
+)
+
 # Soil, layer and thickness: bare soil; a layer more resistive, as resistive, less resistive.
 SURFACES = (
     (10, 0, 0), (100, 0, 0), (5000, 0, 0), (10, 10000, 20), (10, 10000, 300), (400, 2500, 102),
     (100, 100, 20), (5000, 100, 20), (5000, 100, 300), (5000, 4999, 20),
 )
-SURFACE_MS = (9, 250, 500, 1000, 3000)
+SURFACE_SHOCK = (9, 250, 500, 1000, 3000)
 
 # Rods, their length and their place.
 RODS = ((0, 0, 0), (1, 1000, 1), (200, 10000, 1), (200, 10000, 2))
@@ -80,25 +111,49 @@ def line(kind, numbers):
 
 
 def factors():
-    for ms, xr in product(FACTOR_MS, FACTOR_XR):
-        yield line("factor", YARD._replace(ms=ms, xr=xr))
+    for clear, xr in product(FACTOR_CLEAR, FACTOR_XR):
+        yield line("factor", YARD._replace(clear=clear, xr=xr))
 
 
 def sizes():
     for metal, ms, xr, fault in SIZE_EDGES:
         for current in (fault, fault + 1):
-            yield line("size", YARD._replace(metal=metal, ms=ms, xr=xr, fault=current))
+            case = YARD._replace(metal=metal, xr=xr, fault=current)
+            yield line("size", calc.with_one_time(case, ms))
+    for metal, clear, wire, xr, fault in SIZE_EDGES_APART:
+        for current in (fault, fault + 1):
+            yield line("size", YARD._replace(
+                metal=metal, clear=clear, wire=wire, xr=xr, fault=current))
     for metal in range(0, 13):
         for fault in (99, 100, 1000, 20000, 80000, 80001):
-            yield line("size", YARD._replace(metal=metal, ms=3000, fault=fault))
-        for ms in (9, 50, 250, 499, 1000, 3000):
-            yield line("size", YARD._replace(metal=metal, ms=ms))
+            yield line("size", YARD._replace(metal=metal, wire=3000, fault=fault))
+        for ms in SIZE_MS:
+            yield line("size", YARD._replace(metal=metal, clear=100, wire=ms))
+            yield line("size", YARD._replace(metal=metal, clear=ms, wire=1000))
 
 
 def tolerable():
-    for (soil, layer, thick), kind, body, ms in product(
-            SURFACES, ("tolerable", "row"), (50, 70), SURFACE_MS):
-        yield line(kind, YARD._replace(soil=soil, layer=layer, thick=thick, body=body, ms=ms))
+    for (soil, layer, thick), kind, body, shock in product(
+            SURFACES, ("tolerable", "row"), (50, 70), SURFACE_SHOCK):
+        yield line(kind, YARD._replace(
+            soil=soil, layer=layer, thick=thick, body=body, shock=shock))
+
+
+def worked():
+    for metal, fault, ms in WORKED_SIZES:
+        yield line("size", calc.with_one_time(YARD._replace(metal=metal, fault=fault), ms))
+    for ms, xr in WORKED_FACTORS:
+        yield line("factor", calc.with_one_time(YARD._replace(xr=xr), ms))
+    for kind, (body, ms) in product(("tolerable", "row"), WORKED_VOLTAGES):
+        case = YARD._replace(soil=100, layer=0, thick=0, body=body)
+        yield line(kind, calc.with_one_time(case, ms))
+
+
+def clocks():
+    """Times that differ, so that one clock read for another changes a number."""
+    for kind, (shock, clear, wire) in product(CLOCK_KINDS, CLOCK_TIMES):
+        yield line(kind, YARD._replace(
+            shock=shock, clear=clear, wire=wire, fault=20000, xr=40))
 
 
 def resistances():
@@ -159,19 +214,25 @@ def logarithms():
         yield line("ln", (rng.randint(1, 10 ** rng.randint(1, 15)) for _ in range(2)))
 
 
+def one_time_only(case):
+    """A record of document 01's own names, with one time in the place of three."""
+    return [number for name, number in zip(calc.NAMES, case) if name not in calc.CLOCKS[1:]]
+
+
 def no_questions():
     """Lines that are broken: a kind that is none, too few or too many numbers, no number."""
     sound = line("factor", YARD)
     yield from ("", ",", "factor", "ln", "ln,", "ln,1", "ln,1,", "ln,1,2,3", "ln,1,2,", "ln,,1")
     yield from (line(kind, YARD) for kind in ("", "ln", "factors", "facto", "Factor", "row ", "17", "touch", "step"))
     yield from (sound + ",1", sound + ",", sound[:-2], sound[:-1], "tolerable,1,2")
+    yield from (line(kind, one_time_only(YARD)) for kind in RECORD_KINDS)
     yield from (f"ln,{number},1" for number in (2**64, 10**19 * 2, 10**40, "-1", "+1", "1.0", "x"))
 
 
 def questions():
     """All of them, each once, in a fixed order."""
-    series = (factors, sizes, tolerable, resistances, edges, broken, random_records, logarithms,
-              no_questions)
+    series = (factors, sizes, tolerable, worked, clocks, resistances, edges, broken, random_records,
+              logarithms, no_questions)
     return list(dict.fromkeys(question for make in series for question in make()))
 
 

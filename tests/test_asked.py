@@ -7,13 +7,13 @@ program prints for crates/asked/stdin, against the separately written calculator
 import unittest
 from collections import defaultdict
 from fractions import Fraction
-from itertools import product
+from itertools import combinations, permutations, product
 
 import calculator as calc
 import questions
 from calculator import Case, Refusal
 from printed import lines_of, whole
-from questions import FACTOR_MS, FACTOR_XR, RECORD_KINDS
+from questions import FACTOR_CLEAR, FACTOR_XR, RECORD_KINDS
 
 STDOUT = questions.FILE.with_name("stdout")
 DEPTHS = (3, 6, 9, 12)
@@ -23,8 +23,19 @@ PAIRS = {"tolerable": ("tolerable_touch", "tolerable_step"), "resistance": ("res
 COUNTS = {"ln": 2, **{kind: calc.COLUMN_COUNT for kind in RECORD_KINDS}}
 MOST_NUMBER = 2**64 - 1
 # The least count of different questions of each kind.
-LEAST = {"factor": 250, "size": 300, "tolerable": 200, "resistance": 250, "row": 350,
+LEAST = {"factor": 270, "size": 450, "tolerable": 220, "resistance": 250, "row": 400,
          "ln": 400}
+# Which clocks each number of an answer hangs on.
+NUMBERS_BY_CLOCK = {
+    "factor": {"factor": ("clear",)},
+    "size": {"size": ("clear", "wire")},
+    "tolerable": {"tolerable_touch": ("shock",), "tolerable_step": ("shock",)},
+    "row": {
+        "size": ("clear", "wire"), "current": ("clear",), "tolerable_touch": ("shock",),
+        "tolerable_step": ("shock",), "mesh": ("clear",), "step": ("clear",), "rise": ("clear",),
+    },
+}
+CLOCK_DEPTH = 6
 RESISTANCE_NAMES = ("soil", "lines", "space", "depth", "rods", "rodlen", "place")
 
 
@@ -76,6 +87,18 @@ def judge_ends(name, case, pair):
 
 def is_refused(answer):
     return isinstance(answer, Refusal)
+
+
+def is_told(right, wrong):
+    """Whether two numbers differ, or two pairs by more than any width: a hundredth and 0.1 V."""
+    if isinstance(right, int):
+        return right != wrong
+    apart = max(right.lower - wrong.upper, wrong.lower - right.upper)
+    return apart > max(map(abs, (*right, *wrong))) / 100 + Fraction(1, 10)
+
+
+def has_one_time(case):
+    return len({getattr(case, clock) for clock in calc.CLOCKS}) == 1
 
 
 class Asked(unittest.TestCase):
@@ -177,14 +200,22 @@ class Yards(Asked):
 
     def test_sizes(self):
         sizes = {
-            (case.metal, case.fault, case.ms): answer
-            for case, answer in self.answered("size").items()
+            (case.metal, case.fault, case.wire): answer
+            for case, answer in self.answered("size").items() if has_one_time(case)
         }
         wanted = {
             (1, 20000, 3000): (243,), (4, 20000, 3000): (362,), (8, 20000, 3000): (638,),
-            (1, 1000, 1000): (7,), (1, 1001, 1000): (8,),
+            (1, 1000, 1000): (7,), (1, 1001, 1000): (8,), (5, 1000, 1000): (13,),
         }
         self.assertEqual(wanted, {place: sizes.get(place) for place in wanted})
+
+    def test_factors(self):
+        factors = {
+            (case.clear, case.xr): answer
+            for case, answer in self.answered("factor").items() if has_one_time(case)
+        }
+        wanted = {(99, 11): (1378,), (100, 11): (1232,), (499, 40): (1125,), (500, 40): (1000,)}
+        self.assertEqual(wanted, {place: factors.get(place) for place in wanted})
 
     def test_voltages_over_bare_soil(self):
         wanted = {
@@ -195,9 +226,9 @@ class Yards(Asked):
         for (body, ms), voltages in wanted.items():
             told = [
                 answer for case, answer in self.answered("tolerable").items()
-                if (case.soil, case.layer, case.body, case.ms) == (100, 0, body, ms)
+                if (case.soil, case.layer, case.body, case.shock) == (100, 0, body, ms)
             ]
-            self.assertTrue(told)
+            self.assertGreaterEqual(len(told), 2)  # one of them with one time for all clocks
             for touch_lower, touch_upper, step_lower, step_upper in told:
                 self.assertTrue(touch_lower <= voltages[0] <= touch_upper)
                 self.assertTrue(step_lower <= voltages[1] <= step_upper)
@@ -223,6 +254,9 @@ class Coverage(Asked):
         self.assertTrue(kinds - set(LEAST))
         counts = {line.count(",") for line in self.broken}
         self.assertLessEqual({0, 1, 2, calc.COLUMN_COUNT, calc.COLUMN_COUNT + 1}, counts)
+        one_time = calc.COLUMN_COUNT - len(calc.CLOCKS) + 1
+        kinds = {line.split(",")[0] for line in self.broken if line.count(",") == one_time}
+        self.assertLessEqual(set(RECORD_KINDS), kinds)
 
     def test_sound_and_refused_records(self):
         for kind in RECORD_KINDS:
@@ -234,9 +268,9 @@ class Coverage(Asked):
                          {calc.SAFE, calc.UNSAFE, calc.UNDECIDED})
 
     def test_table_10_with_its_edges(self):
-        asked = {(case.ms, case.xr) for case in self.questions["factor"]}
-        self.assertLessEqual(set(product(FACTOR_MS, FACTOR_XR)), asked)
-        answers = {(case.ms, case.xr): answer for case, answer in self.answered("factor").items()}
+        asked = {(case.clear, case.xr) for case in self.questions["factor"]}
+        self.assertLessEqual(set(product(FACTOR_CLEAR, FACTOR_XR)), asked)
+        answers = {(case.clear, case.xr): answer for case, answer in self.answered("factor").items()}
         entries = {
             (from_ms, xr): (entry,)
             for from_ms, row in calc.DECREMENT_ROWS
@@ -251,17 +285,20 @@ class Coverage(Asked):
         self.assertLessEqual({0, 12}, {case.metal for case in self.refused("size")})
         for metal in metals:
             cases = [case for case in self.answered("size") if case.metal == metal]
-            self.assertGreaterEqual(len({case.ms for case in cases}), 6)
+            self.assertGreaterEqual(len({case.clear for case in cases}), 6)
+            self.assertGreaterEqual(len({case.wire for case in cases}), 6)
             self.assertLessEqual({100, 80000}, {case.fault for case in cases})
 
     def test_sizes_where_one_ampere_more_takes_one_kcmil_more(self):
         sizes = self.answered("size")
-        edges = defaultdict(int)
+        edges, apart = defaultdict(int), defaultdict(int)
         for case, (size,) in sizes.items():
             if sizes.get(case._replace(fault=case.fault + 1)) == (size + 1,):
                 edges[case.metal] += 1
+                apart[case.metal] += case.clear != case.wire
         for metal in range(1, 12):
             self.assertGreaterEqual(edges[metal], 3, f"metal {metal}")
+            self.assertGreaterEqual(apart[metal], 2, f"metal {metal}, two times")
 
     def test_surfaces(self):
         layers = {
@@ -271,11 +308,11 @@ class Coverage(Asked):
             "thin": lambda case: case.thick == 20,
             "thick": lambda case: case.thick == 300,
         }
-        for (what, test), body, ms in product(layers.items(), (50, 70), (9, 3000)):
+        for (what, test), body, shock in product(layers.items(), (50, 70), (9, 3000)):
             self.assertHas(
                 "tolerable",
-                lambda case: test(case) and (case.body, case.ms) == (body, ms),
-                f"{what}, {body} kg, {ms} ms",
+                lambda case: test(case) and (case.body, case.shock) == (body, shock),
+                f"{what}, {body} kg, {shock} ms",
             )
 
     def test_resistance_at_both_ends_of_each_range(self):
@@ -348,6 +385,63 @@ class Coverage(Asked):
         refused = self.refused("ln")
         for fraction, column in wanted.items():
             self.assertEqual(refused.get(fraction), (5, 0, column))
+
+
+def numbers_by(kind, case):
+    """The numbers that the calculator answers, by name: those that the rules settle, and pairs."""
+    ends = calc.exact_ends(case, CLOCK_DEPTH)._asdict()
+    settled = {"factor": calc.decrement_thousandths(case), "size": calc.conductor_kcmil(case),
+               "current": calc.grid_current_microamperes(case)}
+    if kind in SETTLED:
+        return {kind: settled[kind]}
+    if kind in PAIRS:
+        return {name: ends[name] for name in PAIRS[kind]}
+    return {"size": settled["size"], "current": settled["current"], **ends}
+
+
+class Clocks(unittest.TestCase):
+    """The stored questions tell a program that reads one clock for another, in any one number."""
+
+    @classmethod
+    def setUpClass(cls):
+        cls.sound = defaultdict(list)  # by kind: the records that are not refused
+        for line in lines_of(questions.FILE.read_text(encoding="ascii")):
+            question = read_question(line)
+            if question and question[0] in RECORD_KINDS and not calc.check_record(question[1]):
+                cls.sound[question[0]].append(question[1])
+
+    def assert_told(self, kind, clocks, change):
+        """Each number that hangs on these clocks changes in some question changed so."""
+        untold = {name for name, by in NUMBERS_BY_CLOCK[kind].items() if clocks & set(by)}
+        for case in self.sound[kind]:
+            if not untold:
+                return
+            right, wrong = numbers_by(kind, case), numbers_by(kind, change(case))
+            untold = {name for name in untold if not is_told(right[name], wrong[name])}
+        self.assertEqual(set(), untold, f"{kind}: {clocks}")
+
+    def test_one_clock_read_for_another(self):
+        for kind, (read, meant) in product(NUMBERS_BY_CLOCK, permutations(calc.CLOCKS, 2)):
+            self.assert_told(kind, {meant}, lambda case: case._replace(
+                **{meant: getattr(case, read)}))
+
+    def test_two_clocks_exchanged(self):
+        for kind, (one, other) in product(NUMBERS_BY_CLOCK, combinations(calc.CLOCKS, 2)):
+            self.assert_told(kind, {one, other}, lambda case: case._replace(
+                **{one: getattr(case, other), other: getattr(case, one)}))
+
+    def test_each_clock_at_both_ends_with_the_others(self):
+        for kind in questions.CLOCK_KINDS:
+            times = {tuple(getattr(case, clock) for clock in calc.CLOCKS)
+                     for case in self.sound[kind]}
+            ends = [calc.RANGES[calc.NAMES.index(clock)][0] for clock in calc.CLOCKS]
+            self.assertLessEqual(set(product(*ends)), times, kind)
+
+    def test_the_clear_time_at_edges_with_other_times_far(self):
+        for kind in questions.CLOCK_KINDS:
+            clear = {case.clear for case in self.sound[kind]
+                     if {case.shock, case.wire} == set(questions.CLOCK_ENDS)}
+            self.assertLessEqual({49, 50, 499, 500}, clear, kind)
 
 
 if __name__ == "__main__":

@@ -21,6 +21,7 @@ READERS = (read_rows, read_verdicts)
 KEPT = "kept,"
 MOST_BYTES = 131072  # what the program reads
 LEAST_OF_EACH = 3
+OLD_COLUMN = 6  # of the one time in document 01's own order
 
 
 def answers_of(text):
@@ -40,6 +41,20 @@ def answers_of(text):
 def kept_after(wanted):
     """A refusal changes nothing, and rows change their own numbers."""
     return TABLE - (0 if isinstance(wanted, Refusal) else calc.ROW_LENGTH * len(wanted))
+
+
+def one_time_column(sheet):
+    """The column of the one time in a sheet of document 01 that is otherwise sound, or 0."""
+    lines = [line.split(calc.FIELD_END) for line in sheet.split(calc.LINE_END)[:-1]]
+    name = differential.OLD_NAME.encode("ascii")
+    if not lines or name not in lines[0]:
+        return 0
+    at = lines[0].index(name)
+    clocks = [clock.encode("ascii") for clock in calc.CLOCKS]
+    carried = [lines[0][:at] + clocks + lines[0][at + 1 :]]
+    carried += [line[:at] + line[at : at + 1] * len(clocks) + line[at + 1 :] for line in lines[1:]]
+    text = b"".join(calc.FIELD_END.join(line) + calc.LINE_END for line in carried)
+    return 0 if isinstance(calc.read_sheet(text), Refusal) else at + 1
 
 
 class Batch(unittest.TestCase):
@@ -122,6 +137,16 @@ class Coverage(Batch):
         self.assertLessEqual({1, 2, calc.MAX_VALUE_LINES}, rows)
         self.assertIn(Refusal(4, calc.MAX_VALUE_LINES + 2, 0), self.wanted)
         self.assertIn(Refusal(4, 2, 0), self.wanted)
+
+    def test_sheets_of_document_01_are_refused_at_their_one_time(self):
+        columns = set()
+        for (sheet, _), rows, verdicts in zip(self.asked, self.rows, self.verdicts):
+            column = one_time_column(sheet)
+            if column:
+                columns.add(column)
+                self.assertEqual((rows, verdicts), (Refusal(2, 1, column),) * 2)
+        self.assertGreaterEqual(len(columns), 2)
+        self.assertIn(OLD_COLUMN, columns)
 
 
 class Judging(unittest.TestCase):

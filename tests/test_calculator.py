@@ -4,6 +4,7 @@
 """
 
 import io
+import itertools
 import math
 import random
 import subprocess
@@ -20,18 +21,29 @@ DEPTHS = range(3, 13)
 COMMAND = Path(__file__).with_name("calculator.py")
 
 HEADER = (
-    "station,season,soil,layer,thick,ms,body,fault,split,xr,lines,"
+    "station,season,soil,layer,thick,shock,clear,wire,body,fault,split,xr,lines,"
     "space,depth,dia,rods,rodlen,place,metal"
 )
 SAMPLE_LINES = (
-    "7,1,400,2500,102,500,70,3180,600,10,11,7000,500,100,0,0,0,1",
-    "7,2,100,2500,102,500,70,3180,600,10,11,7000,500,100,0,0,0,1",
+    "7,1,400,2500,102,500,500,500,70,3180,600,10,11,7000,500,100,0,0,0,1",
+    "7,2,100,2500,102,500,500,500,70,3180,600,10,11,7000,500,100,0,0,0,1",
 )
+# Document 01's own names and first line, which have one time.
+OLD_HEADER = (
+    "station,season,soil,layer,thick,ms,body,fault,split,xr,lines,"
+    "space,depth,dia,rods,rodlen,place,metal"
+)
+OLD_LINE = "7,1,400,2500,102,500,70,3180,600,10,11,7000,500,100,0,0,0,1"
 YARD = Case(*(int(field) for field in SAMPLE_LINES[0].split(",")))
-BARE = YARD._replace(soil=100, layer=0, thick=0, body=50, ms=1000)
+BARE = calc.with_one_time(YARD._replace(soil=100, layer=0, thick=0, body=50), 1000)
 RODDED = YARD._replace(rods=20, rodlen=7500, place=1)
 # Mesh voltage well within the tolerable touch, step voltage above its limit.
-STEP_ONLY = Case(1, 1, 10, 0, 0, 500, 50, 20000, 1000, 10, 25, 2500, 250, 300, 200, 1000, 1, 1)
+STEP_ONLY = Case(1, 1, 10, 0, 0, 500, 500, 500, 50, 20000, 1000, 10, 25, 2500, 250, 300, 200, 1000, 1, 1)
+
+
+def column_of(name):
+    """The place in the table of names."""
+    return calc.NAMES.index(name) + 1
 
 
 def text(*lines):
@@ -76,7 +88,7 @@ class StarredYards(unittest.TestCase):
         self.assert_tolerable(BARE, 133400, 185600)
 
     def test_bare_soil_at_250_ms(self):
-        self.assert_tolerable(BARE._replace(ms=250), 266800, 371200)
+        self.assert_tolerable(calc.with_one_time(BARE, 250), 266800, 371200)
 
     def test_bare_soil_with_70_kg(self):
         self.assert_tolerable(BARE._replace(body=70), 180550, 251200)
@@ -86,15 +98,16 @@ class StarredYards(unittest.TestCase):
             (20000, 3000, 1, 243), (20000, 3000, 4, 362), (20000, 3000, 8, 638),
             (1000, 1000, 1, 7), (1001, 1000, 1, 8), (1000, 1000, 5, 13),
         ):
-            case = YARD._replace(fault=fault, ms=ms, metal=metal)
+            case = calc.with_one_time(YARD._replace(fault=fault, metal=metal), ms)
             self.assertEqual(calc.conductor_kcmil(case), kcmil, case)
 
     def test_decrement(self):
         for ms, xr, entry in ((99, 11, 1378), (100, 11, 1232), (499, 40, 1125), (500, 40, 1000)):
-            self.assertEqual(calc.decrement_thousandths(YARD._replace(ms=ms, xr=xr)), entry)
+            case = calc.with_one_time(YARD._replace(xr=xr), ms)
+            self.assertEqual(calc.decrement_thousandths(case), entry)
 
     def test_grid_current(self):
-        case = YARD._replace(fault=3180, split=600, ms=500)
+        case = calc.with_one_time(YARD._replace(fault=3180, split=600), 500)
         self.assertEqual(calc.grid_current_microamperes(case), 1908000000)
 
     def test_mesh_argument(self):
@@ -112,7 +125,7 @@ class UnstarredYards(unittest.TestCase):
     def test_depth_249_and_2501(self):
         for depth in (249, 2501):
             refusal = calc.read_sheet(sheet_of(value_line(depth=depth)))
-            self.assertEqual(refusal, Refusal(5, 2, 13))
+            self.assertEqual(refusal, Refusal(5, 2, column_of("depth")))
         for depth in (250, 2500):
             self.assertEqual(len(calc.read_sheet(sheet_of(value_line(depth=depth)))), 1)
 
@@ -161,7 +174,7 @@ class Refusals(unittest.TestCase):
     def test_2_names(self):
         names = HEADER.split(",")
         line = SAMPLE_LINES[0]
-        for column in range(1, 19):
+        for column in range(1, calc.COLUMN_COUNT + 1):
             for wrong in ("", "Season", "seasons", " season", "station\r"):
                 bad = names[: column - 1] + [wrong] + names[column:]
                 self.assert_refused(sheet_of(line, header=",".join(bad)), 2, 1, column)
@@ -180,9 +193,26 @@ class Refusals(unittest.TestCase):
         self.assert_refused(sheet_of(header="station,season"), 2, 1, 3)
         self.assert_refused(sheet_of(header="station,"), 2, 1, 2)
 
-    def test_2_nineteenth_name(self):
+    def test_2_surplus_name(self):
         for more in ("station", "other", ""):
-            self.assert_refused(sheet_of(header=HEADER + "," + more), 2, 1, 19)
+            self.assert_refused(sheet_of(header=HEADER + "," + more), 2, 1, 21)
+
+    def test_2_the_one_time_of_document_01(self):
+        self.assertEqual(OLD_HEADER.replace("ms", "shock,clear,wire"), HEADER)
+        self.assert_refused(sheet_of(OLD_LINE, header=OLD_HEADER), 2, 1, 6)
+        self.assert_refused(sheet_of(header=OLD_HEADER), 2, 1, 6)
+        names, values = OLD_HEADER.split(","), OLD_LINE.split(",")
+        for at in range(len(names)):  # the columns turned round, so that ms stands in each
+            turned = [",".join(fields[at:] + fields[:at]) for fields in (names, values)]
+            column = turned[0].split(",").index("ms") + 1
+            self.assert_refused(text(*turned), 2, 1, column)
+
+    def test_2_the_one_time_beside_the_three(self):
+        self.assert_refused(sheet_of(SAMPLE_LINES[0] + ",500", header=HEADER + ",ms"), 2, 1, 21)
+        self.assert_refused(sheet_of("500," + SAMPLE_LINES[0], header="ms," + HEADER), 2, 1, 1)
+        for clock in calc.CLOCKS:
+            header = HEADER.replace(clock, "ms")
+            self.assert_refused(sheet_of(SAMPLE_LINES[0], header=header), 2, 1, column_of(clock))
 
     def test_3_forms(self):
         for wrong in ("", "00", "01", "0500", "1000000", "0000000", "+1", "-1", "1.0",
@@ -194,19 +224,20 @@ class Refusals(unittest.TestCase):
     def test_3_bytes_that_other_readers_take_for_digits(self):
         for digit in "\u0661\u00b2\uff11":
             line = SAMPLE_LINES[0].encode() + digit.encode("utf-8")
-            self.assert_refused(text(HEADER) + line + b"\n", 3, 2, 18)
+            self.assert_refused(text(HEADER) + line + b"\n", 3, 2, calc.COLUMN_COUNT)
 
     def test_3_six_digits_have_right_form(self):
         self.assert_refused(sheet_of(value_line(station=999999)), 5, 2, 1)
 
     def test_3_too_few_and_too_many(self):
         values = SAMPLE_LINES[0].split(",")
-        for count in range(1, 18):
+        for count in range(1, calc.COLUMN_COUNT):
             self.assert_refused(sheet_of(",".join(values[:count])), 3, 2, count + 1)
-        self.assert_refused(sheet_of(",".join(values + ["1"])), 3, 2, 19)
-        self.assert_refused(sheet_of(",".join(values + ["x", "1"])), 3, 2, 19)
-        self.assert_refused(sheet_of(SAMPLE_LINES[0] + ","), 3, 2, 19)
-        self.assert_refused(sheet_of(",".join(values[:17] + ["x", "1"])), 3, 2, 18)
+        self.assert_refused(sheet_of(OLD_LINE), 3, 2, 19)
+        self.assert_refused(sheet_of(",".join(values + ["1"])), 3, 2, 21)
+        self.assert_refused(sheet_of(",".join(values + ["x", "1"])), 3, 2, 21)
+        self.assert_refused(sheet_of(SAMPLE_LINES[0] + ","), 3, 2, 21)
+        self.assert_refused(sheet_of(",".join(values[:-1] + ["x", "1"])), 3, 2, calc.COLUMN_COUNT)
         self.assert_refused(sheet_of(",".join(values[:4] + ["x"])), 3, 2, 5)
 
     def test_3_empty_line(self):
@@ -223,7 +254,8 @@ class Refusals(unittest.TestCase):
     def test_5_every_range(self):
         outside = {
             "station": (0, 65536), "season": (0, 5), "soil": (9, 5001),
-            "layer": (1, 99, 10001), "thick": (1, 19, 301), "ms": (8, 3001),
+            "layer": (1, 99, 10001), "thick": (1, 19, 301), "shock": (8, 3001),
+            "clear": (8, 3001), "wire": (8, 3001),
             "body": (49, 51, 60, 69, 71), "fault": (99, 80001), "split": (0, 1001),
             "xr": (0, 41), "lines": (1, 26), "space": (2499, 30001),
             "depth": (249, 2501), "dia": (49, 301), "rods": (201,),
@@ -237,7 +269,8 @@ class Refusals(unittest.TestCase):
     def test_5_every_range_end_passes(self):
         inside = {
             "station": (1, 65535), "season": (1, 4), "soil": (10, 5000),
-            "layer": (100, 10000), "thick": (20, 300), "ms": (9, 3000),
+            "layer": (100, 10000), "thick": (20, 300), "shock": (9, 3000),
+            "clear": (9, 3000), "wire": (9, 3000),
             "body": (50, 70), "fault": (100, 80000), "split": (1, 1000),
             "xr": (1, 40), "lines": (2, 25), "space": (2500, 30000),
             "depth": (250, 2500), "dia": (50, 300), "rods": (1, 200),
@@ -256,7 +289,7 @@ class Refusals(unittest.TestCase):
             (1, 0, 0), (0, 1000, 0), (0, 0, 1), (1, 1000, 0), (1, 0, 2), (0, 1000, 1),
         ):
             line = value_line(rods=count, rodlen=length, place=place)
-            self.assert_refused(sheet_of(line), 6, 2, 15)
+            self.assert_refused(sheet_of(line), 6, 2, column_of("rods"))
             self.assert_refused(sheet_of(value_line(rods=count, rodlen=length, place=place,
                                                     layer=0)), 6, 2, 4)
 
@@ -280,8 +313,8 @@ class Refusals(unittest.TestCase):
         self.assert_refused(text("nobody", *["x"] * 65), 2, 1, 1)
         self.assert_refused(sheet_of("x", *["x"] * 64), 4, 66, 0)
         # within a line 3, 5, 6, 7, whatever the columns
-        self.assert_refused(sheet_of(value_line(station=0, metal="x")), 3, 2, 18)
-        self.assert_refused(sheet_of(value_line(layer=0, metal=12)), 5, 2, 18)
+        self.assert_refused(sheet_of(value_line(station=0, metal="x")), 3, 2, column_of("metal"))
+        self.assert_refused(sheet_of(value_line(layer=0, metal=12)), 5, 2, column_of("metal"))
         self.assert_refused(sheet_of(good, value_line(layer=0)), 6, 3, 4)
         self.assert_refused(sheet_of(good, good), 7, 3, 0)
         # line by line before the number
@@ -293,18 +326,18 @@ class Refusals(unittest.TestCase):
 
     def test_leftmost_within_a_number(self):
         self.assert_refused(sheet_of(value_line(soil="x", station="y")), 3, 2, 1)
-        self.assert_refused(sheet_of(value_line(metal=0, body=60, xr=0)), 5, 2, 7)
+        self.assert_refused(sheet_of(value_line(metal=0, body=60, xr=0)), 5, 2, column_of("body"))
 
     def test_columns_follow_the_header(self):
         names = calc.NAMES[::-1]
         header = ",".join(names)
         self.assertEqual(calc.read_sheet(sheet_of(value_line(names=names), header=header)), [YARD])
         for changes, place in (
-            ({"station": "x"}, (3, 2, 18)),
+            ({"station": "x"}, (3, 2, calc.COLUMN_COUNT)),
             ({"station": 0, "metal": 0}, (5, 2, 1)),
-            ({"layer": 0}, (6, 2, 15)),
+            ({"layer": 0}, (6, 2, names.index("layer") + 1)),
             ({"rods": 1}, (6, 2, 4)),
-            ({"layer": 0, "rods": 1}, (6, 2, 15)),  # layer before rods
+            ({"layer": 0, "rods": 1}, (6, 2, names.index("layer") + 1)),  # layer before rods
         ):
             line = value_line(names=names, **changes)
             self.assert_refused(sheet_of(line, header=header), *place)
@@ -312,7 +345,7 @@ class Refusals(unittest.TestCase):
     def test_random_column_orders(self):
         rng = random.Random(3)
         for _ in range(50):
-            names = rng.sample(calc.NAMES, 18)
+            names = rng.sample(calc.NAMES, calc.COLUMN_COUNT)
             case = random_case(rng)
             sheet = sheet_of(value_line(case, names), header=",".join(names))
             self.assertEqual(calc.read_sheet(sheet), [case])
@@ -326,11 +359,14 @@ class Records(unittest.TestCase):
     def test_refused(self):
         for changes, number, column in (
             ({"station": 0, "metal": 0}, 5, 1),
-            ({"metal": 99}, 5, 18),
-            ({"depth": 249, "layer": 0}, 5, 13),
+            ({"metal": 99}, 5, 20),
+            ({"shock": 8, "clear": 8}, 5, 6),
+            ({"clear": 3001, "wire": 3001}, 5, 7),
+            ({"wire": 8, "body": 60}, 5, 8),
+            ({"depth": 249, "layer": 0}, 5, 15),
             ({"layer": 0, "rods": 1}, 6, 4),
-            ({"rods": 1}, 6, 15),
-            ({"fault": 2**64}, 5, 8),
+            ({"rods": 1}, 6, 17),
+            ({"fault": 2**64}, 5, 10),
             ({"soil": -400}, 5, 3),
         ):
             refusal = calc.check_record(YARD._replace(**changes))
@@ -363,7 +399,7 @@ class Decrement(unittest.TestCase):
             for xr_span, entry in zip(self.XR, entries):
                 for ms in (first_ms, (first_ms + last_ms) // 2, last_ms):
                     for xr in xr_span:
-                        case = YARD._replace(ms=ms, xr=xr)
+                        case = YARD._replace(clear=ms, xr=xr)
                         df = Fraction(calc.decrement_thousandths(case), 1000)
                         self.assertEqual(df, Fraction(entry), (ms, xr))
 
@@ -378,11 +414,11 @@ class ConductorSize(unittest.TestCase):
         for fault, ms, sizes in ((50000, 1000, self.AT_50_KA_1_S),
                                  (80000, 3000, self.AT_80_KA_3_S)):
             for metal, kcmil in enumerate(sizes, start=1):
-                case = YARD._replace(fault=fault, ms=ms, metal=metal)
+                case = calc.with_one_time(YARD._replace(fault=fault, metal=metal), ms)
                 self.assertEqual(calc.conductor_kcmil(case), kcmil, (fault, metal))
 
     def test_decrement_enters_and_split_does_not(self):
-        case = YARD._replace(fault=10000, ms=90, xr=40, split=1)
+        case = calc.with_one_time(YARD._replace(fault=10000, xr=40, split=1), 90)
         # 10 kA * 1.515 * 7.00 * sqrt(0.09) = 31.815
         self.assertEqual(calc.conductor_kcmil(case), 32)
         self.assertEqual(calc.conductor_kcmil(case._replace(split=1000)), 32)
@@ -394,6 +430,61 @@ class ConductorSize(unittest.TestCase):
             size, square = calc.conductor_kcmil(case), calc.size_squared(case)
             self.assertGreaterEqual(size**2, square)
             self.assertLess((size - 1) ** 2, square)
+
+
+class Clocks(unittest.TestCase):
+    """Three times that differ: each number reads its own, as worked by hand."""
+
+    # Shock 1000 ms and bare soil 100 as in document 01; clear 90 ms with X/R 40: Df 1.515.
+    CASE = BARE._replace(shock=1000, clear=90, wire=250, fault=10000, split=600, xr=40)
+
+    def test_the_names_in_their_place(self):
+        self.assertEqual(calc.CLOCKS, ("shock", "clear", "wire"))
+        self.assertEqual(calc.NAMES[5:8], calc.CLOCKS)
+        self.assertEqual(calc.COLUMN_COUNT, 20)
+
+    def test_each_number_by_its_own_clock(self):
+        self.assertEqual(calc.decrement_thousandths(self.CASE), 1515)
+        # 10,000 A * 0.6 * 1.515 = 9090 A
+        self.assertEqual(calc.grid_current_microamperes(self.CASE), 9090 * 10**6)
+        # 10 kA * 1.515 * 7.00 * sqrt(0.25) = 53.025
+        self.assertEqual(calc.conductor_kcmil(self.CASE), 54)
+        row = calc.row_at(self.CASE, 12)
+        self.assertEqual(row[3:5], [54, 9090 * 10**6])
+        self.assertTrue(row[5] <= 133400 <= row[6] and row[7] <= 185600 <= row[8])
+        self.assertLess(max(row[6] - row[5], row[8] - row[7]), 3)
+
+    def test_voltages_and_rise_follow_the_clear_time_alone(self):
+        ends = calc.exact_ends(self.CASE, 12)
+        late = calc.exact_ends(self.CASE._replace(clear=500), 12)
+        for name in ("mesh", "step", "rise"):
+            for a, b in zip(getattr(ends, name), getattr(late, name)):
+                self.assertEqual(a, b * Fraction("1.515"), name)
+        for name in ("tolerable_touch", "tolerable_step", "resistance"):
+            self.assertEqual(getattr(ends, name), getattr(late, name))
+        other = calc.exact_ends(self.CASE._replace(shock=9, wire=3000), 12)
+        for name in ("mesh", "step", "resistance", "rise"):
+            self.assertEqual(getattr(ends, name), getattr(other, name))
+
+    def test_which_numbers_each_clock_changes(self):
+        row = calc.row_at(self.CASE, 12)
+        for clock, places in (("shock", {5, 6, 7, 8}), ("clear", {3, 4, *range(9, 13), 15, 16}),
+                              ("wire", {3})):
+            changed = calc.row_at(self.CASE._replace(**{clock: 3000}), 12)
+            found = {i for i, (a, b) in enumerate(zip(row, changed)) if a != b}
+            self.assertEqual(found - {2}, places, clock)  # the verdict aside
+
+    def test_one_clock_read_for_another_is_found(self):
+        for read, meant in itertools.permutations(calc.CLOCKS, 2):
+            wrong = self.CASE._replace(**{meant: getattr(self.CASE, read)})
+            self.assertNotEqual(calc.judge_row(self.CASE, calc.row_at(wrong, 12), (12,)), [])
+
+    def test_widths_by_their_clocks(self):
+        row = calc.row_at(self.CASE, 12)
+        widths = calc.allowed_widths(self.CASE, row)
+        self.assertEqual(widths.tolerable_touch, Fraction(row[5], 10000) + 10)
+        # rho * Ki * IG / LT with the current of the clear time, 9090 A
+        self.assertEqual(widths.mesh, Fraction(100 * 9090) * Fraction("2.272") / 1540 / 100 + 10)
 
 
 class Exactness(unittest.TestCase):
@@ -507,7 +598,7 @@ def double_values(case):
         hs = case.thick / 1000
         cs = 1 - 0.09 * (1 - rho / case.layer) / (2 * hs + 0.09)
         q = cs * case.layer
-    per_root_t = {50: 0.116, 70: 0.157}[case.body] / math.sqrt(case.ms / 1000)
+    per_root_t = {50: 0.116, 70: 0.157}[case.body] / math.sqrt(case.shock / 1000)
     g = (big_d + 2 * h) * (big_d**2 + 4 * h**2) / (16 * h * d * big_d)
     kii = 1 if case.place == 1 else (2 * n) ** (-2 / n)
     km = (math.log(g) + kii / math.sqrt(1 + h) * math.log(8 / math.pi / (2 * n - 1))) / 2 / math.pi
@@ -742,7 +833,7 @@ class AnnexB(unittest.TestCase):
     X/R 3.33 is entered as 4 and 16.2 as 17; at 0.5 s Df is 1 for all.
     """
 
-    B1 = Case(1, 1, 400, 2500, 102, 500, 70, 3180, 600, 4, 11, 7000, 500, 100, 0, 0, 0, 2)
+    B1 = Case(1, 1, 400, 2500, 102, 500, 500, 500, 70, 3180, 600, 4, 11, 7000, 500, 100, 0, 0, 0, 2)
     B2 = B1._replace(rods=20, rodlen=7500, place=1)
     K = 12
 

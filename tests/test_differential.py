@@ -3,6 +3,7 @@
 import io
 import unittest
 from contextlib import redirect_stdout
+from itertools import permutations
 from unittest import mock
 
 import calculator as calc
@@ -10,7 +11,7 @@ import differential
 from calculator import Refusal
 from printed import ROW_NAMES
 
-COUNT = 60
+SEED, COUNT = 2, 60
 K = 9
 
 
@@ -34,6 +35,29 @@ def with_rows(change):
     return program
 
 
+def with_clocks(read, meant):
+    """A program that reads one clock for another."""
+    def program(_, sheet):
+        cases = calc.read_sheet(sheet)
+        if isinstance(cases, Refusal):
+            return text_of(cases)
+        wrong = (case._replace(**{meant: getattr(case, read)}) for case in cases)
+        return text_of([calc.row_at(case, K) for case in wrong])
+    return program
+
+
+def takes_one_time(_, sheet):
+    """A program that still takes document 01's one time, for all three clocks."""
+    names, *lines = (line.split(b",") for line in sheet.split(b"\n"))
+    if differential.OLD_NAME.encode() in names:
+        at = names.index(differential.OLD_NAME.encode())
+        names[at : at + 1] = [clock.encode() for clock in calc.CLOCKS]
+        for line in lines[:-1]:
+            line[at : at + 1] *= len(calc.CLOCKS)
+        sheet = b"\n".join(b",".join(line) for line in (names, *lines))
+    return text_of(right_answer(sheet))
+
+
 def refuses_all(_, sheet):
     return text_of(Refusal(1, 0, 0))
 
@@ -49,12 +73,15 @@ WRONG = {
     "tells a line too far": counts_one_line_more,
     "copies the first row down": with_rows(lambda rows: [rows[0] for _ in rows]),
     "leaves out the last row": with_rows(lambda rows: rows[:-1]),
-    "leaves the table alone": with_rows(lambda rows: [[0] * 17 for _ in rows]),
+    "leaves the table alone": with_rows(lambda rows: [[0] * calc.ROW_LENGTH for _ in rows]),
     "gives ends that are too wide": with_rows(
         lambda rows: [row[:2] + [3] + row[3:5] + [0, 10**15] * 6 for row in rows]),
     "always says safe": with_rows(lambda rows: [row[:2] + [1] + row[3:] for row in rows]),
     "calls the undecided unsafe": with_rows(
         lambda rows: [row[:2] + [min(row[2], calc.UNSAFE)] + row[3:] for row in rows]),
+    **{f"reads {read} for {meant}": with_clocks(read, meant)
+       for read, meant in permutations(calc.CLOCKS, 2)},
+    "takes a sheet with one time": takes_one_time,
     "prints no line end": lambda _, sheet: text_of(right_answer(sheet))[:-1],
 }
 
@@ -62,7 +89,7 @@ WRONG = {
 class Differential(unittest.TestCase):
     def run_with(self, program):
         with mock.patch.object(differential, "printed_by", program), redirect_stdout(io.StringIO()):
-            return differential.run("program", 1, COUNT)
+            return differential.run("program", SEED, COUNT)
 
     def test_a_right_program_agrees(self):
         tally, rows, failed = self.run_with(with_rows(lambda rows: rows))

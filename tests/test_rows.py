@@ -15,7 +15,7 @@ ROWS = Path(__file__).parents[1] / "crates" / "rows"
 DEPTHS = (3, 6, 9, 12)
 
 # Examples B.1 and B.2 of IEEE Std 80-2013, Annex B: no rods, and 20 at the perimeter.
-B1 = Case(80, 1, 400, 2500, 102, 500, 70, 3180, 600, 4, 11, 7000, 500, 100, 0, 0, 0, 2)
+B1 = Case(80, 1, 400, 2500, 102, 500, 500, 500, 70, 3180, 600, 4, 11, 7000, 500, 100, 0, 0, 0, 2)
 B2 = B1._replace(season=2, rods=20, rodlen=7500, place=1)
 
 

@@ -43,7 +43,9 @@ pub record Bounds (c : Case) : Type 0 where
   pub season : Between 1 (c .season) 4
   pub soil : Between 10 (c .soil) 5000
   pub surface : Bare c ⊎ Layered c
-  pub ms : Between 9 (c .ms) 3000
+  pub shock : Between 9 (c .shock) 3000
+  pub clear : Between 9 (c .clear) 3000
+  pub wire : Between 9 (c .wire) 3000
   pub body : (c .body ≡ 50) ⊎ (c .body ≡ 70)
   pub fault : Between 100 (c .fault) 80000
   pub split : Between 1 (c .split) 1000

@@ -8,7 +8,7 @@ use Rattle.case.specs.declared.Case.{Case}
 
 abbrev pub values : Case → List ℕ
 values c =
-    c .station ∷ c .season ∷ c .soil ∷ c .layer ∷ c .thick ∷ c .ms
+    c .station ∷ c .season ∷ c .soil ∷ c .layer ∷ c .thick ∷ c .shock ∷ c .clear ∷ c .wire
     ∷ c .body ∷ c .fault ∷ c .split ∷ c .xr ∷ c .lines ∷ c .space
     ∷ c .depth ∷ c .dia ∷ c .rods ∷ c .rodlen ∷ c .place ∷ c .metal
     ∷ []
@@ -21,19 +21,21 @@ caseOf v =
       soil = getD v 2 0;
       layer = getD v 3 0;
       thick = getD v 4 0;
-      ms = getD v 5 0;
-      body = getD v 6 0;
-      fault = getD v 7 0;
-      split = getD v 8 0;
-      xr = getD v 9 0;
-      lines = getD v 10 0;
-      space = getD v 11 0;
-      depth = getD v 12 0;
-      dia = getD v 13 0;
-      rods = getD v 14 0;
-      rodlen = getD v 15 0;
-      place = getD v 16 0;
-      metal = getD v 17 0;
+      shock = getD v 5 0;
+      clear = getD v 6 0;
+      wire = getD v 7 0;
+      body = getD v 8 0;
+      fault = getD v 9 0;
+      split = getD v 10 0;
+      xr = getD v 11 0;
+      lines = getD v 12 0;
+      space = getD v 13 0;
+      depth = getD v 14 0;
+      dia = getD v 15 0;
+      rods = getD v 16 0;
+      rodlen = getD v 17 0;
+      place = getD v 18 0;
+      metal = getD v 19 0;
     }
 
 pub case-of-values : (c : Case) → caseOf (values c) ≡ c

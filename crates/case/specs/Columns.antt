@@ -31,7 +31,7 @@ Form = List Column
 abbrev column : String → Range → Column
 column name range = record { name = bytes name; range = range }
 
--- document 01's names with their ranges
+-- document 01's names with their ranges; request (a) of document 02: "ms gives place to shock, clear and wire in that order, each 9..3000"
 unfoldable pub columns : Form
 columns =
     column "station" (from 1 65535)
@@ -39,7 +39,9 @@ columns =
     ∷ column "soil" (from 10 5000)
     ∷ column "layer" (zeroOr 100 10000)
     ∷ column "thick" (zeroOr 20 300)
-    ∷ column "ms" (from 9 3000)
+    ∷ column "shock" (from 9 3000)
+    ∷ column "clear" (from 9 3000)
+    ∷ column "wire" (from 9 3000)
     ∷ column "body" (either 50 70)
     ∷ column "fault" (from 100 80000)
     ∷ column "split" (from 1 1000)
@@ -56,7 +58,7 @@ columns =
 
 -- how many they are
 abbrev pub nameCount : ℕ
-nameCount = 18
+nameCount = 20
 
 pub name-count : length columns ≡ nameCount
 unfolding columns

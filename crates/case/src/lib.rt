@@ -9,7 +9,7 @@ use parts::disagreement;
 use parts::out_of_range;
 
 // How many names document 01's table has.
-pub const NAMES: usize = 18;
+pub const NAMES: usize = 20;
 
 // The numbers of document 01's table of names, in its order and units.
 pub struct Case {
@@ -18,7 +18,9 @@ pub struct Case {
     pub soil: u32,
     pub layer: u32,
     pub thick: u32,
-    pub ms: u32,
+    pub shock: u32,
+    pub clear: u32,
+    pub wire: u32,
     pub body: u32,
     pub fault: u32,
     pub split: u32,
@@ -56,19 +58,21 @@ pub fn case_of(v: [u32; NAMES]) -> Case
         soil: v[2],
         layer: v[3],
         thick: v[4],
-        ms: v[5],
-        body: v[6],
-        fault: v[7],
-        split: v[8],
-        xr: v[9],
-        lines: v[10],
-        space: v[11],
-        depth: v[12],
-        dia: v[13],
-        rods: v[14],
-        rodlen: v[15],
-        place: v[16],
-        metal: v[17],
+        shock: v[5],
+        clear: v[6],
+        wire: v[7],
+        body: v[8],
+        fault: v[9],
+        split: v[10],
+        xr: v[11],
+        lines: v[12],
+        space: v[13],
+        depth: v[14],
+        dia: v[15],
+        rods: v[16],
+        rodlen: v[17],
+        place: v[18],
+        metal: v[19],
     }
 }
 
@@ -82,7 +86,9 @@ fn values_of(c: Case) -> [u32; NAMES]
         c.soil,
         c.layer,
         c.thick,
-        c.ms,
+        c.shock,
+        c.clear,
+        c.wire,
         c.body,
         c.fault,
         c.split,
@@ -134,6 +140,8 @@ fn check(c: Case) -> Finding
             16,
             17,
             18,
+            19,
+            20,
         ],
         c,
     )

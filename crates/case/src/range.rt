@@ -20,6 +20,8 @@ const RANGES: [Range; NAMES] = [
     Range::ZeroOr(100, 10000),
     Range::ZeroOr(20, 300),
     Range::From(9, 3000),
+    Range::From(9, 3000),
+    Range::From(9, 3000),
     Range::Either(50, 70),
     Range::From(100, 80000),
     Range::From(1, 1000),

@@ -11,16 +11,16 @@ use Rattle.formulas.proofs.Size.{square, size-enough, size-least}
 use Rattle.current.specs.Size.{squareLoad, IsSmallest}
 use Rattle.current.proofs.SquareLoad.{load-low, load-high}
 
-module _ (c : Case) (r : ℕ) (s : IsSmallest (squareLoad (duty c) (c .ms)) r) where
+module _ (c : Case) (r : ℕ) (s : IsSmallest (squareLoad (duty c) (c .wire)) r) where
   not-below : r < size c → ⊥
   not-below h =
       omega (
         arith,
         s .enough,
-        load-low (duty c) (c .ms),
+        load-low (duty c) (c .wire),
         size-least c r h,
         square r,
-        ap (λ t. t * c .ms) (square (duty c)),
+        ap (λ t. t * c .wire) (square (duty c)),
       )
 
   not-above : size c < r → ⊥
@@ -28,10 +28,10 @@ module _ (c : Case) (r : ℕ) (s : IsSmallest (squareLoad (duty c) (c .ms)) r) w
       omega (
         arith,
         s .least (size c) h,
-        load-high (duty c) (c .ms),
+        load-high (duty c) (c .wire),
         size-enough c,
         square (size c),
-        ap (λ t. t * c .ms) (square (duty c)),
+        ap (λ t. t * c .wire) (square (duty c)),
       )
 
   pub size-is : r ≡ size c

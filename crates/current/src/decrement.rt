@@ -26,9 +26,9 @@ pub fn decrement_factor(c: Case) -> u32
     requires { ⌜ Bounds c ⌝ }
     ensures { λ r. ⌜ r ≡ Df c ⌝ }
 {
-    let ms = c.ms;
+    let clear = c.clear;
     let xr = c.xr;
-    match ms {
+    match clear {
         0..=49 => entry(xr, 1576, 1648, 1675, 1688),
         50..=99 => entry(xr, 1232, 1378, 1462, 1515),
         100..=199 => entry(xr, 1125, 1232, 1316, 1378),

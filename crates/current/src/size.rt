@@ -72,5 +72,5 @@ pub fn conductor_size(c: Case) -> u64
     requires { ⌜ Bounds c ⌝ }
     ensures { λ r. ⌜ r ≡ size c ⌝ }
 {
-    smallest_square(square_load(load(c), c.ms as u64))
+    smallest_square(square_load(load(c), c.wire as u64))
 }

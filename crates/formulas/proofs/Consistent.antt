@@ -28,7 +28,7 @@ q20 = quantity-root 2 (omega arith) (one-thousandth (whole≤ (omega arith)))
 module _ {c : Case} (b : Bounds c) where
   pub quantity-rootTime : Quantity (rootTime c)
   unfolding rootTime
-  quantity-rootTime = quantity-root 2 (omega arith) (millisecond (omega (arith, b .ms .low)))
+  quantity-rootTime = quantity-root 2 (omega arith) (millisecond (omega (arith, b .shock .low)))
 
   pub consistent-touch : Consistent (tolerableTouch c)
   unfolding tolerableTouch

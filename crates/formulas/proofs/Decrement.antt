@@ -80,8 +80,8 @@ entry-bounds ms xr h l =
 
 pub factor-bounds : {c : Case} → Bounds c → Between 1000 (Df c) 1688
 unfolding Df factor
-factor-bounds {c} b = go (leb 500 (c .ms))
+factor-bounds {c} b = go (leb 500 (c .clear))
   where
-    go : (b : Bool) → Between 1000 (cond b 1000 (getD (factorsAt (c .ms) [] table10) (columnAt (c .xr) ratios) 0)) 1688
+    go : (b : Bool) → Between 1000 (cond b 1000 (getD (factorsAt (c .clear) [] table10) (columnAt (c .xr) ratios) 0)) 1688
     go true = record { low = omega arith; high = omega arith }
-    go false = entry-bounds (c .ms) (c .xr) (b .ms .low) (b .xr .high)
+    go false = entry-bounds (c .clear) (c .xr) (b .clear .low) (b .xr .high)

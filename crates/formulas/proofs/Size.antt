@@ -65,14 +65,14 @@ square-grows zero = omega arith
 square-grows (suc n) = omega (arith, square (suc n))
 
 module _ (c : Case) where
-  pub size-enough : duty c ^ 2 * c .ms ≤ size c ^ 2 * 10 ^ 19
+  pub size-enough : duty c ^ 2 * c .wire ≤ size c ^ 2 * 10 ^ 19
   unfolding size enough
   size-enough =
-      leb→le _ _ (smallest-passes (enough c) 0 (duty c ^ 2 * c .ms) (rw zero-add (le→leb _ _ (square-grows (duty c ^ 2 * c .ms)))))
+      leb→le _ _ (smallest-passes (enough c) 0 (duty c ^ 2 * c .wire) (rw zero-add (le→leb _ _ (square-grows (duty c ^ 2 * c .wire)))))
 
-  pub size-least : (m : ℕ) → m < size c → m ^ 2 * 10 ^ 19 < duty c ^ 2 * c .ms
+  pub size-least : (m : ℕ) → m < size c → m ^ 2 * 10 ^ 19 < duty c ^ 2 * c .wire
   unfolding size enough
-  size-least m l = nleb→lt _ _ (smallest-least (enough c) 0 (duty c ^ 2 * c .ms) m (omega arith) l)
+  size-least m l = nleb→lt _ _ (smallest-least (enough c) 0 (duty c ^ 2 * c .wire) m (omega arith) l)
 
 -- ---- the size against the exact value
 
@@ -96,23 +96,23 @@ module _ (c : Case) (d : 0 < duty c) where
   squares : (m : ℕ) → (m * 10 ^ 8) ^ 2 * 10 ^ 3 ≡ m ^ 2 * 10 ^ 19
   squares m = omega (arith, square m, square (m * 10 ^ 8))
 
-  top-ms : top (decimal (c .ms) 3) ≡ c .ms
+  top-wire : top (decimal (c .wire) 3) ≡ c .wire
   unfolding top decimal
-  top-ms = omega arith
+  top-wire = omega arith
 
-  low : (m : ℕ) → duty c ^ 2 * c .ms ≤ m ^ 2 * 10 ^ 19 → duty c ^ 2 * top (decimal (c .ms) 3) ≤ (m * 10 ^ 8) ^ 2 * decimal (c .ms) 3 .den
+  low : (m : ℕ) → duty c ^ 2 * c .wire ≤ m ^ 2 * 10 ^ 19 → duty c ^ 2 * top (decimal (c .wire) 3) ≤ (m * 10 ^ 8) ^ 2 * decimal (c .wire) 3 .den
   unfolding decimal
-  low m h = rw top-ms (omega (arith, squares m))
+  low m h = rw top-wire (omega (arith, squares m))
 
-  high : (m : ℕ) → m ^ 2 * 10 ^ 19 < duty c ^ 2 * c .ms → (m * 10 ^ 8) ^ 2 * decimal (c .ms) 3 .den < duty c ^ 2 * top (decimal (c .ms) 3)
+  high : (m : ℕ) → m ^ 2 * 10 ^ 19 < duty c ^ 2 * c .wire → (m * 10 ^ 8) ^ 2 * decimal (c .wire) 3 .den < duty c ^ 2 * top (decimal (c .wire) 3)
   unfolding decimal
-  high m h = rw top-ms (omega (arith, squares m))
+  high m h = rw top-wire (omega (arith, squares m))
 
   unit : Scale
   unit = record { count = duty c; pos = d }
 
   time : Fraction
-  time = decimal (c .ms) 3
+  time = decimal (c .wire) 3
 
   consistent-time : Consistent (root 2 (exactly time))
   consistent-time = consistent-root 2 (omega arith) (consistent-exactly time)
@@ -157,4 +157,4 @@ size-bound {c} b = go (decLe (size c) 1000000)
     go (no h) =
         let l : 1000000 < size c = omega arith in
         let d : duty c ≤ 10 ^ 12 = omega (arith, duty-bound b) in
-        absurd (omega (arith, size-least c 1000000 l, mul-le-mul (mul-le-mul d d) (b .ms .high), ap (λ t. t * c .ms) (square (duty c))))
+        absurd (omega (arith, size-least c 1000000 l, mul-le-mul (mul-le-mul d d) (b .wire .high), ap (λ t. t * c .wire) (square (duty c))))

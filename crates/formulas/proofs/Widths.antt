@@ -20,7 +20,7 @@ use Rattle.formulas.proofs.Tables.{Every}
 -- the sample by its rods, their length and their place
 sampleWith : ℕ → ℕ → ℕ → Case
 sampleWith rods rodlen place =
-    caseOf (7 ∷ 1 ∷ 400 ∷ 2500 ∷ 102 ∷ 500 ∷ 70 ∷ 3180 ∷ 600 ∷ 10 ∷ 11 ∷ 7000 ∷ 500 ∷ 100 ∷ rods ∷ rodlen ∷ place ∷ 1 ∷ [])
+    caseOf (7 ∷ 1 ∷ 400 ∷ 2500 ∷ 102 ∷ 500 ∷ 500 ∷ 500 ∷ 70 ∷ 3180 ∷ 600 ∷ 10 ∷ 11 ∷ 7000 ∷ 500 ∷ 100 ∷ rods ∷ rodlen ∷ place ∷ 1 ∷ [])
 
 abbrev sample : Case
 sample = sampleWith 0 0 0

@@ -43,5 +43,6 @@ columnAt xr (x ∷ xs) = cond (leb xr x) zero (suc (columnAt xr xs))
 unfoldable pub factor : ℕ → ℕ → ℕ
 factor ms xr = cond (leb 500 ms) 1000 (getD (factorsAt ms [] table10) (columnAt xr ratios) 0)
 
+-- request (a) of document 02: "the decrement factor uses clear"
 unfoldable pub Df : Case → ℕ
-Df c = factor (c .ms) (c .xr)
+Df c = factor (c .clear) (c .xr)

@@ -40,7 +40,7 @@ ratio-edges = refl
 sizeOf : ℕ → ℕ → ℕ → ℕ → ℕ
 unfolding size smallest enough duty Kf constants Df factor factorsAt table10 columnAt ratios
 sizeOf fault ms xr metal =
-    size (caseOf (7 ∷ 1 ∷ 400 ∷ 0 ∷ 0 ∷ ms ∷ 70 ∷ fault ∷ 600 ∷ xr ∷ 11 ∷ 7000 ∷ 500 ∷ 100 ∷ 0 ∷ 0 ∷ 0 ∷ metal ∷ []))
+    size (caseOf (7 ∷ 1 ∷ 400 ∷ 0 ∷ 0 ∷ ms ∷ ms ∷ ms ∷ 70 ∷ fault ∷ 600 ∷ xr ∷ 11 ∷ 7000 ∷ 500 ∷ 100 ∷ 0 ∷ 0 ∷ 0 ∷ metal ∷ []))
 
 metals : map (sizeOf 20000 1000 10) (1 ∷ 2 ∷ 3 ∷ 4 ∷ 5 ∷ 6 ∷ 7 ∷ 8 ∷ 9 ∷ 10 ∷ 11 ∷ [])
     ≡ 140 ∷ 142 ∷ 236 ∷ 209 ∷ 242 ∷ 293 ∷ 346 ∷ 368 ∷ 295 ∷ 580 ∷ 601 ∷ []
@@ -55,9 +55,9 @@ asymmetrical = refl
 -- the half-powers of document 01's table, one over each number: 2^(n−2) for n from 2 to 25
 halfPowerAt : ℕ → Fraction
 unfolding halfPower
-halfPowerAt n = halfPower (caseOf (7 ∷ 1 ∷ 400 ∷ 0 ∷ 0 ∷ 500 ∷ 70 ∷ 3180 ∷ 600 ∷ 10 ∷ n ∷ 7000 ∷ 500 ∷ 100 ∷ 0 ∷ 0 ∷ 0 ∷ 1 ∷ []))
+halfPowerAt n = halfPower (caseOf (7 ∷ 1 ∷ 400 ∷ 0 ∷ 0 ∷ 500 ∷ 500 ∷ 500 ∷ 70 ∷ 3180 ∷ 600 ∷ 10 ∷ n ∷ 7000 ∷ 500 ∷ 100 ∷ 0 ∷ 0 ∷ 0 ∷ 1 ∷ []))
 
-half-powers : map halfPowerAt (2 ∷ 3 ∷ 4 ∷ 5 ∷ 6 ∷ 7 ∷ 8 ∷ 9 ∷ 10 ∷ 11 ∷ 12 ∷ 13 ∷ 14 ∷ 15 ∷ 16 ∷ 17 ∷ 18 ∷ 19 ∷ 20 ∷ 21 ∷ 22 ∷ 23 ∷ 24 ∷ 25 ∷ [])
-    ≡ map (λ p. inv (whole p)) (1 ∷ 2 ∷ 4 ∷ 8 ∷ 16 ∷ 32 ∷ 64 ∷ 128 ∷ 256 ∷ 512 ∷ 1024 ∷ 2048 ∷ 4096 ∷ 8192 ∷ 16384 ∷ 32768 ∷ 65536 ∷ 131072 ∷ 262144 ∷ 524288 ∷ 1048576 ∷ 2097152 ∷ 4194304 ∷ 8388608 ∷ [])
+half-powers : map halfPowerAt (2 ∷ 3 ∷ 4 ∷ 5 ∷ 6 ∷ 7 ∷ 7 ∷ 7 ∷ 8 ∷ 9 ∷ 10 ∷ 11 ∷ 12 ∷ 13 ∷ 14 ∷ 15 ∷ 16 ∷ 17 ∷ 18 ∷ 19 ∷ 20 ∷ 21 ∷ 22 ∷ 23 ∷ 24 ∷ 25 ∷ [])
+    ≡ map (λ p. inv (whole p)) (1 ∷ 2 ∷ 4 ∷ 8 ∷ 16 ∷ 32 ∷ 32 ∷ 32 ∷ 64 ∷ 128 ∷ 256 ∷ 512 ∷ 1024 ∷ 2048 ∷ 4096 ∷ 8192 ∷ 16384 ∷ 32768 ∷ 65536 ∷ 131072 ∷ 262144 ∷ 524288 ∷ 1048576 ∷ 2097152 ∷ 4194304 ∷ 8388608 ∷ [])
 unfolding halfPowerAt
 half-powers = refl

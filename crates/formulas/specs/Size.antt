@@ -24,18 +24,18 @@ unfoldable pub smallest : (ℕ → Bool) → ℕ → ℕ → ℕ
 smallest test first zero = first
 smallest test first (suc tries) = let later = smallest test (suc first) tries in cond (test first) first later
 
--- "I·Kf·√t, I being fault·Df in kA", in kcmil
+-- "I·Kf·√t, I being fault·Df in kA", in kcmil; request (a) of document 02: "conductor size uses wire with the factor from clear"
 unfoldable pub required : Case → Exact
-required c = exactly (decimal (c .fault * Df c) 6 ·f decimal (Kf (c .metal)) 2) ·x root 2 (exactly (decimal (c .ms) 3))
+required c = exactly (decimal (c .fault * Df c) 6 ·f decimal (Kf (c .metal)) 2) ·x root 2 (exactly (decimal (c .wire) 3))
 
 -- I·Kf in units of 10^−8
 unfoldable pub duty : Case → ℕ
 duty c = c .fault * Df c * Kf (c .metal)
 
--- "the smallest whole kcmil not below I·Kf·√t": squared, with t in ms, duty² · ms ≤ kcmil² · 10^19. No size is tried above duty² · ms,
+-- "the smallest whole kcmil not below I·Kf·√t": squared, with t in ms, duty² · wire ≤ kcmil² · 10^19. No size is tried above duty² · wire,
 -- which passes. proofs/Size.antt shows that this is the smallest number which `required` is not above.
 unfoldable pub enough : Case → ℕ → Bool
-enough c kcmil = leb (duty c ^ 2 * c .ms) (kcmil ^ 2 * 10 ^ 19)
+enough c kcmil = leb (duty c ^ 2 * c .wire) (kcmil ^ 2 * 10 ^ 19)
 
 unfoldable pub size : Case → ℕ
-size c = smallest (enough c) 0 (duty c ^ 2 * c .ms)
+size c = smallest (enough c) 0 (duty c ^ 2 * c .wire)

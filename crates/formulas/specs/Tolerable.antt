@@ -25,9 +25,9 @@ module _ (c : Case) where
   unfoldable pub k : Fraction
   k = cond (eqb (c .body) 50) (decimal 116 3) (decimal 157 3)
 
-  -- √t, t in seconds
+  -- √t, t in seconds; request (a) of document 02: "Tolerable voltages use shock"
   unfoldable pub rootTime : Exact
-  rootTime = root 2 (exactly (decimal (c .ms) 3))
+  rootTime = root 2 (exactly (decimal (c .shock) 3))
 
   -- "(1000 + 1.5·Q)·k/√t"
   unfoldable pub tolerableTouch : Exact

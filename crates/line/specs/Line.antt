@@ -10,7 +10,8 @@ use Rattle.case.specs.declared.Case.{Case}
 use Rattle.case.specs.Columns.{Form}
 use Rattle.case.specs.Case.{caseOf}
 
--- "value of a wrong form; too few values (first missing column); too many (19)": the leftmost wrong column from column c on, or 0
+-- "value of a wrong form; too few values (first missing column); too many (19)": the leftmost wrong column from column c on, or 0;
+-- the surplus column is one past the names of the form
 unfoldable pub wrongForm : Form → ℕ → List (List ℕ) → ℕ
 wrongForm form c [] = cond (leb c (length form)) c 0
 wrongForm form c (field ∷ fields) = cond (leb c (length form) && isValue field) (wrongForm form (suc c) fields) c

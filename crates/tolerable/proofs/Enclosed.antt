@@ -95,8 +95,8 @@ module _ {c : Case} (b : Bounds c) where
   time-encloses : Encloses (rootTime c) (ten 8) (timeRoot c)
   unfolding rootTime timeRoot ten
   time-encloses =
-      encloses-sqrt-even (ten 8) {v = ten 3} (c .ms) (10 ^ 4) refl (omega arith) (pair-ends (c .ms * 10 ^ 13))
-      (encloses-decimal (c .ms) 3 1 (ten 3) refl (omega arith))
+      encloses-sqrt-even (ten 8) {v = ten 3} (c .shock) (10 ^ 4) refl (omega arith) (pair-ends (c .shock * 10 ^ 13))
+      (encloses-decimal (c .shock) 3 1 (ten 3) refl (omega arith))
 
   tolerable-encloses : (share : Fraction) (weight : ℕ) → whole 0 ≤f share → Counted share weight
       → Encloses (exactly ((whole 1000 +f share ·f Q c) ·f k c) ÷x rootTime c) mV (tolerableEnds c weight)

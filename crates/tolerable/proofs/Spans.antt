@@ -41,7 +41,7 @@ top-span {c} b weight h =
 
 pub time-span : {c : Case} → Bounds c → Span (timeRoot c) 9000000 200000000 1
 unfolding timeRoot
-time-span {c} b = root-span (c .ms * 10 ^ 13) 9000000 200000000 (omega (arith, b .ms .low)) (omega (arith, b .ms .high))
+time-span b = root-span _ 9000000 200000000 (omega arith) (omega arith)
 
 -- ---- the quotient
 

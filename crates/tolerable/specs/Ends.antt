@@ -27,7 +27,7 @@ module _ (c : Case) where
 
   -- √t in 10^−8
   unfoldable pub timeRoot : Interval
-  timeRoot = rootPair (c .ms * 10 ^ 13)
+  timeRoot = rootPair (c .shock * 10 ^ 13)
 
   -- (1000 + weight/2 · Q) · k in units of 1/2,000,000
   unfoldable pub topEnds : ℕ → Interval

@@ -51,7 +51,7 @@ fn time_root(c: Case) -> Interval
     requires { ⌜ Bounds c ⌝ }
     ensures { λ r. ⌜ r ≡ timeRoot c ⌝ }
 {
-    root_ends((c.ms as u64) * 10000000000000)
+    root_ends((c.shock as u64) * 10000000000000)
 }
 
 // (1000 + weight/2 · Q) · k in units of 1/2,000,000.

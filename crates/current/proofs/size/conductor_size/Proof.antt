@@ -21,12 +21,13 @@ cast-square-load c = search needs
 square-load-requires : tie.Need-square-load-requires
 square-load-requires c κs =
     let s = c .before .before in
-    rw (c .before .load .ensures) (duty-bound (s .pre), s .pre .ms .high)
+    let b = s .pre in
+    rw (c .before .load .ensures) (duty-bound b, omega arith)
 
 smallest-square-requires : tie.Need-smallest-square-requires
 smallest-square-requires c κs =
     let s = c .before .before .before in
-    rw (c .square-load .ensures, c .before .before .load .ensures) (load-bound _ _ (duty-bound (s .pre)) (s .pre .ms .high))
+    rw (c .square-load .ensures, c .before .before .load .ensures) (let b = s .pre in load-bound _ _ (duty-bound b) (omega arith))
 
 returns : tie.Need-returns
 returns c =
