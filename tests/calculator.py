@@ -21,8 +21,8 @@ from functools import lru_cache
 
 LINE_END = b"\n"
 FIELD_END = b","
-MAX_BYTES = 16384
-MAX_VALUE_LINES = 64
+MAX_BYTES = 65536  # this and the next as changed by request (h) of document 02
+MAX_VALUE_LINES = 256
 MAX_DIGITS = 6
 ROW_LENGTH = 17
 
@@ -329,7 +329,7 @@ def check_names(names):
 
 
 def check_line_count(count):
-    """Refusal 4: no value line (line 2), or more than 64 (line 66)."""
+    """Refusal 4: no value line (line 2), or more than 256 (line 258)."""
     if count == 0:
         return Refusal(4, 2, 0)
     if count > MAX_VALUE_LINES:

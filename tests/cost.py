@@ -1,6 +1,7 @@
 """Counts the instructions that the program `verdict` takes for a line of a sheet.
 
-    rt check verdict && python3 tests/cost.py [--program target/bin/verdict] [--sheet FILE]
+    rt check verdict
+    python3 tests/cost.py [--program target/bin/verdict] [--sheet FILE] [--lines N]
 
 It needs valgrind. Each figure is a difference of two runs, on the whole sheet and on its first two
 lines, so that the program's start and the line of names do not count. A sheet whose last line
@@ -34,6 +35,15 @@ def instructions(program, lines):
     return total - sum(count for count, name in counts if any(part in name for part in PRINTING))
 
 
+def repeated(lines, count):
+    """The sheet with its value lines over and over up to a count, each with its own station."""
+    names, *values = (line.split(b",") for line in lines)
+    at = names.index(b"station")
+    values = [values[i % len(values)] for i in range(count)]
+    values = [[*v[:at], b"%d" % (10001 + i), *v[at + 1 :]] for i, v in enumerate(values)]
+    return [lines[0], *map(b",".join, values)]
+
+
 def refused_at_the_end(lines):
     """The sheet with the first line's station and season in its last line."""
     names, first, *_, last = (line.split(b",") for line in lines)
@@ -53,8 +63,11 @@ def main():
     parser = argparse.ArgumentParser(description=__doc__.split("\n")[0])
     parser.add_argument("--program", default=PROGRAM)
     parser.add_argument("--sheet", default=SHEET, type=Path)
+    parser.add_argument("--lines", type=int, help="repeat the sheet's lines up to so many")
     asked = parser.parse_args()
     lines = asked.sheet.read_bytes().split(b"\n")[:-1]
+    if asked.lines:
+        lines = repeated(lines, asked.lines)
     judged = a_line(asked.program, lines, refused_at_the_end)
     whole = a_line(asked.program, lines, list)
     print(f"{judged:.0f} instructions to judge a line")

@@ -29,7 +29,8 @@ OLD_NAME = "ms"  # of document 01, in the place of the three clocks
 # The stored batch.
 BATCH_SEED, BATCH_COUNT = 35, 150
 BATCH_END = b"\0"
-BATCH_SHORT, BATCH_LONG, BATCH_LONGS = 2000, 16386, 5
+BATCH_SHORT = 2000
+PORTFOLIO, SEASONS = 61, 4  # the stations of request (h), and the seasons of each
 BATCH_FILE = Path(__file__).parents[1] / "crates" / "batch" / "stdin"
 
 
@@ -118,6 +119,22 @@ class Sheet:
         return "".join(lines).encode("latin-1")
 
 
+def stations(sheet, count):
+    """Lines of random cases for stations of five digits, each in one season."""
+    return [sheet.fields(random_case(sheet.rng)._replace(station=65535 - i)) for i in range(count)]
+
+
+def portfolio(sheet):
+    """Lines of random cases for every season of each station."""
+    return [sheet.fields(random_case(sheet.rng)._replace(station=station + 1, season=season + 1))
+            for station in range(PORTFOLIO) for season in range(SEASONS)]
+
+
+def filled_up(text, size):
+    """The last value made long, so that the sheet has a size."""
+    return text[:-1] + b"0" * (size - len(text)) + b"\n"
+
+
 # --------------------------------------------------------------------------
 # Damages to names and values.  Each is named after what it does.
 # --------------------------------------------------------------------------
@@ -192,9 +209,8 @@ def no_value_line(sheet, rng):
 
 
 def many_lines(sheet, rng):
-    """63 to 66 value lines, sometimes with a fault in one of them."""
-    lines = rng.choice((63, 64, 64, 64, 65, 65, 66))
-    sheet.lines = [sheet.fields(random_case(rng)._replace(station=i + 1)) for i in range(lines)]
+    """About the most value lines, sometimes with a fault in one of them."""
+    sheet.lines = stations(sheet, calc.MAX_VALUE_LINES + rng.choice((-1, 0, 0, 0, 1, 1, 2)))
     if rng.random() < 0.5:
         rng.choice((out_of_range, wrong_form, repeated_key))(sheet, rng)
 
@@ -259,13 +275,15 @@ def byte_order_mark(text, rng):
 
 
 def only_one_byte_value(text, rng):
-    counts = (1, 2, calc.COLUMN_COUNT - 1, calc.COLUMN_COUNT, 65, 66, 300)
+    most = calc.MAX_VALUE_LINES
+    counts = (1, 2, calc.COLUMN_COUNT - 1, calc.COLUMN_COUNT, most + 1, most + 2, 2 * most)
     return rng.choice((b",", b"\n", b"0", b"\xff", b"\0")) * rng.choice(counts)
 
 
 def near_the_most_bytes(text, rng):
-    """Filled up to a length about 16,384 and much above, with or without a last byte 10."""
-    size = rng.choice((16383, 16384, 16384, 16385, 16386, 20000, 65536, 300000))
+    """Filled up to a length about the most and much above, with or without a last byte 10."""
+    most = calc.MAX_BYTES
+    size = rng.choice((most - 1, most, most, most + 1, most + 2, most + 4000, 2 * most, 5 * most))
     fill = rng.choice((b"0", b",", b"\n", b"station,", b"\xc3"))
     filled = (text + fill * size)[:size]
     return rng.choice((filled, filled[:-1] + b"\n"))
@@ -273,8 +291,7 @@ def near_the_most_bytes(text, rng):
 
 def last_value_filled_up(text, rng):
     """Only the length is wrong, or only the last value."""
-    size = rng.choice((16384, 16385))
-    return text[:-1] + b"0" * (size - len(text)) + b"\n"
+    return filled_up(text, calc.MAX_BYTES + rng.choice((0, 1)))
 
 
 def changed_byte(text, rng):
@@ -342,13 +359,31 @@ def numbered_sheet(seed, number):
     return rng, *random_sheet(rng)
 
 
+def sheets_at_the_limits():
+    """The most lines and one more, the first key again in the last line, a portfolio, the most
+    bytes and one more.
+    """
+    sheet = Sheet(random.Random(BATCH_SEED))
+    short = sheet.bytes()
+    sheet.lines = stations(sheet, calc.MAX_VALUE_LINES + 1)
+    yield sheet.bytes()
+    sheet.lines.pop()
+    yield sheet.bytes()
+    for name in ("station", "season"):
+        sheet.set(sheet.lines[-1], name, sheet.lines[0][sheet.names.index(name)])
+    yield sheet.bytes()
+    sheet.lines = portfolio(sheet)
+    yield sheet.bytes()
+    yield from (filled_up(short, calc.MAX_BYTES + more) for more in (0, 1))
+
+
 def batch():
-    """Sheets, each ended by a byte 0, which none of them has in it, and few of them long."""
+    """Sheets, each ended by a byte 0, which none of them has in it; only those at the limits are
+    long.
+    """
     sheets = [numbered_sheet(BATCH_SEED, number)[1] for number in range(BATCH_COUNT)]
-    sheets = [sheet for sheet in sheets if BATCH_END not in sheet and len(sheet) <= BATCH_LONG]
-    short = [sheet for sheet in sheets if len(sheet) <= BATCH_SHORT]
-    long = [sheet for sheet in sheets if len(sheet) > BATCH_SHORT][:BATCH_LONGS]
-    return b"".join(sheet + BATCH_END for sheet in short + long)
+    short = [sheet for sheet in sheets if BATCH_END not in sheet and len(sheet) <= BATCH_SHORT]
+    return b"".join(sheet + BATCH_END for sheet in (*short, *sheets_at_the_limits()))
 
 
 # --------------------------------------------------------------------------

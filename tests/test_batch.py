@@ -19,7 +19,7 @@ TABLE = calc.MAX_VALUE_LINES * calc.ROW_LENGTH
 ROOMS = (TABLE, 2 * calc.ROW_LENGTH)
 READERS = (read_rows, read_verdicts)
 KEPT = "kept,"
-MOST_BYTES = 131072  # what the program reads
+MOST_BYTES = 524288  # what the program reads
 LEAST_OF_EACH = 3
 OLD_COLUMN = 6  # of the one time in document 01's own order
 
@@ -147,6 +147,28 @@ class Coverage(Batch):
                 self.assertEqual((rows, verdicts), (Refusal(2, 1, column),) * 2)
         self.assertGreaterEqual(len(columns), 2)
         self.assertIn(OLD_COLUMN, columns)
+
+    def test_sound_above_what_document_01_allowed(self):
+        """More than 64 lines and 16,384 bytes, before request (h) of document 02."""
+        self.assertTrue(any(len(sheet) > 16384 and len(wanted) > 64
+                            for (sheet, _), wanted in zip(self.asked, self.wanted)
+                            if not isinstance(wanted, Refusal)))
+
+    def test_a_key_repeated_in_the_last_line(self):
+        """Lines 2 and 257 have one station and season; without either the sheet is sound."""
+        last = calc.MAX_VALUE_LINES + 1
+        at = self.wanted.index(Refusal(7, last, 0))
+        names, first, *between, again = self.asked[at][0].split(b"\n")[:-1]
+        self.assertEqual(len(between), last - 3)
+        for lines in ((names, first, *between), (names, *between, again)):
+            accepted = calc.read_sheet(b"\n".join(lines) + b"\n")
+            self.assertEqual(len(accepted), calc.MAX_VALUE_LINES - 1)
+
+    def test_61_stations_of_four_seasons(self):
+        keys = [[station, season] for station in range(1, 62) for season in range(1, 5)]
+        for answers in (self.rows, self.verdicts):
+            accepted = [answer for answer in answers if not isinstance(answer, Refusal)]
+            self.assertIn(keys, [[row[:2] for row in rows] for rows in accepted])
 
 
 class Judging(unittest.TestCase):

@@ -116,11 +116,12 @@ class StarredYards(unittest.TestCase):
 
 
 class UnstarredYards(unittest.TestCase):
-    def test_64_lines_pass_and_65_do_not(self):
-        lines = [value_line(station=station) for station in range(1, 66)]
-        cases = calc.read_sheet(sheet_of(*lines[:64]))
-        self.assertEqual([case.station for case in cases], list(range(1, 65)))
-        self.assertEqual(calc.read_sheet(sheet_of(*lines)), Refusal(4, 66, 0))
+    def test_256_lines_pass_and_257_do_not(self):
+        """Document 01's case of 64 and 65 lines, as changed by request (h) of document 02."""
+        lines = [value_line(station=station) for station in range(1, 258)]
+        cases = calc.read_sheet(sheet_of(*lines[:256]))
+        self.assertEqual([case.station for case in cases], list(range(1, 257)))
+        self.assertEqual(calc.read_sheet(sheet_of(*lines)), Refusal(4, 258, 0))
 
     def test_depth_249_and_2501(self):
         for depth in (249, 2501):
@@ -168,8 +169,8 @@ class Refusals(unittest.TestCase):
         self.assert_refused(good[:-1], 1, 0, 0)
         self.assert_refused(good + b"7", 1, 0, 0)
         self.assert_refused(good + b"\r", 1, 0, 0)
-        self.assert_refused(b"x" * 16383 + b"\n", 2, 1, 1)
-        self.assert_refused(b"x" * 16384 + b"\n", 1, 0, 0)
+        self.assert_refused(b"x" * 65535 + b"\n", 2, 1, 1)
+        self.assert_refused(b"x" * 65536 + b"\n", 1, 0, 0)
 
     def test_2_names(self):
         names = HEADER.split(",")
@@ -247,9 +248,9 @@ class Refusals(unittest.TestCase):
 
     def test_4_line_counts(self):
         self.assert_refused(sheet_of(), 4, 2, 0)
-        self.assert_refused(sheet_of(*[""] * 65), 4, 66, 0)
-        self.assert_refused(sheet_of(*[""] * 100), 4, 66, 0)
-        self.assert_refused(sheet_of(*[""] * 64), 3, 2, 1)
+        self.assert_refused(sheet_of(*[""] * 257), 4, 258, 0)
+        self.assert_refused(sheet_of(*[""] * 400), 4, 258, 0)
+        self.assert_refused(sheet_of(*[""] * 256), 3, 2, 1)
 
     def test_5_every_range(self):
         outside = {
@@ -310,8 +311,8 @@ class Refusals(unittest.TestCase):
         # 1 before 2, 2 before 4, 4 before 3
         self.assert_refused(b"nobody", 1, 0, 0)
         self.assert_refused(b"nobody\n", 2, 1, 1)
-        self.assert_refused(text("nobody", *["x"] * 65), 2, 1, 1)
-        self.assert_refused(sheet_of("x", *["x"] * 64), 4, 66, 0)
+        self.assert_refused(text("nobody", *["x"] * 257), 2, 1, 1)
+        self.assert_refused(sheet_of("x", *["x"] * 256), 4, 258, 0)
         # within a line 3, 5, 6, 7, whatever the columns
         self.assert_refused(sheet_of(value_line(station=0, metal="x")), 3, 2, column_of("metal"))
         self.assert_refused(sheet_of(value_line(layer=0, metal=12)), 5, 2, column_of("metal"))

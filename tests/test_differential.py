@@ -102,7 +102,7 @@ class Differential(unittest.TestCase):
             self.assertGreater(self.run_with(program)[2], 0, what)
 
     def test_every_refusal_but_8_comes_up(self):
-        """A table for 64 rows is never too short."""
+        """A table for the most rows is never too short."""
         tally = self.run_with(with_rows(lambda rows: rows))[0]
         self.assertLessEqual(set(range(8)), set(tally))
 

@@ -14,7 +14,7 @@ ghost use Prim.Native.Nat.{_≤_};
 // Room for two rows.
 const SHORT: usize = 2 * ROW_LENGTH;
 
-const BYTES: usize = 131072;
+const BYTES: usize = 524288;
 
 // One answer, in the first room numbers of a table.
 fn answer(what: Listing, s: &[u8], room: usize)

@@ -7,7 +7,7 @@ use Rattle.judgement.specs.declared.LineFinding.{LineFinding}
 use Rattle.judgement.specs.declared.LineFinding.the-variants.{Sound, Form, OutOfRange, Disagreement, Repeated}
 use Rattle.judgement.specs.Limits.{mostLines}
 
--- "sheet empty, over 16,384 bytes, or last byte not 10"
+-- "sheet empty, over 16,384 bytes, or last byte not 10", as changed by request (h) of document 02: over 65,536 bytes
 unfoldable pub textRefused : Judgement
 textRefused = Refused 1 0 0
 
@@ -16,7 +16,7 @@ textRefused = Refused 1 0 0
 unfoldable pub nameRefused : ℕ → Judgement
 nameRefused column = Refused 2 1 column
 
--- "no value line (line 2), or more than 64 (line 66)"
+-- "no value line (line 2), or more than 64 (line 66)", as changed by request (h) of document 02: more than 256 (line 258)
 unfoldable pub noLineRefused : Judgement
 noLineRefused = Refused 4 2 0
 

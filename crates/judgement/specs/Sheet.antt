@@ -23,7 +23,7 @@ names s = fieldsOf (getD (linesOf s) 0 [])
 unfoldable pub valueLines : List ℕ → List (List ℕ)
 valueLines s = drop 1 (linesOf s)
 
--- "sheet empty, over 16,384 bytes, or last byte not 10"
+-- "sheet empty, over 16,384 bytes, or last byte not 10", as changed by request (h) of document 02: over 65,536 bytes
 unfoldable pub badText : List ℕ → Bool
 badText s = eqb (length s) 0 || ltb mostBytes (length s) || not (eqb (getD s (length s - 1) 0) 10)
 

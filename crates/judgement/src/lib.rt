@@ -15,9 +15,9 @@ use text::find;
 use text::skip;
 
 // The most value lines and bytes of a sheet.
-pub const LINES: usize = 64;
+pub const LINES: usize = 256;
 
-pub const BYTES: usize = 16384;
+pub const BYTES: usize = 65536;
 
 // The line named where there are too many.
 const PAST_LINES: usize = LINES + 2;
