@@ -9,6 +9,7 @@ ghost use mathlib.Core.Path.{_≡_};
 ghost use Rattle.hocsimbur.specs.Asked.{factorAnswer, sizeAnswer, TolerableAnswered, ResistanceAnswered, RowAnswered};
 pub use logarithm::logarithm;
 pub use row::Row;
+pub use row::Verdict;
 pub use sheet::Answer;
 pub use sheet::sheet;
 
