@@ -3,6 +3,7 @@
 It follows document 01 (Square Ground Grids: Seasonal Sheets and Voltage Ends),
 as the requests of document 02 that have landed change it, sentence by sentence,
 in exact fractions, and judges reported rows against it.
+The exponential is that of document 02, request (c).
 
     python3 tests/calculator.py [--depth K] [--table N] < sheet
 """
@@ -106,6 +107,8 @@ LN_UNITS = 10**9  # the logarithm is told in billionths
 LN_WIDTH = 200
 LN_MAX = 10**15
 
+EXP_SMALL = Fraction(1, 2)  # the series of e^y is used for y up to here
+
 MIN_DEPTH = 3
 DEFAULT_DEPTH = 12
 SHOWN_DECIMALS = 6
@@ -176,7 +179,7 @@ def combine(operation, left, right):
 
 
 # --------------------------------------------------------------------------
-# What exact means: roots, pi and logarithms at a depth.
+# What exact means: roots, pi, logarithms and exponentials at a depth.
 # --------------------------------------------------------------------------
 
 def check_depth(k):
@@ -291,6 +294,43 @@ def ln_ends(p, q, k):
     if check_ln(p, q):
         raise ValueError(f"the logarithm of {p}/{q} is refused")
     return ln_fraction(Fraction(p, q), k)
+
+
+def exp_halvings(q):
+    """"j is the least count for which y = q/2^j is at most 1/2"."""
+    j = 0
+    while q / 2**j > EXP_SMALL:
+        j += 1
+    return j
+
+
+def exp_small(y, k):
+    """e^y for y up to 1/2: "the first k terms of 1 + y + y^2/2 + y^3/6 + ..
+    from below, and that plus 2*y^k/k! from above".
+    """
+    lower = sum(y**i / math.factorial(i) for i in range(k))
+    return Pair(lower, lower + 2 * y**k / math.factorial(k))
+
+
+@lru_cache(maxsize=4096)
+def exp_fraction(q, k):
+    """"e^q is its 2^j-th power.  e^-q is one over e^q."
+
+    Document 02 speaks of q above 0; by the same words e^0 is 1.
+    """
+    check_depth(k)
+    if q < 0:
+        return 1 / exp_fraction(-q, k)
+    j = exp_halvings(q)
+    small = exp_small(q / 2**j, k)
+    return Pair(small.lower ** 2**j, small.upper ** 2**j)
+
+
+def exp_pair(pair, k):
+    """"An exponential of a pair runs from the lower end's lower to the upper
+    end's upper."
+    """
+    return Pair(exp_fraction(pair.lower, k).lower, exp_fraction(pair.upper, k).upper)
 
 
 # --------------------------------------------------------------------------

@@ -493,7 +493,8 @@ class Exactness(unittest.TestCase):
 
     def test_depths_start_at_3(self):
         for ask in (lambda: calc.pi_ends(2), lambda: calc.exact_ends(YARD, 2),
-                    lambda: calc.root_ends(Fraction(2), 2, 2), lambda: calc.ln_ends(3, 2, 2)):
+                    lambda: calc.root_ends(Fraction(2), 2, 2), lambda: calc.ln_ends(3, 2, 2),
+                    lambda: calc.exp_fraction(Fraction(1), 2), lambda: calc.exp_fraction(Fraction(-1), 2)):
             self.assertRaises(ValueError, ask)
 
     def test_pairs_combine(self):
@@ -575,6 +576,66 @@ class Exactness(unittest.TestCase):
         pair = calc.ln_pair(Pair(Fraction(1, 2), Fraction(3)), 5)
         self.assertEqual(pair, (-calc.ln_ends(2, 1, 5).upper, calc.ln_ends(3, 1, 5).upper))
 
+    def test_exp_halvings_are_the_least(self):
+        above, nearly = Fraction(1, 10**9), 1 - Fraction(1, 10**9)
+        for q, j in ((Fraction(0), 0), (above, 0), (Fraction(1, 2), 0), (Fraction(1, 2) + above, 1),
+                     (nearly, 1), (Fraction(1), 1), (1 + above, 2), (Fraction(2), 2), (Fraction(5), 4),
+                     (Fraction(8), 4), (8 + above, 5), (Fraction(2262), 13)):
+            self.assertEqual(calc.exp_halvings(q), j)
+            self.assertLessEqual(2 * q, 2**j)
+            self.assertFalse(j and 2 * q <= 2 ** (j - 1))
+
+    def test_exp_at_depth_3_by_its_terms(self):
+        tenths = calc.exp_fraction(Fraction(3, 10), 3)  # 1 + 0.3 + 0.045, and 2 * 0.027 / 6 more
+        self.assertEqual(tenths, (Fraction("1.345"), Fraction("1.354")))
+        lower = 1 + Fraction(1, 2) + Fraction(1, 8)
+        upper = lower + 2 * Fraction(1, 8) / 6
+        for q, power in ((Fraction(1, 2), 1), (Fraction(1), 2), (Fraction(2), 4), (Fraction(4), 8)):
+            self.assertEqual(calc.exp_fraction(q, 3), (lower**power, upper**power))
+            self.assertEqual(calc.exp_fraction(-q, 3), (1 / upper**power, 1 / lower**power))
+        self.assertEqual(calc.exp_fraction(Fraction(0), 3), (1, 1))
+
+    def test_exp_at_depth_12_has_twelve_terms(self):
+        y = Fraction(1, 3)
+        terms = [y**i / math.prod(range(1, i + 1)) for i in range(13)]
+        self.assertEqual(calc.exp_fraction(y, 12), (sum(terms[:12]), sum(terms[:12]) + 2 * terms[12]))
+
+    def test_exp_against_doubles(self):
+        rng = random.Random(13)
+        asked = [Fraction(1, 2), Fraction(1), Fraction(5), Fraction("0.14137"), Fraction("15.606"),
+                 Fraction(1, 10**9)]
+        asked += [Fraction(rng.randint(1, 10**9), rng.choice((10**7, 10**8, 10**9, 3 * 10**8)))
+                  for _ in range(20)]
+        for q in asked + [-q for q in asked]:
+            value = Fraction(math.exp(q))
+            for k in (3, 6, 12):
+                pair = calc.exp_fraction(q, k)
+                self.assertLess(pair.lower, pair.upper)
+                self.assertLessEqual(pair.lower * (1 - 10 * self.SLACK), value)
+                self.assertLessEqual(value, pair.upper * (1 + 10 * self.SLACK))
+            # the rest at depth 12 is at most 2 / (2^12 * 12!) of e^y, for each of 2^j factors
+            parts = 2 ** calc.exp_halvings(abs(q))
+            self.assertLess(pair.upper - pair.lower, pair.lower * parts * Fraction(11, 10**13))
+
+    def test_exp_of_a_large_number(self):
+        pair = calc.exp_fraction(Fraction(-2262), 4)
+        self.assertGreater(pair.lower, 0)
+        self.assertLess(pair.upper, Fraction(1, 10**9))
+
+    def test_exp_of_a_pair(self):
+        pair = calc.exp_pair(Pair(Fraction(-3, 2), Fraction(2)), 5)
+        up, down = calc.exp_fraction(Fraction(2), 5), calc.exp_fraction(Fraction(3, 2), 5)
+        self.assertEqual(pair, (1 / down.upper, up.upper))
+
+    def test_exp_upper_end_falls_where_the_halvings_change(self):
+        """So a pair within another does not give an exponential within the other's."""
+        half, above = Fraction(1, 2), Fraction(1, 2) + Fraction(1, 10**15)
+        for k in DEPTHS:
+            at, past = calc.exp_fraction(half, k), calc.exp_fraction(above, k)
+            self.assertGreater(at.upper, past.upper)
+            self.assertLess(at.lower, past.upper)
+            self.assertLess(at.lower, past.lower)
+
     def test_depths_nest(self):
         """No lower end of any depth is above an upper end of any other."""
         rng = random.Random(11)
@@ -585,6 +646,11 @@ class Exactness(unittest.TestCase):
         for asked in ((22, 7), (1, 10**15), (5000, 7)):
             pairs = [calc.ln_ends(*asked, k) for k in DEPTHS]
             self.assertLessEqual(max(p.lower for p in pairs), min(p.upper for p in pairs))
+        for q in (Fraction(1, 7), Fraction(1, 2), Fraction(500001, 10**6), Fraction(1), Fraction(22, 7),
+                  Fraction("15.6")):
+            for asked in (q, -q):
+                pairs = [calc.exp_fraction(asked, k) for k in DEPTHS]
+                self.assertLessEqual(max(p.lower for p in pairs), min(p.upper for p in pairs))
 
 
 def double_values(case):

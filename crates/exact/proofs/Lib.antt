@@ -23,6 +23,15 @@ pub mod Pi
 pub mod Sequences
 pub mod Series
 pub mod SeriesBounds
+pub mod Convolution
+pub mod Triangle
+pub mod ExpTerms
+pub mod Least
+pub mod Squarings
+pub mod Doublings
+pub mod Horner
+pub mod ExpUp
+pub mod Exponential
 pub mod LogArgument
 pub mod Halvings
 pub mod LogUp
@@ -31,5 +40,7 @@ pub mod Quantity
 pub mod Rules
 pub mod Verdict
 pub mod Reported
+pub mod Rounding
 pub mod AboveRoot
 pub mod Computed
+pub mod ComputedExp

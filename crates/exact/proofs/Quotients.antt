@@ -1,6 +1,6 @@
 -- Quotients of fractions by positive ones: the inverse, and how quotients keep the order.
 -- Assumes nothing.
-use Prim.Native.Nat.{ℕ, _+_, _*_, _≤_}
+use Prim.Native.Nat.{ℕ, _+_, _-_, _*_, _≤_, max}
 use mathlib.Core.Path.{_≡_, ap}
 use native.Mathlib.Omega.{arith}
 use Rattle.exact.specs.Fraction.{Fraction, _≤f_, _<f_, _≈f_, whole, _·f_, inv, _÷f_}
@@ -10,6 +10,10 @@ use Rattle.exact.proofs.Products.{mul-comm, mul-assoc, mul-one, one-mul
 gap : (a : Fraction) → whole 0 <f a → (inv a) .den + a .minus ≡ a .plus
 unfolding whole inv
 gap a h = omega arith
+
+-- the divisor of one over a positive whole number
+pub clamped : {n : ℕ} → 1 ≤ n → max 1 (n - 0) ≡ n
+clamped h = omega arith
 
 pub inv-pos : (a : Fraction) → whole 0 <f inv a
 unfolding whole inv

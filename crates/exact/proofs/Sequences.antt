@@ -2,6 +2,8 @@
 -- Assumes nothing.
 use Prim.Native.Nat.{ℕ, zero, suc, _+_, _≤_}
 use mathlib.Core.Path.{_≡_}
+use native.Mathlib.Omega.{arith}
+use native.Mathlib.Decide.{decLe}
 use native.Mathlib.Nat.{le-dest, add-zero, add-suc}
 use Rattle.exact.specs.Fraction.{Fraction, _≤f_}
 use Rattle.exact.proofs.Order.{refl≤, trans≤}
@@ -23,3 +25,12 @@ rising f h = kept (λ a b. a ≤f b) refl≤ (λ a b c l m. trans≤ l m) f h
 
 pub falling : (f : ℕ → Fraction) → ((k : ℕ) → f (suc k) ≤f f k) → {j k : ℕ} → j ≤ k → f k ≤f f j
 falling f h = kept (λ a b. b ≤f a) refl≤ (λ a b c l m. trans≤ m l) f h
+
+-- one that rises below one that falls
+pub crossing : (f g : ℕ → Fraction) → ((k : ℕ) → f k ≤f f (suc k)) → ((k : ℕ) → g (suc k) ≤f g k) → ((k : ℕ) → f k ≤f g k)
+    → (j k : ℕ) → f j ≤f g k
+crossing f g rises falls below j k = go (decLe j k)
+  where
+    go : Dec (j ≤ k) → f j ≤f g k
+    go (yes l) = trans≤ (rising f rises l) (below k)
+    go (no l) = trans≤ (below j) (falling g falls (omega arith))

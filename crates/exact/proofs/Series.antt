@@ -1,17 +1,16 @@
 -- The logarithm's series at one argument z, 0 ≤ z and z² < 1: k terms are below j terms with their tail, at any k and j; and both
 -- grow with z.
 -- Assumes nothing.
-use Prim.Native.Nat.{ℕ, zero, suc, _+_, _*_, _≤_, _<_}
+use Prim.Native.Nat.{ℕ, zero, suc, _+_, _*_, _<_}
 use mathlib.Core.Path.{_≡_}
 use native.Mathlib.Omega.{arith}
-use native.Mathlib.Decide.{decLe}
 use Rattle.exact.specs.Fraction.{Fraction, _≤f_, _<f_, _≈f_, whole, _+f_, _−f_, _·f_, inv, _÷f_, powf}
 use Rattle.exact.specs.Logarithm.{term, terms, tail}
 use Rattle.exact.proofs.Order.{refl≤, trans≤, le-of-lt, refl≈, sym≈, trans≈, whole≤, whole-pos, nonneg}
 use Rattle.exact.proofs.Sums.{mono+, mono−, le+, add-assoc, complement}
 use Rattle.exact.proofs.Products.{mul≤, mul-left≤, mono·, mul-nonneg, mul-pos, mul-assoc, mul-add, add-mul, one-mul, cong·}
 use Rattle.exact.proofs.Quotients.{inv≤, inv-nonneg, split-inv, div≤, mono÷}
-use Rattle.exact.proofs.Sequences.{rising, falling}
+use Rattle.exact.proofs.Sequences.{crossing}
 
 pub pow-nonneg : {z : Fraction} → whole 0 ≤f z → (n : ℕ) → whole 0 ≤f powf z n
 unfolding powf
@@ -108,8 +107,4 @@ module _ {z : Fraction} (nz : whole 0 ≤f z) (hd : whole 0 <f whole 1 −f z ·
   upper-falls k = trans≤ (add-assoc (terms z k) (term z k) (tail z (suc k)) .to) (mono+ (refl≤ (terms z k)) (next-tail k))
 
   pub series-cross : (j k : ℕ) → terms z j ≤f terms z k +f tail z k
-  series-cross j k = go (decLe j k)
-    where
-      go : Dec (j ≤ k) → terms z j ≤f terms z k +f tail z k
-      go (yes l) = trans≤ (rising (terms z) (terms-rise nz) l) (le+ (tail-nonneg nz k))
-      go (no l) = trans≤ (le+ (tail-nonneg nz j)) (falling (λ i. terms z i +f tail z i) upper-falls (omega arith))
+  series-cross = crossing (terms z) (λ i. terms z i +f tail z i) (terms-rise nz) upper-falls (λ k. le+ (tail-nonneg nz k))

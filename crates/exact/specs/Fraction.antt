@@ -74,6 +74,11 @@ unfoldable pub powf : Fraction → ℕ → Fraction
 powf a zero = whole 1
 powf a (suc n) = powf a n ·f a
 
+-- the first k of a sequence, added up
+unfoldable pub sumOf : (ℕ → Fraction) → ℕ → Fraction
+sumOf t zero = whole 0
+sumOf t (suc k) = sumOf t k +f t k
+
 -- ---- which of two is less
 
 unfoldable pub decLef : (a b : Fraction) → Dec (a ≤f b)

@@ -3,6 +3,7 @@ pub mod Ends
 pub mod Exact
 pub mod Root
 pub mod Logarithm
+pub mod Exponential
 pub mod Pi
 pub mod Reported
 pub mod Depth

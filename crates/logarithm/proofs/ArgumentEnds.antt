@@ -1,6 +1,6 @@
 -- The argument of r = (p/q) / 2^m = p / b: it is (p − b) / (p + b), at most a third, and so many units rounded down.
 -- Assumes nothing.
-use Prim.Native.Nat.{ℕ, _+_, _-_, _*_, _^_, _≤_, max}
+use Prim.Native.Nat.{ℕ, _+_, _-_, _*_, _^_, _≤_}
 use mathlib.Core.Path.{_≡_, refl, ap}
 use native.Mathlib.Omega.{arith}
 use native.Mathlib.Nat.{add-zero, div-mul-le-self, mul-le-mul-right, le-of-mul-le-mul-right}
@@ -9,11 +9,13 @@ use Rattle.exact.specs.Fraction.{Fraction, _≤f_, _≈f_, whole, _+f_, neg, _�
 use Rattle.exact.specs.Logarithm.{argument}
 use Rattle.exact.proofs.Order.{trans≤}
 use Rattle.exact.proofs.LogArgument.{argument≤}
+use Rattle.exact.proofs.Quotients.{clamped}
 use Rattle.exact.proofs.Halvings.{reduced-low, reduced-high}
+use Rattle.exact.proofs.Rounding.{units, Toward, toward-trans, toward-same, Is, rounded}
 use Rattle.logarithm.specs.Series.{unit}
 use Rattle.logarithm.specs.Ends.{halvingsOf, baseOf, argumentOf}
 use Rattle.logarithm.proofs.Ratio.{ratio-low, base-below, base-above, base-pos}
-use Rattle.logarithm.proofs.Rounding.{units, binary, Toward, toward-trans, toward-same, Is, rounded}
+use Rattle.logarithm.proofs.Rounding.{binary}
 use Rattle.logarithm.proofs.Rest.{third}
 
 -- p / b
@@ -29,9 +31,6 @@ argument-is {p} {b} h l =
       divisor = omega arith;
       value = omega (arith, ap (λ t. (p - b) * b * t) e, ap (λ t. t * (b * (p + b))) n);
     }
-
-clamped : {n : ℕ} → 1 ≤ n → max 1 (n - 0) ≡ n
-clamped h = omega arith
 
 -- p/q divided by 2^m
 abbrev pub reduced : ℕ → ℕ → Fraction

@@ -14,8 +14,9 @@ use Rattle.exact.proofs.Series.{pow≤, tail≤, terms-rise}
 use Rattle.exact.proofs.Sequences.{rising}
 use Rattle.exact.proofs.SeriesBounds.{term-below}
 use Rattle.exact.proofs.LogArgument.{square<1}
+use Rattle.exact.proofs.Rounding.{units}
 use Rattle.logarithm.specs.Series.{termCount}
-use Rattle.logarithm.proofs.Rounding.{units, binary}
+use Rattle.logarithm.proofs.Rounding.{binary}
 
 -- the largest argument: that of 2
 abbrev pub third : Fraction

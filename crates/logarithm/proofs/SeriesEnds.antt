@@ -4,8 +4,9 @@ use Prim.Native.Nat.{ℕ, zero, suc, _+_, _*_}
 use Rattle.exact.specs.Fraction.{Fraction, _≤f_, whole, _·f_, powf}
 use Rattle.exact.specs.Logarithm.{term, terms}
 use Rattle.exact.proofs.SeriesBounds.{powers-below, powers-above, term-above, term-below}
+use Rattle.exact.proofs.Rounding.{units, Toward, toward-trans, toward-sum, toward-product, toward-same, units-nonneg, units-sum, units-zero, rounded, product-is}
 use Rattle.logarithm.specs.Series.{squareOf, powerOf, termOf, termsOf}
-use Rattle.logarithm.proofs.Rounding.{units, binary, Toward, toward-trans, toward-sum, toward-product, toward-same, units-nonneg, units-sum, units-zero, rounded, product-is, term-is}
+use Rattle.logarithm.proofs.Rounding.{binary, term-is}
 
 -- z² and z^(2i+1) as fractions
 abbrev square : ℕ → ℕ → Fraction
@@ -19,11 +20,11 @@ module _ (z : ℕ) {x : Fraction} (nx : whole 0 ≤f x) {up : ℕ} (h : Toward u
   unfolding squareOf
   square-toward =
       let n = units-nonneg binary z in
-      toward-trans (rounded (product-is z z) up) (toward-product nx n n nx h h)
+      toward-trans (rounded (product-is binary z z) up) (toward-product nx n n nx h h)
 
   power-step : (i : ℕ) → Toward up (power up z (suc i)) (power up z i ·f square up z)
   unfolding powerOf
-  power-step i = rounded (product-is (powerOf up z i) (squareOf up z)) up
+  power-step i = rounded (product-is binary (powerOf up z i) (squareOf up z)) up
 
   power-toward : (i : ℕ) → Toward up (power up z i) (powf x (2 * i + 1))
   unfolding powerOf

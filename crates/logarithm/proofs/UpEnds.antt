@@ -16,10 +16,11 @@ use Rattle.exact.proofs.LogArgument.{argument-nonneg}
 use Rattle.exact.proofs.LogUp.{up-ends}
 use Rattle.exact.proofs.Logarithm.{ln-at-least-one}
 use Rattle.exact.proofs.Computed.{within-ln2}
+use Rattle.exact.proofs.Rounding.{units, Toward, from-below, from-above, toward-trans, toward-same, toward-sum, units-zero, units-sum, rounded}
 use Rattle.logarithm.specs.Series.{termCount, termsOf}
 use Rattle.logarithm.specs.Ends.{halvingsOf, argumentOf, ln2, doublings, nearOf, endOf, upEnds}
 use Rattle.logarithm.proofs.Ratio.{ratio-low}
-use Rattle.logarithm.proofs.Rounding.{units, binary, Toward, from-below, from-above, toward-trans, toward-same, toward-sum, units-zero, units-sum, rounded, billionths-are, multiple-is}
+use Rattle.logarithm.proofs.Rounding.{binary, billionths-are, multiple-is}
 use Rattle.logarithm.proofs.SeriesEnds.{terms-toward}
 use Rattle.logarithm.proofs.Rest.{rest-below, terms-below}
 use Rattle.logarithm.proofs.ArgumentEnds.{reduced, reduced-least, argument-third, argument-low, argument-high}

@@ -1,0 +1,106 @@
+-- The whole numbers of the calculation against the fractions that they stand for, each rounded down or up.
+-- Assumes nothing.
+use Prim.Native.Nat.{ℕ, zero, suc, _+_, _*_, _/_, _^_, _≤_, _<_}
+use mathlib.Core.Path.{_≡_, refl, ap}
+use native.Mathlib.Omega.{arith}
+use lib.Dec.{lit<}
+use lib.Pow.{pow-pos}
+use Rattle.exact.specs.Fraction.{Fraction, _≤f_, _≈f_, whole, _+f_, _·f_, inv, _÷f_, powf}
+use Rattle.exact.specs.Exponential.{expTerms}
+use Rattle.exact.specs.Depth.{workDepth}
+use Rattle.exact.specs.Reported.{ten, over}
+use Rattle.exact.proofs.Order.{refl≤, trans≤, sym≈, nonneg}
+use Rattle.exact.proofs.Sums.{mono+, le+}
+use Rattle.exact.proofs.Products.{mul-nonneg, one-mul}
+use Rattle.exact.proofs.Quotients.{clamped, div≤, inv-nonneg}
+use Rattle.exact.proofs.Series.{pow-nonneg}
+use Rattle.exact.proofs.Squarings.{pow-square}
+use Rattle.exact.proofs.Doublings.{halved}
+use Rattle.exact.proofs.Horner.{nested, nested-terms}
+use Rattle.exact.proofs.Rounding.{units, Toward, toward-trans, toward-sum, toward-product, toward-same, units-nonneg, units-sum, Is, rounded, product-is}
+use Rattle.exponential.specs.Ends.{billion, levels, nestedOf, inverseOf, squaredOf}
+
+-- n billionths
+abbrev pub parts : ℕ → Fraction
+parts = units (ten 9)
+
+pub parts≤ : {m n : ℕ} → m ≤ n → parts m ≤f parts n
+unfolding over ten
+parts≤ l = omega arith
+
+-- ---- what is rounded
+
+halved-is : (q m : ℕ) → Is (ten 9) q (2 ^ m) (halved m (parts q))
+unfolding over ten whole _·f_ inv _÷f_
+halved-is q m =
+    let e : inv (whole (2 ^ m)) .den ≡ 2 ^ m = clamped (pow-pos m) in
+    record { divisor = pow-pos m; value = omega (arith, ap (λ t. q * t) e) }
+
+level-is : (y s i : ℕ) → Is (ten 9) (y * s) (billion * suc i) ((parts y ·f parts s) ÷f whole (suc i))
+unfolding over ten whole _·f_ inv _÷f_
+level-is y s i =
+    let e : inv (whole (suc i)) .den ≡ suc i = omega arith in
+    record { divisor = omega arith; value = omega (arith, ap (λ t. y * s * t) e) }
+
+pub inverse-is : {s : ℕ} → 0 < s → Is (ten 9) (billion * billion) s (inv (parts s))
+unfolding over ten inv
+inverse-is {s} h =
+    let e : inv (parts s) .den ≡ s = omega arith in
+    record { divisor = h; value = omega (arith, e) }
+
+-- ---- each step
+
+pub argument-toward : (up q m : ℕ) → Toward up (parts (q / 2 ^ m + up)) (halved m (parts q))
+argument-toward up q m = rounded (halved-is q m) up
+
+billion-is : whole 1 ≈f parts billion
+unfolding over ten whole
+billion-is = omega arith
+
+toward-divided : {up : ℕ} {a b : Fraction} (c : Fraction) → Toward up a b → Toward up (a ÷f c) (b ÷f c)
+toward-divided c h = record { down = λ e. div≤ c (h .down e); upward = λ l. div≤ c (h .upward l) }
+
+nested-nonneg : {x : Fraction} → whole 0 ≤f x → (i n : ℕ) → whole 0 ≤f nested x i n
+unfolding nested _÷f_
+nested-nonneg h i zero = nonneg 1
+nested-nonneg h i (suc n) = trans≤ (nonneg 1) (le+ (mul-nonneg (mul-nonneg h (nested-nonneg h (suc i) n)) (inv-nonneg _)))
+
+module _ {x : Fraction} (nx : whole 0 ≤f x) {up : ℕ} (y : ℕ) (h : Toward up (parts y) x) where
+  nested-toward : (i n : ℕ) → Toward up (parts (nestedOf up y i n)) (nested x i n)
+  unfolding nestedOf nested
+  nested-toward i zero = toward-same up (sym≈ billion-is)
+  nested-toward i (suc n) =
+      let s = nestedOf up y (suc i) n in
+      toward-trans (toward-same up (units-sum (ten 9) billion _))
+      (toward-sum (toward-same up (sym≈ billion-is))
+      (toward-trans (rounded (level-is y s i) up)
+      (toward-divided (whole (suc i))
+      (toward-product nx (units-nonneg (ten 9) s) (units-nonneg (ten 9) y) (nested-nonneg nx (suc i) n) h (nested-toward (suc i) n)))))
+
+  -- as many terms as the depth has
+  pub terms-toward : Toward up (parts (nestedOf up y 0 levels)) (expTerms x workDepth)
+  terms-toward = toward-trans (nested-toward 0 levels) (toward-same up (nested-terms x levels))
+
+-- downward
+pub inverse-below : {s : ℕ} → 0 < s → parts (inverseOf 0 s) ≤f inv (parts s)
+unfolding inverseOf
+inverse-below h = rounded (inverse-is h) 0 .down refl
+
+-- upward, with a unit more
+pub inverse-above : (s : ℕ) → 0 < s → inv (parts s) +f parts 1 ≤f parts (inverseOf 1 s)
+unfolding inverseOf
+inverse-above s h =
+    let r = billion * billion / s in
+    let m : r + 1 + 1 ≤ inverseOf 1 s = omega arith in
+    trans≤ (mono+ (rounded (inverse-is h) 1 .upward (lit< tt)) (refl≤ _)) (trans≤ (units-sum (ten 9) (r + 1) 1 .fro) (parts≤ m))
+
+pub squared-toward : {up : ℕ} (v : ℕ) {z : Fraction} → whole 0 ≤f z → Toward up (parts v) z → (m : ℕ)
+    → Toward up (parts (squaredOf up v m)) (powf z (2 ^ m))
+unfolding squaredOf powf ten
+squared-toward {up} v {z} nz h zero = toward-trans h (toward-same up (sym≈ (one-mul z)))
+squared-toward {up} v {z} nz h (suc m) =
+    let s = squaredOf up v m in
+    let n = units-nonneg (ten 9) s in
+    let p = pow-nonneg nz (2 ^ m) in
+    let t = squared-toward v nz h m in
+    toward-trans (rounded (product-is (ten 9) s s) up) (toward-trans (toward-product p n n p t t) (toward-same up (sym≈ (pow-square z m))))

@@ -1,0 +1,41 @@
+-- The ends of e^−q for q from a to b as callers use them: natural, in order, at most 1, and close.
+-- Assumes nothing.
+use Prim.Native.Nat.{ℕ, _+_, _-_, _*_, _^_, _≤_}
+use mathlib.Core.Path.{refl}
+use native.Mathlib.Omega.{arith}
+use Rattle.interval.specs.Operations.{natural}
+use Rattle.interval.specs.Span.{Span}
+use Rattle.interval.proofs.Signed.{le-halves}
+use Rattle.exact.specs.Exact.{exactly}
+use Rattle.exact.specs.Reported.{ten}
+use Rattle.exact.proofs.Order.{refl≤}
+use Rattle.exact.proofs.Consistency.{consistent-exactly, consistent-minus}
+use Rattle.exact.proofs.Exponential.{consistent-exp}
+use Rattle.enclosure.specs.Enclosure.{Encloses}
+use Rattle.enclosure.proofs.Basics.{encloses-exactly, encloses-ordered}
+use Rattle.exponential.specs.Ends.{billion, most, halvingsOf, endOf, expEnds}
+use Rattle.exponential.proofs.Rounded.{parts, parts≤}
+use Rattle.exponential.proofs.Encloses.{exp-encloses}
+use Rattle.exponential.proofs.Width.{exp-width, end-less}
+
+-- since they enclose e^−a
+ordered : {a b : ℕ} → 1 ≤ a → a ≤ b → endOf 0 1 (halvingsOf b) b ≤ endOf 1 0 (halvingsOf b) a
+unfolding expEnds natural
+ordered {a} {b} h l =
+    let x = exactly (parts a) in
+    let c = consistent-exactly (parts a) in
+    let e : Encloses x (ten 9) (natural a b) = encloses-exactly (refl≤ (parts a)) (parts≤ l) in
+    omega (arith, le-halves (encloses-ordered (consistent-exp (consistent-minus c)) (exp-encloses a b h c e)))
+
+pub exp-span : {a b : ℕ} → 65536 ≤ a → a ≤ b → b ≤ most → Span (expEnds a b) 0 billion (5 * (b - a) + 20 * 2 ^ halvingsOf b)
+unfolding expEnds
+exp-span {a} {b} low l high =
+    record {
+      a = endOf 0 1 (halvingsOf b) b;
+      b = endOf 1 0 (halvingsOf b) a;
+      is = refl;
+      from = omega arith;
+      order = ordered (omega arith) l;
+      to = omega (arith, end-less low l high);
+      near = exp-width low l high;
+    }
