@@ -1,16 +1,16 @@
--- Sizes and widths of the tolerable voltages' ends.
+-- Sizes and widths of the parts of the tolerable voltages' ends.
 -- Assumes nothing.
 use Prim.Native.Nat.{ℕ, _+_, _*_, _^_, _≤_}
 use mathlib.Core.Bool.{Bool, true, false, cond}
 use native.Mathlib.Omega.{arith}
 use native.Mathlib.Nat.{mul-le-mul, le-trans}
-use lib.Dec.{lit≤, lit<, eqb}
+use lib.Dec.{lit≤, eqb}
 use Rattle.interval.specs.Span.{Span}
-use Rattle.interval.proofs.Span.{span-point, span-wider, span-sum, span-scaled, span-quotient}
+use Rattle.interval.proofs.Span.{span-point, span-wider, span-sum, span-scaled}
 use Rattle.enclosure.proofs.RootSpan.{root-span}
 use Rattle.case.specs.declared.Case.{Case}
 use Rattle.case.specs.Bounds.{Between, Bounds}
-use Rattle.tolerable.specs.Ends.{bodyFactor, timeRoot, topEnds, tolerableEnds}
+use Rattle.tolerable.specs.Ends.{bodyFactor, timeRoot, topEnds}
 use Rattle.tolerable.proofs.Layer.{layer-span}
 
 pub body-bounds : {c : Case} → Bounds c → Between 116 (bodyFactor c) 157
@@ -42,11 +42,3 @@ top-span {c} b weight h =
 pub time-span : {c : Case} → Bounds c → Span (timeRoot c) 9000000 200000000 1
 unfolding timeRoot
 time-span b = root-span _ 9000000 200000000 (omega arith) (omega arith)
-
--- ---- the quotient
-
-pub tolerable-span : {c : Case} → Bounds c → (weight : ℕ) → weight ≤ 12 → Span (tolerableEnds c weight) 50000 200000000 1000
-unfolding tolerableEnds
-tolerable-span b weight h =
-    span-wider (span-quotient 50000 50000 200000000 999 (lit< tt) (lit≤ tt) (lit≤ tt) (lit≤ tt) (top-span b weight h) (time-span b))
-    (lit≤ tt) (lit≤ tt) (lit≤ tt)
