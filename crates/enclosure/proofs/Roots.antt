@@ -3,7 +3,7 @@
 use Prim.Native.Nat.{ℕ, _+_, _*_, _^_, _≤_, _<_}
 use mathlib.Core.Path.{_≡_}
 use native.Mathlib.Omega.{arith}
-use native.Mathlib.Nat.{mul-le-mul-right, pow-zero, pow-suc}
+use native.Mathlib.Nat.{mul-le-mul-right}
 use lib.Dec.{lit≤}
 use lib.IntN.{pos}
 use Rattle.interval.specs.Operations.{natural, point}
@@ -15,6 +15,7 @@ use Rattle.exact.specs.Exact.{Exact, exactly}
 use Rattle.exact.specs.Depth.{workDepth}
 use Rattle.exact.specs.Root.{root}
 use Rattle.exact.specs.Reported.{Scale, over, reported}
+use Rattle.exact.proofs.Powers.{square}
 use Rattle.exact.proofs.Inclusion.{within-refl}
 use Rattle.exact.proofs.Roots.{root-within}
 use Rattle.enclosure.specs.Enclosure.{Encloses}
@@ -48,9 +49,6 @@ encloses-root-of n q u lo hi m h fits low high =
     }
 
 -- ---- square roots: t is u² · n / v rounded down, and i has the root of t and the next number
-
-square : (n : ℕ) → n ^ 2 ≡ n * n
-square n = simp (pow-suc n 1, pow-suc n 0, pow-zero n) (omega arith)
 
 pub encloses-sqrt : {x : Exact} (u : Scale) {v : Scale} {t : ℕ} {i : Interval} (n m : ℕ) → u .count * m ≡ 10 ^ workDepth
     → t * v .count ≤ u .count * u .count * n → u .count * u .count * n < (t + 1) * v .count

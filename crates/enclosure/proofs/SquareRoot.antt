@@ -1,12 +1,11 @@
 -- The whole part of a square root is the only number with its two properties.
 -- Assumes nothing.
-use Prim.Native.Nat.{ℕ, zero, suc, _+_, _*_, _≤_, _<_}
+use Prim.Native.Nat.{ℕ, _+_, _*_, _≤_, _<_}
 use mathlib.Core.Path.{_≡_, refl}
 use native.Mathlib.Omega.{arith}
-use native.Mathlib.Nat.{mul-le-mul, mul-le-mul-right}
+use native.Mathlib.Nat.{mul-le-mul}
 use native.Mathlib.Decide.{decLt}
 use Rattle.interval.specs.declared.Interval.{Interval}
-use Rattle.interval.specs.Operations.{natural}
 use Rattle.interval.specs.Root.{IsRoot, RootEnds}
 use Rattle.exact.proofs.Greatest.{greatest-holds, greatest-next}
 use Rattle.enclosure.specs.SquareRoot.{squareRoot, rootPair}
@@ -33,9 +32,12 @@ root-unique {x} {r} {s} h k = go (decLt r s) (decLt s r)
     go (no l) (yes m) = absurd (less k h m)
     go (no l) (no m) = omega arith
 
+pub square-root-is : {x r : ℕ} → IsRoot x r → squareRoot x ≡ r
+square-root-is {x} h = root-unique (square-root x) h
+
 pub root-pair : {x : ℕ} {a : Interval} → RootEnds x a → a ≡ rootPair x
 unfolding rootPair
-root-pair {x} r = rw (r .ends, root-unique (r .is-root) (square-root x))
+root-pair r = rw (r .ends, square-root-is (r .is-root))
 
 pub pair-ends : (x : ℕ) → RootEnds x (rootPair x)
 unfolding rootPair

@@ -50,6 +50,10 @@ pub within-ln2 : Within (lnNear (whole 2) 12) (reported (ten 12) (record { lower
 unfolding values
 within-ln2 = record { low = record { le = lit≤ tt }; high = record { le = lit≤ tt } }
 
+pub within-ln-two : Within (lnOf (whole 2) 12) (reported (ten 9) (record { lower = pos 693147180; upper = pos 693147181 }))
+unfolding values
+within-ln-two = record { low = record { le = lit≤ tt }; high = record { le = lit≤ tt } }
+
 within-ln10 : Within (lnOf (whole 10) 12) (reported (ten 9) (record { lower = pos 2302585092; upper = pos 2302585093 }))
 unfolding values
 within-ln10 = record { low = record { le = lit≤ tt }; high = record { le = lit≤ tt } }

@@ -36,6 +36,7 @@ pub mod LogArgument
 pub mod Halvings
 pub mod LogUp
 pub mod Logarithm
+pub mod Bounded
 pub mod Quantity
 pub mod Rules
 pub mod Verdict

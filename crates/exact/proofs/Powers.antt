@@ -8,6 +8,9 @@ use native.Mathlib.Decide.{decLe}
 use native.Mathlib.Nat.{mul-le-mul-right, mul-lt-mul-of-pos-right, lt-of-mul-lt-mul-right, le-of-mul-le-mul-right, mul-pos, lt-of-not-le, pow-suc, pow-zero, pow-le-pow-left, pow-le-pow-right, pow-lt-pow-left, one-le-pow}
 use Rattle.exact.specs.Fraction.{Fraction, _≤f_, top}
 
+pub square : (n : ℕ) → n ^ 2 ≡ n * n
+square n = simp (pow-suc n 1, pow-suc n 0, pow-zero n) (omega arith)
+
 pub mul-pow : (a b n : ℕ) → (a * b) ^ n ≡ a ^ n * b ^ n
 mul-pow a b zero = simp pow-zero
 mul-pow a b (suc n) = simp pow-suc (omega (arith, ap (λ t. t * (a * b)) (mul-pow a b n)))

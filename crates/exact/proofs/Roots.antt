@@ -5,12 +5,12 @@ use mathlib.Core.Path.{_≡_, refl}
 use native.Mathlib.Omega.{arith}
 use native.Mathlib.Nat.{mul-le-mul-right}
 use lib.IntN.{pos}
-use Rattle.exact.specs.Fraction.{Fraction, _≤f_, decimal, top}
+use Rattle.exact.specs.Fraction.{Fraction, _≤f_, _≈f_, decimal, top}
 use Rattle.exact.specs.Ends.{Ends}
 use Rattle.exact.specs.Exact.{Exact, exactly, Holds}
 use Rattle.exact.specs.Root.{rootOf, root}
 use Rattle.exact.specs.Reported.{Scale, reported}
-use Rattle.exact.specs.Depth.{Consistent, Within}
+use Rattle.exact.specs.Depth.{Consistent, Within, SameEnds}
 use Rattle.exact.proofs.Order.{refl≤, trans≤}
 use Rattle.exact.proofs.Growing.{Growing, consistent-extended, within-extended, holds-extended}
 use Rattle.exact.proofs.Consistency.{proper-at}
@@ -43,6 +43,15 @@ consistent-root n hn c = consistent-extended (growing-root n hn) (λ k d. tt) c
 pub root-exactly : (n : ℕ) (q : Fraction) (k : ℕ) → root n (exactly q) k ≡ rootOf n q k
 unfolding root exactly
 root-exactly n q k = refl
+
+-- the ends depend on the value alone
+pub root-value : (n : ℕ) {q q′ : Fraction} → 1 ≤ n → q ≈f q′ → (k : ℕ) → SameEnds (root n (exactly q) k) (root n (exactly q′) k)
+unfolding root exactly
+root-value n hn e k =
+    let g = growing-root n hn in
+    let there = g .rises tt (e .to) k in
+    let back = g .rises tt (e .fro) k in
+    record { lowers = record { to = there .lowers; fro = back .lowers }; uppers = record { to = there .uppers; fro = back .uppers } }
 
 pub within-root : (n : ℕ) {x : Exact} {k : ℕ} {A : Ends} → 1 ≤ n → Consistent x → 3 ≤ k → Within (x k) A
     → Within (root n x k) (root n (λ _. A) k)

@@ -2,7 +2,7 @@
 -- `up` is 0 where a step is rounded down, and 1 where it is rounded up.
 -- Assumes nothing.
 use Prim.Native.Nat.{ℕ, zero, suc, _+_, _*_, _/_, _^_}
-use lib.IntN.{pos}
+use lib.IntN.{pos, natAbs}
 use Rattle.interval.specs.declared.Interval.{Interval}
 use Rattle.interval.specs.Operations.{natural}
 use Rattle.exact.specs.Exponential.{doublings}
@@ -52,3 +52,7 @@ endOf up down j q = squaredOf up (inverseOf up (seriesOf down (argumentOf down j
 -- for q from a to b, by the halvings of b
 unfoldable pub expEnds : ℕ → ℕ → Interval
 expEnds a b = natural (endOf 0 1 (halvingsOf b) b) (endOf 1 0 (halvingsOf b) a)
+
+-- of a pair of exponents
+unfoldable pub expPair : Interval → Interval
+expPair q = expEnds (natAbs (q .lower)) (natAbs (q .upper))

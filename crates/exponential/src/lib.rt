@@ -2,7 +2,8 @@
 use interval::Interval;
 ghost use mathlib.Core.Path.{_≡_};
 ghost use Prim.Native.Nat.{_≤_, _^_};
-ghost use Rattle.exponential.specs.Ends.{most, halvingsOf, seriesOf, inverseOf, squaredOf, expEnds};
+ghost use Rattle.interval.specs.Span.{Span};
+ghost use Rattle.exponential.specs.Ends.{most, halvingsOf, seriesOf, inverseOf, squaredOf, expEnds, expPair};
 
 const BILLION: u64 = 1000000000;
 
@@ -64,7 +65,7 @@ fn end(up: u64, down: u64, y: u64, m: u64) -> u64
 }
 
 // The ends of e^-q in billionths, for q from a to b billionths: e^-q falls as q grows.
-pub fn exp_ends(a: u64, b: u64) -> Interval
+fn exp_ends(a: u64, b: u64) -> Interval
     requires { ⌜ (a ≤ b) × (b ≤ most) ⌝ }
     ensures { λ r. ⌜ r ≡ expEnds a b ⌝ }
 {
@@ -73,4 +74,12 @@ pub fn exp_ends(a: u64, b: u64) -> Interval
         end(0, 1, b / h.parts + 1, h.times),
         end(1, 0, a / h.parts, h.times),
     )
+}
+
+// The same for a pair q.
+pub fn exp_pair(q: Interval) -> Interval
+    requires { ⌜ Span q 0 most most ⌝ }
+    ensures { λ r. ⌜ r ≡ expPair q ⌝ }
+{
+    exp_ends(q.lower as u64, q.upper as u64)
 }

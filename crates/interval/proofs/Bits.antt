@@ -1,15 +1,15 @@
 -- What signed locals hold: bits, which a need reads back as `toZ w64 (ofZ w64 z)`. Where z fits, that is z.
 -- Assumes nothing.
-use Prim.Native.Nat.{suc, _-_, _≤_, _<_, _^_}
+use Prim.Native.Nat.{ℕ, suc, _-_, _≤_, _<_, _^_}
 use mathlib.Core.Path.{_≡_, refl}
 use mathlib.Core.Bool.{true, false}
 use native.Mathlib.Omega.{arith}
 use lib.IntN.{ℤ, pos, negsuc, negℤ, natAbs, _-ℤ_, +ℤ-idl}
-use lib.Dec.{leb·suc-zero}
-use lib.Signed.{mag, ltZ}
+use lib.Dec.{T, leb·suc-zero}
+use lib.Signed.{mag, nonNeg, ltZ}
 use mir.Syntax.{w64}
-use mir.Val.{SFits, toZ, ofZ}
-use mir.Facts.{toZ-ofZ, toZ-pos, toZ-neg}
+use mir.Val.{Fits, SFits, toZ, ofZ}
+use mir.Facts.{toZ-ofZ, toZ-pos, toZ-neg, fits-natAbs}
 use Rattle.interval.specs.Whole.{flipZ}
 use Rattle.interval.specs.declared.Interval.{Interval}
 use Rattle.interval.proofs.Signed.{size-neg}
@@ -24,6 +24,10 @@ Held a = SFits w64 (a .lower) × SFits w64 (a .upper)
 -- of a call's result, `back (c .f .result) (c .f .ok)`
 pub back : (z : ℤ) → mag z < 2 ^ 63 → read z ≡ z
 back z h = toZ-ofZ (record { sfits = h })
+
+-- a natural end as an unsigned number
+pub natural-cast : {z : ℤ} (n : ℕ) → SFits w64 z → read z ≡ pos n → T (nonNeg (read z)) × Fits w64 (natAbs (read z))
+natural-cast n f e = (rw e tt, rw (toZ-ofZ f) (fits-natAbs tt f))
 
 mag≤ : (z : ℤ) → mag z ≤ natAbs z
 mag≤ (pos n) = omega arith

@@ -4,6 +4,7 @@ pub mod Choice
 pub mod Rounding
 pub mod Sizes
 pub mod Natural
+pub mod WideProduct
 pub mod Roots
 pub mod Corners
 pub mod Order

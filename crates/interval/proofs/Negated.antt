@@ -8,12 +8,12 @@ use lib.IntN.{pos, negℤ, negℤ-negℤ, _*ℤ_}
 use lib.Signed.{_≤ℤ_}
 use Rattle.interval.specs.declared.Interval.{Interval}
 use Rattle.interval.specs.Whole.{floorZ, ceilZ, ceilDiv, minZ, maxZ}
-use Rattle.interval.specs.Operations.{natural, size, sumOf, differenceOf, minusOf, cornersOf, outwardOf, productOf}
+use Rattle.interval.specs.Operations.{natural, point, size, sumOf, differenceOf, minusOf, cornersOf, outwardOf, productOf}
 use Rattle.interval.specs.Span.{Span}
 use Rattle.interval.proofs.Signed.{neg-plus, neg-minus, size-neg, le-halves}
 use Rattle.interval.proofs.Choice.{min-cases, max-cases}
 use Rattle.interval.proofs.Rounding.{floor-pos, ceil-pos}
-use Rattle.interval.proofs.Natural.{natural-difference, natural-product}
+use Rattle.interval.proofs.Natural.{point-natural, natural-difference, natural-product}
 
 -- ---- products
 
@@ -93,6 +93,21 @@ span-difference p s t =
       order = omega (arith, t .order, s .order);
       to = omega (arith, s .to);
       near = omega (arith, s .near, t .near);
+    }
+
+-- less a number
+pub span-less : {i : Interval} {l h w : ℕ} (k : ℕ) → k ≤ l → Span i l h w → Span (differenceOf i (point (pos k))) (l - k) (h - k) w
+span-less k p s =
+    let q : k ≤ s .a = omega (arith, s .from) in
+    let r : k ≤ s .b = omega (arith, s .order) in
+    record {
+      a = s .a - k;
+      b = s .b - k;
+      is = rw (s .is, point-natural k) (natural-difference (s .a) (s .b) k k q r);
+      from = omega (arith, s .from);
+      order = omega (arith, s .order);
+      to = omega (arith, s .to);
+      near = omega (arith, s .near);
     }
 
 pub size-negated : (i : Interval) → size (minusOf i) ≡ size i

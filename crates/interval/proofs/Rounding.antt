@@ -1,10 +1,10 @@
 -- Division rounded down and up, of naturals and of signed numbers.
 -- Assumes nothing.
 use Prim.Native.Nat.{ℕ, suc, _+_, _-_, _*_, _/_, _≤_, _<_}
-use mathlib.Core.Path.{_≡_, ap}
+use mathlib.Core.Path.{_≡_, sym, ap}
 use mathlib.Core.Logic.{⊎-elim}
 use native.Mathlib.Omega.{arith}
-use native.Mathlib.Nat.{div-mul-le-self, lt-div-mul-add, mul-le-mul-left, mul-le-mul-right, le-of-suc-le-suc, lt-of-mul-lt-mul-right}
+use native.Mathlib.Nat.{div-mul-le-self, lt-div-mul-add, mul-pos, mul-le-mul-left, mul-le-mul-right, mul-lt-mul-of-pos-left, le-of-suc-le-suc, lt-of-mul-lt-mul-right}
 use lib.IntN.{ℤ, pos, negsuc, negℤ, natAbs}
 use Rattle.interval.specs.Signed.{plus, minus}
 use Rattle.interval.specs.Whole.{floorZ, ceilZ, ceilDiv}
@@ -80,6 +80,14 @@ floor-pos n {d} h = floor-is (floorZ (pos n) d) n d (omega (arith, floor-below (
 
 pub ceil-pos : (n : ℕ) {d : ℕ} → 0 < d → ceilZ (pos n) d ≡ pos (ceilDiv n d)
 ceil-pos n {d} h = ceil-is (ceilZ (pos n) d) n d h (omega (arith, ceil-above (pos n) h)) (omega (arith, ceil-below (pos n) h))
+
+-- a factor of both numbers cancels
+pub ceilDiv-cancel : {m : ℕ} (n k : ℕ) → 0 < m → 0 < k → ceilDiv (m * n) (m * k) ≡ ceilDiv n k
+ceilDiv-cancel {m} n k p q =
+    let c = ceilDiv n k in
+    ap natAbs
+    (sym (ceil-is (pos c) (m * n) (m * k) (mul-pos p q) (omega (arith, mul-le-mul-left m (ceilDiv-above n q)))
+    (omega (arith, mul-lt-mul-of-pos-left (ceilDiv-below n q) p))))
 
 -- ---- sizes
 

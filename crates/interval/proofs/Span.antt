@@ -169,6 +169,16 @@ unfolding natural
 span-divisor p s =
     rw (s .is) (halves-le (pos 1) (pos (s .a)) (omega (arith, s .from)), halves-le (pos (s .a)) (pos (s .b)) (omega (arith, s .order)))
 
+-- the ends of a span as naturals
+module _ {i : Interval} {l h w : ℕ} (s : Span i l h w) where
+  pub span-lower : i .lower ≡ pos (s .a)
+  unfolding natural
+  span-lower = ap (λ (j : Interval). j .lower) (s .is)
+
+  pub span-upper : i .upper ≡ pos (s .b)
+  unfolding natural
+  span-upper = ap (λ (j : Interval). j .upper) (s .is)
+
 -- ---- two ways to speak of one interval
 
 abbrev lowerOf : Interval → ℕ

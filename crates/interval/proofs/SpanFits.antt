@@ -3,12 +3,15 @@
 use Prim.Native.Nat.{ℕ, _+_, _*_, _^_, _≤_, _<_}
 use native.Mathlib.Omega.{arith}
 use native.Mathlib.Nat.{mul-le-mul, mul-le-mul-right, lt-of-le-of-lt}
+use mathlib.Core.Path.{_≡_, _∙_}
 use lib.IntN.{pos}
 use lib.Signed.{_≤ℤ_}
 use Rattle.interval.specs.Operations.{size}
 use Rattle.interval.specs.Span.{Span}
 use Rattle.interval.specs.declared.Interval.{Interval}
-use Rattle.interval.proofs.Span.{span-size, span-divisor}
+use mir.Facts.{toZ-ofZ}
+use Rattle.interval.proofs.Bits.{read, Held}
+use Rattle.interval.proofs.Span.{span-lower, span-upper, span-size, span-divisor}
 
 pub sum-fits : {i j : Interval} {l h w l′ h′ w′ : ℕ} → h + h′ < 2 ^ 63 → Span i l h w → Span j l′ h′ w′ → size i + size j < 2 ^ 63
 sum-fits p s t = omega (arith, span-size s, span-size t)
@@ -26,3 +29,12 @@ product-fits p q s t = (p, lt-of-le-of-lt (mul-le-mul (span-size s) (span-size t
 pub quotient-fits : {i j : Interval} {l h w l′ h′ w′ k : ℕ} → k < 2 ^ 63 → h * k < 2 ^ 63 → 1 ≤ l′ → Span i l h w → Span j l′ h′ w′
     → ((pos 1 ≤ℤ j .lower) × (j .lower ≤ℤ j .upper)) × ((k < 2 ^ 63) × (size i * k < 2 ^ 63))
 quotient-fits {k = k} p q r s t = (span-divisor r t, (p, lt-of-le-of-lt (mul-le-mul-right k (span-size s)) q))
+
+-- ---- what the locals hold of an interval with natural ends
+
+module _ {i : Interval} {l h w : ℕ} (held : Held i) (s : Span i l h w) where
+  pub read-lower : read (i .lower) ≡ pos (s .a)
+  read-lower = toZ-ofZ (held .0) ∙ span-lower s
+
+  pub read-upper : read (i .upper) ≡ pos (s .b)
+  read-upper = toZ-ofZ (held .1) ∙ span-upper s

@@ -1,6 +1,7 @@
 // Pairs of signed whole numbers, as results are reported, with outward rounding: each operation's pair includes the exact one.
 pub mod root;
 mod whole;
+pub mod wide;
 
 use whole::ceil_div;
 use whole::floor_div;
@@ -10,6 +11,7 @@ ghost use mathlib.Core.Path.{_≡_};
 ghost use Prim.Native.Nat.{_+_, _*_, _<_, _^_};
 ghost use lib.IntN.{pos, natAbs};
 ghost use lib.Signed.{_≤ℤ_};
+ghost use Rattle.interval.specs.Wide.{Wide};
 ghost use Rattle.interval.specs.Operations.{natural, point, size, sumOf, differenceOf, minusOf, timesOf, cornersOf, outwardOf, scaledOf, hullOf, productOf, quotientOf};
 
 // The two ends of a quantity, in a unit that the quantity's definition names.
@@ -134,6 +136,17 @@ impl Interval {
         ensures { λ r. ⌜ r ≡ productOf self other den ⌝ }
     {
         self.corners(other).outward(den)
+    }
+
+    // self · other / den, rounded outward, for ends that are not negative: the products themselves may pass 64 bits.
+    pub fn wide_product(self, other: Interval, den: u64) -> Interval
+        requires { ⌜ Wide self other den ⌝ }
+        ensures { λ r. ⌜ r ≡ productOf self other den ⌝ }
+    {
+        Interval::natural(
+            wide::floor(self.lower as u64, other.lower as u64, den),
+            wide::ceil(self.upper as u64, other.upper as u64, den),
+        )
     }
 
     // self · scale / divisor, rounded outward, for a divisor above 0.

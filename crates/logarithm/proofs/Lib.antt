@@ -8,7 +8,9 @@ pub mod Rest
 pub mod ArgumentEnds
 pub mod UpEnds
 pub mod Width
+pub mod EndBounds
 pub mod LnEnds
 pub mod RightEnds
 pub mod KnownHalvings
 pub mod Growth
+pub mod Pairs

@@ -3,6 +3,7 @@
 use Prim.Native.Nat.{ℕ, _+_, _-_, _*_, _/_, _^_, _≤_}
 use mathlib.Core.Bool.{cond}
 use lib.Dec.{ltb}
+use lib.IntN.{natAbs}
 use Rattle.interval.specs.declared.Interval.{Interval}
 use Rattle.interval.specs.Operations.{natural, minusOf}
 use Rattle.exact.specs.Fraction.{whole, _÷f_}
@@ -54,3 +55,7 @@ downEnds p q = minusOf (upEnds q p)
 
 unfoldable pub lnEnds : ℕ → ℕ → Interval
 lnEnds p q = cond (ltb p q) (downEnds p q) (upEnds p q)
+
+-- of a pair x over q: from the lower end at x's lower end to the upper end at its upper end
+unfoldable pub lnPair : Interval → ℕ → Interval
+lnPair x q = record { lower = lnEnds (natAbs (x .lower)) q .lower; upper = lnEnds (natAbs (x .upper)) q .upper }

@@ -2,16 +2,16 @@
 ghost use mathlib.Core.Path.{_≡_};
 ghost use Prim.Native.Nat.{_*_, _/_, _≤_, _<_};
 ghost use Rattle.logarithm.specs.Series.{unit};
-ghost use Rattle.logarithm.specs.Ends.{Inside, halvingsOf, baseOf};
+ghost use Rattle.logarithm.specs.Ends.{Inside, halvingsOf, baseOf, argumentOf};
 
 // m and q · 2^m.
-pub struct Halved {
-    pub times: u64,
-    pub base: u64,
+struct Halved {
+    times: u64,
+    base: u64,
 }
 
 // By doubling q while it does not pass p.
-pub fn halve(p: u64, q: u64) -> Halved
+fn halve(p: u64, q: u64) -> Halved
     requires { ⌜ Inside p × (Inside q × (q ≤ p)) ⌝ }
     ensures { λ r. ⌜ r ≡ record { times = halvingsOf p q; base = baseOf p q } ⌝ }
 {
@@ -25,7 +25,7 @@ pub fn halve(p: u64, q: u64) -> Halved
 }
 
 // n / d in units of 2^-33, rounded down: long division in three digits of 11 bits.
-pub fn quotient(n: u64, d: u64) -> u64
+fn quotient(n: u64, d: u64) -> u64
     requires { ⌜ (n < d) × (d ≤ 2000000000000000) ⌝ }
     ensures { λ r. ⌜ r ≡ n * unit / d ⌝ }
 {
@@ -39,4 +39,21 @@ pub fn quotient(n: u64, d: u64) -> u64
         i += 1;
     }
     z
+}
+
+// m and z of p/q.
+pub struct Reduced {
+    pub times: u64,
+    pub argument: u64,
+}
+
+pub fn reduce(p: u64, q: u64) -> Reduced
+    requires { ⌜ Inside p × (Inside q × (q ≤ p)) ⌝ }
+    ensures { λ r. ⌜ r ≡ record { times = halvingsOf p q; argument = argumentOf p q } ⌝ }
+{
+    let h = halve(p, q);
+    Reduced {
+        times: h.times,
+        argument: quotient(p - h.base, p + h.base),
+    }
 }

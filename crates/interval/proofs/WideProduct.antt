@@ -1,0 +1,83 @@
+-- k · x over a divisor by the quotient and the rest of x, rounded down and up.
+-- Assumes nothing.
+use Prim.Native.Nat.{ℕ, _+_, _-_, _*_, _/_, _%_, _^_, _≤_, _<_}
+use mathlib.Core.Path.{_≡_, sym, ap, _∙_}
+use native.Mathlib.Omega.{arith}
+use native.Mathlib.Nat.{mod-lt, div-add-mod', mul-add-div-right, mul-le-mul, mul-le-mul-left, mul-le-mul-right, le-of-lt, le-of-suc-le-suc, lt-of-mul-lt-mul-right}
+use Rattle.interval.specs.Whole.{ceilDiv}
+use Rattle.interval.specs.Wide.{WideFits, Wide}
+use Rattle.interval.specs.Span.{Span}
+use Rattle.interval.specs.declared.Interval.{Interval}
+use Rattle.interval.specs.Operations.{natural, productOf}
+use Rattle.interval.proofs.Natural.{natural-product}
+use Rattle.interval.proofs.Rounding.{floorDiv-below, floorDiv-by}
+
+module _ (k x : ℕ) {d : ℕ} (p : 0 < d) where
+  -- k · x is k · (x / d) times d, and k · (x % d)
+  parts : (q r : ℕ) → q * d + r ≡ x → k * q * d + k * r ≡ k * x
+  parts q r e = omega arith ∙ ap (λ t. k * t) e
+
+  pub wide-floor : k * (x / d) + k * (x % d) / d ≡ k * x / d
+  wide-floor = sym (mul-add-div-right p (k * (x / d)) (k * (x % d))) ∙ ap (λ t. t / d) (parts (x / d) (x % d) (div-add-mod' x d))
+
+  pub wide-ceil : k * (x / d) + (k * (x % d) + (d - 1)) / d ≡ ceilDiv (k * x) d
+  unfolding ceilDiv
+  wide-ceil =
+      let e : k * (x / d) * d + (k * (x % d) + (d - 1)) ≡ k * x + (d - 1)
+      = omega (arith, parts (x / d) (x % d) (div-add-mod' x d)) in
+      sym (mul-add-div-right p (k * (x / d)) (k * (x % d) + (d - 1))) ∙ ap (λ t. t / d) e
+
+-- ---- within 64 bits
+
+-- a bound on the number is one on the quotient
+floorDiv-most : (n : ℕ) {d w : ℕ} → 0 < d → n < (w + 1) * d → n / d ≤ w
+floorDiv-most n {d} {w} h k = le-of-suc-le-suc (lt-of-mul-lt-mul-right d (omega (arith, floorDiv-below n d)))
+
+module _ {k x d : ℕ} (w : WideFits k x d) where
+  pub rest-high : k * (x % d) ≤ k * d
+  rest-high = mul-le-mul-left k (le-of-lt (mod-lt x (w .divisor)))
+
+  -- with what rounds it up
+  rest-below : k * (x % d) + (d - 1) < (k + 1) * d
+  rest-below = omega (arith, rest-high, w .divisor)
+
+  pub floor-parts : k * (x / d) + k * (x % d) / d < 2 ^ 63
+  floor-parts = omega (arith, w .quotient, floorDiv-most (k * (x % d)) {w = k} (w .divisor) (omega (arith, rest-below)))
+
+  pub ceil-parts : k * (x / d) + (k * (x % d) + (d - 1)) / d < 2 ^ 63
+  ceil-parts = omega (arith, w .quotient, floorDiv-most (k * (x % d) + (d - 1)) {w = k} (w .divisor) rest-below)
+
+  pub floor-size : k * x / d < 2 ^ 63
+  floor-size = rw (wide-floor k x (w .divisor)) at floor-parts
+
+  pub ceil-size : ceilDiv (k * x) d < 2 ^ 63
+  ceil-size = rw (wide-ceil k x (w .divisor)) at ceil-parts
+
+-- of lesser numbers too
+pub wide-less : {k l x y d : ℕ} → k ≤ l → x ≤ y → WideFits l y d → WideFits k x d
+wide-less {k} {l} {x} {y} {d} h i w =
+    let p = w .divisor in
+    let q : x / d ≤ y / d = floorDiv-by y p (omega (arith, floorDiv-below x d)) in
+    record { divisor = p; rest = omega (arith, w .rest, mul-le-mul-right d h); quotient = omega (arith, w .quotient, mul-le-mul h q) }
+
+-- ---- pairs
+
+pub wide-is : {i j : Interval} {d : ℕ} (w : Wide i j d) → productOf i j d ≡ natural (w .k * w .x / d) (ceilDiv (w .l * w .y) d)
+wide-is w = rw (w .first, w .second) (natural-product (w .first-order) (w .second-order) (w .fits .divisor))
+
+-- from spans: h times d, and h times h′ over d
+pub wide-fits : {i j : Interval} {l h m l′ h′ m′ : ℕ} (d q : ℕ) → 0 < d → h * d + d < 2 ^ 63 → h′ ≤ q * d → h * q + h < 2 ^ 63
+    → Span i l h m → Span j l′ h′ m′ → Wide i j d
+wide-fits {h = h} {h′ = h′} d q p r t u s v =
+    let n : h′ / d ≤ q = floorDiv-most h′ {w = q} p (omega arith) in
+    record {
+      k = s .a;
+      l = s .b;
+      x = v .a;
+      y = v .b;
+      first = s .is;
+      second = v .is;
+      first-order = s .order;
+      second-order = v .order;
+      fits = wide-less (s .to) (v .to) (record { divisor = p; rest = r; quotient = omega (arith, mul-le-mul-left h n) });
+    }

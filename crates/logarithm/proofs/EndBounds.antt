@@ -1,0 +1,21 @@
+-- The halvings and the argument of a fraction inside the range are small.
+-- Assumes nothing.
+use Prim.Native.Nat.{ℕ, _+_, _^_, _≤_, _<_}
+use native.Mathlib.Omega.{arith}
+use Rattle.logarithm.specs.Ends.{Inside, halvingsOf, argumentOf, endOf}
+use Rattle.logarithm.proofs.Ratio.{halvings-small}
+use Rattle.logarithm.proofs.ArgumentEnds.{argument-size}
+use Rattle.logarithm.proofs.Sizes.{end-size}
+
+pub record Small (m z : ℕ) : Type 0 where
+  pub times : m ≤ 49
+  pub argument : z < 3000000000
+
+pub small : {p q : ℕ} → Inside p → Inside q → q ≤ p → Small (halvingsOf p q) (argumentOf p q)
+small hp hq l = record { times = halvings-small (hq .low) l (hp .high); argument = omega (arith, argument-size (hq .low) l) }
+
+-- an end of the logarithm, far within 64 bits
+pub end-fits : {p q up : ℕ} → up ≤ 1 → Inside p → Inside q → q ≤ p → endOf up (halvingsOf p q) (argumentOf p q + up) < 2 ^ 63
+end-fits {p} {q} {up} h hp hq l =
+    let s = small hp hq l in
+    omega (arith, end-size {z = argumentOf p q + up} h (s .times) (omega (arith, s .argument)))
