@@ -1,9 +1,14 @@
-"""A separately written calculator for sheets of square ground grids.
+"""A separately written calculator for sheets of ground grids.
 
 It follows document 01 (Square Ground Grids: Seasonal Sheets and Voltage Ends),
 as the requests of document 02 that have landed change it, sentence by sentence,
 in exact fractions, and judges reported rows against it.
-The exponential is that of document 02, request (c).
+
+For unequal counts the fractions of the exponentials and of the logarithm with n
+would grow without use: there ends are rounded outward to multiples of 10^-50.
+The ends at a depth are then wider than the document's by far less than a row can
+show, so that whatever is found wrong is wrong.  All else, and every square, is
+without rounding.
 
     python3 tests/calculator.py [--depth K] [--table N] < sheet
 """
@@ -41,7 +46,8 @@ COLUMNS = (
     ("fault", ((100, 80000),)),
     ("split", ((1, 1000),)),
     ("xr", ((1, 40),)),
-    ("lines", ((2, 25),)),
+    ("across", ((2, 25),)),
+    ("along", ((2, 25),)),
     ("space", ((2500, 30000),)),
     ("depth", ((250, 2500),)),
     ("dia", ((50, 300),)),
@@ -57,6 +63,9 @@ COLUMN_COUNT = len(COLUMNS)
 
 # The shock time, the fault's clearing time and the back-up clearing time for the wire.
 CLOCKS = ("shock", "clear", "wire")
+
+# The conductors one way and the other.
+COUNTS = ("across", "along")
 
 # Groups whose members are all 0 or all not 0; the first one's column is told,
 # and the first group comes before the second.
@@ -90,7 +99,8 @@ SAFE, UNSAFE, UNDECIDED = 1, 2, 3
 
 # The six pairs in the order of the row: name, table units in one volt or ohm,
 # and the allowed width: a share of its base, plus some table units.  The base
-# is the reported lower end, or the named length under rho * Ki * IG.
+# is the reported lower end, or the named length under rho * Ki * IG, with Ki
+# "worked with na in place of n".
 Quantity = namedtuple("Quantity", "name units share base plus")
 LOWER, OVER_LT, OVER_LS = "lower end", "rho*Ki*IG/LT", "rho*Ki*IG/LS"
 QUANTITIES = (
@@ -108,12 +118,14 @@ LN_WIDTH = 200
 LN_MAX = 10**15
 
 EXP_SMALL = Fraction(1, 2)  # the series of e^y is used for y up to here
+OUTWARD = 10**50  # steps in one, where ends are rounded outward
 
 MIN_DEPTH = 3
 DEFAULT_DEPTH = 12
 SHOWN_DECIMALS = 6
 
 Case = namedtuple("Case", NAMES)
+Grid = namedtuple("Grid", (*COUNTS, "space"))  # what n hangs on
 Refusal = namedtuple("Refusal", "number line column")
 Ends = namedtuple("Ends", [quantity.name for quantity in QUANTITIES])
 
@@ -121,6 +133,11 @@ Ends = namedtuple("Ends", [quantity.name for quantity in QUANTITIES])
 def with_one_time(case, ms):
     """A case of document 01, whose one time each clock gets."""
     return case._replace(**dict.fromkeys(CLOCKS, ms))
+
+
+def with_lines(case, lines):
+    """A case of document 01, whose one count of lines is that of both ways."""
+    return case._replace(**dict.fromkeys(COUNTS, lines))
 
 
 # --------------------------------------------------------------------------
@@ -140,6 +157,12 @@ class Pair(namedtuple("Pair", "lower upper")):
         """A sum is least at both lower ends and greatest at both upper ones."""
         other = as_pair(other)
         return Pair(self.lower + other.lower, self.upper + other.upper)
+
+    def __sub__(self, other):
+        return self + -as_pair(other)
+
+    def __rsub__(self, other):
+        return -self + other
 
     def __mul__(self, other):
         return combine(operator.mul, self, other)
@@ -178,6 +201,12 @@ def combine(operation, left, right):
     return Pair(outcomes[0], outcomes[-1])
 
 
+def outward(pair):
+    """A pair with its lower end rounded down and its upper end rounded up."""
+    return Pair(Fraction(math.floor(pair.lower * OUTWARD), OUTWARD),
+                Fraction(math.ceil(pair.upper * OUTWARD), OUTWARD))
+
+
 # --------------------------------------------------------------------------
 # What exact means: roots, pi, logarithms and exponentials at a depth.
 # --------------------------------------------------------------------------
@@ -213,6 +242,13 @@ def root_ends(value, degree, k):
     return Pair(Fraction(steps, scale), Fraction(steps + 1, scale))
 
 
+def root_pair(pair, degree, k):
+    """"a root or logarithm of a pair runs from the lower end's lower to the
+    upper end's upper".
+    """
+    return Pair(root_ends(pair.lower, degree, k).lower, root_ends(pair.upper, degree, k).upper)
+
+
 def arctan_sum(inverse, terms):
     """So many terms of the alternating series of arctan(1/inverse)."""
     return sum(
@@ -229,7 +265,7 @@ def arctan_ends(inverse, k):
 def pi_ends(k):
     """"pi is 16 arctan(1/5) - 4 arctan(1/239)"."""
     check_depth(k)
-    return 16 * arctan_ends(5, k) + -(4 * arctan_ends(239, k))
+    return 16 * arctan_ends(5, k) - 4 * arctan_ends(239, k)
 
 
 def ln_series(z, k):
@@ -275,8 +311,8 @@ def ln_fraction(q, k):
 
 
 def ln_pair(pair, k):
-    """"a root or logarithm of a pair runs from the lower end's lower to the
-    upper end's upper"; every root here is one of a single fraction.
+    """The logarithm of a pair, by the same words as its root.  Its ends rise
+    with the fraction, so an argument rounded outward gives a wider pair.
     """
     return Pair(ln_fraction(pair.lower, k).lower, ln_fraction(pair.upper, k).upper)
 
@@ -331,6 +367,16 @@ def exp_pair(pair, k):
     end's upper."
     """
     return Pair(exp_fraction(pair.lower, k).lower, exp_fraction(pair.upper, k).upper)
+
+
+def exp_minus(pair, k):
+    """e to the power minus a pair, rounded outward before and after.
+
+    Upper ends fall where j changes, just above 1/2, 1, 2, ..; these are
+    multiples of the step, so that no upper end is rounded up past one, and a
+    lower end rounded down to one falls too.
+    """
+    return outward(exp_pair(-outward(pair), k))
 
 
 # --------------------------------------------------------------------------
@@ -504,14 +550,35 @@ def grid_current(case):
     return Fraction(grid_current_microamperes(case), 10**6)
 
 
-def side(case):
-    """s = (n-1) * D."""
-    return (case.lines - 1) * metres(case.space)
+def is_square(grid):
+    """Equal counts, which "keep the square's definitions"."""
+    return grid.across == grid.along
 
 
-def conductor_length(case):
-    """Lc = 2 * n * s."""
-    return 2 * case.lines * side(case)
+def grid_of(case):
+    return Grid(case.across, case.along, case.space)
+
+
+def sides(grid):
+    """Lx = (across-1) * D and Ly = (along-1) * D."""
+    return (grid.across - 1) * metres(grid.space), (grid.along - 1) * metres(grid.space)
+
+
+def conductor_length(grid):
+    """Lc = across * Ly + along * Lx."""
+    lx, ly = sides(grid)
+    return grid.across * ly + grid.along * lx
+
+
+def perimeter(grid):
+    """Lp = 2(Lx + Ly)."""
+    return 2 * sum(sides(grid))
+
+
+def area_root_ends(grid, k):
+    """sqrt(area), which stands for s; for equal counts it is s."""
+    lx, ly = sides(grid)
+    return as_pair(lx) if is_square(grid) else root_ends(lx * ly, 2, k)
 
 
 def rod_length(case):
@@ -529,13 +596,36 @@ def step_length(case):
     return Fraction("0.75") * conductor_length(case) + Fraction("0.85") * rod_length(case)
 
 
+def diagonal_ends(grid, k):
+    """sqrt(Lx^2 + Ly^2)."""
+    lx, ly = sides(grid)
+    return root_ends(lx**2 + ly**2, 2, k)
+
+
 def mesh_length(case, k):
     """LM, a pair because of the root in it for place 1."""
     if case.place != PERIMETER:
         return as_pair(total_length(case))
-    diagonal = root_ends(2 * side(case) ** 2, 2, k)
-    weight = Fraction("1.55") + Fraction("1.22") * metres(case.rodlen) / diagonal
+    weight = Fraction("1.55") + Fraction("1.22") * metres(case.rodlen) / diagonal_ends(case, k)
     return conductor_length(case) + weight * rod_length(case)
+
+
+def na(grid):
+    """na = 2 * Lc / Lp; for equal counts it is the count."""
+    return 2 * conductor_length(grid) / perimeter(grid)
+
+
+def nb_ends(grid, k):
+    """nb = sqrt(Lp / (4 * sqrt(area))); 1 for equal counts."""
+    if is_square(grid):
+        return as_pair(1)
+    return root_pair(perimeter(grid) / (4 * area_root_ends(grid, k)), 2, k)
+
+
+@lru_cache(maxsize=4096)
+def n_ends(grid, k):
+    """n = na * nb."""
+    return na(grid) * nb_ends(grid, k)
 
 
 def surface_effect(case):
@@ -564,10 +654,23 @@ def mesh_argument(case):
 
 
 def kii_ends(case, k):
-    """Kii is 1 for place 1, else one over the n-th root of 4n^2."""
-    if case.place == PERIMETER:
-        return as_pair(1)
-    return 1 / root_ends(Fraction(4 * case.lines**2), case.lines, k)
+    """Kii is 1 for place 1, in rectangles too."""
+    return as_pair(1) if case.place == PERIMETER else kii_below_one(grid_of(case), k)
+
+
+@lru_cache(maxsize=4096)
+def kii_below_one(grid, k):
+    """Kii for places 0 and 2: one over the n-th root of 4n^2 for equal counts,
+    else e to the power -(2/n) * ln(2n).
+    """
+    if is_square(grid):
+        return 1 / root_ends(Fraction(4 * grid.across**2), grid.across, k)
+    return exp_minus(kii_exponent(n_ends(grid, k), k), k)
+
+
+def kii_exponent(n, k):
+    """(2/n) * ln(2n)."""
+    return 2 / n * ln_pair(2 * n, k)
 
 
 def kh_ends(case, k):
@@ -576,48 +679,63 @@ def kh_ends(case, k):
 
 
 @lru_cache(maxsize=4096)
-def ln_lines(lines, k):
+def ln_lines(grid, k):
     """ln(8 / (pi (2n-1)))."""
-    return ln_pair(8 / (pi_ends(k) * (2 * lines - 1)), k)
+    argument = 8 / (pi_ends(k) * (2 * n_ends(grid, k) - 1))
+    return ln_pair(argument, k) if is_square(grid) else outward(ln_pair(outward(argument), k))
 
 
 def km_ends(case, k):
     """Km = (ln G + (Kii/Kh) * ln(8/(pi(2n-1)))) / (2 pi)."""
     ln_g = ln_fraction(mesh_argument(case), k)
-    return (ln_g + kii_ends(case, k) / kh_ends(case, k) * ln_lines(case.lines, k)) / (
-        2 * pi_ends(k)
-    )
+    share = kii_ends(case, k) / kh_ends(case, k)
+    return (ln_g + share * ln_lines(grid_of(case), k)) / (2 * pi_ends(k))
 
 
-def ki(case):
+def ki(n):
     """Ki = 0.644 + 0.148 * n."""
-    return Fraction("0.644") + Fraction("0.148") * case.lines
+    return Fraction("0.644") + Fraction("0.148") * n
+
+
+@lru_cache(maxsize=4096)
+def half_power_ends(grid, k):
+    """0.5^(n-2): a fraction for equal counts, else e to the power -(n-2) * ln 2."""
+    if is_square(grid):
+        return as_pair(Fraction(1, 2 ** (grid.across - 2)))
+    return exp_minus(half_power_exponent(n_ends(grid, k), k), k)
+
+
+def half_power_exponent(n, k):
+    """(n-2) * ln 2."""
+    return (n - 2) * ln_two(k)
 
 
 def ks_ends(case, k):
     """Ks = (1/(2h) + 1/(D+h) + (1 - 0.5^(n-2))/D) / pi."""
     space, depth = metres(case.space), metres(case.depth)
-    half_power = Fraction(1, 2 ** (case.lines - 2))
-    return (1 / (2 * depth) + 1 / (space + depth) + (1 - half_power) / space) / pi_ends(k)
+    rest = (1 - half_power_ends(grid_of(case), k)) / space
+    return (1 / (2 * depth) + 1 / (space + depth) + rest) / pi_ends(k)
 
 
-def driving(case):
-    """rho * Ki * IG, shared by mesh voltage, step voltage and their widths."""
-    return case.soil * ki(case) * grid_current(case)
+def driving(case, n):
+    """rho * Ki * IG: with n for mesh and step voltage, with na for their widths."""
+    return case.soil * ki(n) * grid_current(case)
 
 
 def mesh_ends(case, k):
-    return driving(case) * km_ends(case, k) / mesh_length(case, k)
+    n = n_ends(grid_of(case), k)
+    return driving(case, n) * km_ends(case, k) / mesh_length(case, k)
 
 
 def step_ends(case, k):
-    return driving(case) * ks_ends(case, k) / step_length(case)
+    n = n_ends(grid_of(case), k)
+    return driving(case, n) * ks_ends(case, k) / step_length(case)
 
 
 def resistance_ends(case, k):
     """rho * (1/LT + (1 + 1/(1 + h*sqrt(20)/s)) / (sqrt(20)*s))."""
-    root, s, depth = root_ends(Fraction(20), 2, k), side(case), metres(case.depth)
-    spread = (1 + 1 / (1 + depth * root / s)) / (root * s)
+    root, s = root_ends(Fraction(20), 2, k), area_root_ends(case, k)
+    spread = (1 + 1 / (1 + metres(case.depth) * root / s)) / (root * s)
     return case.soil * (1 / total_length(case) + spread)
 
 
@@ -656,7 +774,7 @@ def holds(lower, upper, ends, units):
 
 def allowed_widths(case, row):
     """The greatest width of each of the six pairs, in table units."""
-    per_metre = driving(case)
+    per_metre = driving(case, na(case))
     bases = {
         OVER_LT: per_metre / total_length(case),
         OVER_LS: per_metre / step_length(case),

@@ -3,11 +3,12 @@
     rt check verdict
     python3 tests/cost.py [--program target/bin/verdict] [--sheet FILE] [--lines N]
 
-It needs valgrind. Each figure is a difference of two runs, on the whole sheet and on its first two
-lines, so that the program's start and the line of names do not count. A sheet whose last line
-repeats the first one's station and season is judged to its end and not written, which tells judging
-from working. What the functions in PRINTING take is left out; the little of the printing that is
-compiled into `main` stays in the second figure.
+It needs valgrind. The stored sheet has squares only; it is measured as it is, and with unequal counts
+in their place. Each figure is a difference of two runs, on the whole sheet and on its first two lines,
+so that the program's start and the line of names do not count. A sheet whose last line repeats the
+first one's station and season is judged to its end and not written, which tells judging from working.
+What the functions in PRINTING take is left out; the little of the printing that is compiled into `main`
+stays in the second figure.
 """
 
 import argparse
@@ -20,6 +21,7 @@ PROGRAM = "target/bin/verdict"
 SHEET = Path(__file__).parents[1] / "crates" / "rows" / "stdin"
 PRINTING = ("print::signed", "write.c:write")
 SHORT = 2  # lines; fewer cannot repeat one
+APART, MIDDLE = 12, 14  # unequal counts are so far apart; from the middle on along is below across
 
 
 def instructions(program, lines):
@@ -41,6 +43,16 @@ def repeated(lines, count):
     at = names.index(b"station")
     values = [values[i % len(values)] for i in range(count)]
     values = [[*v[:at], b"%d" % (10001 + i), *v[at + 1 :]] for i, v in enumerate(values)]
+    return [lines[0], *map(b",".join, values)]
+
+
+def rectangles(lines):
+    """The sheet with across as it is and along so far from it."""
+    names, *values = (line.split(b",") for line in lines)
+    across, along = map(names.index, (b"across", b"along"))
+    for value in values:
+        count = int(value[across])
+        value[along] = b"%d" % (count + APART if count < MIDDLE else count - APART)
     return [lines[0], *map(b",".join, values)]
 
 
@@ -68,10 +80,11 @@ def main():
     lines = asked.sheet.read_bytes().split(b"\n")[:-1]
     if asked.lines:
         lines = repeated(lines, asked.lines)
-    judged = a_line(asked.program, lines, refused_at_the_end)
-    whole = a_line(asked.program, lines, list)
-    print(f"{judged:.0f} instructions to judge a line")
-    print(f"{whole - judged:.0f} instructions to work out and write its row")
+    for what, sheet in (("as stored", lines), ("with unequal counts", rectangles(lines))):
+        judged = a_line(asked.program, sheet, refused_at_the_end)
+        whole = a_line(asked.program, sheet, list)
+        print(f"{what}: {judged:.0f} instructions to judge a line, "
+              f"{whole - judged:.0f} to work out and write its row")
 
 
 if __name__ == "__main__":

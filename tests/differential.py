@@ -1,9 +1,11 @@
 """Runs random sheets, sound and damaged, through the compiled program `rows` and the calculator.
 
-    python3 tests/differential.py [--seed S] [--count N] [--program target/bin/rows]
+    python3 tests/differential.py [--seed S] [--count N] [--pairs] [--program target/bin/rows]
 
-Any disagreement is printed with its sheet, and the exit status is then 1. crates/batch/stdin holds
-sheets made here, so that every check of the crates has a short run; `--batch` writes it anew.
+Any disagreement is printed with its sheet, and the exit status is then 1. With `--pairs` the sheets
+hold every pair of counts at each place of rods, with both ends of spacing and depth, and the widest
+pair of ends of each quantity is told. crates/batch/stdin holds sheets made here, so that every check
+of the crates has a short run; `--batch` writes it anew.
 """
 
 import argparse
@@ -12,6 +14,7 @@ import subprocess
 import sys
 from collections import Counter
 from fractions import Fraction
+from itertools import product
 from pathlib import Path
 
 import calculator as calc
@@ -24,13 +27,17 @@ DEEP_EVERY = 20  # one row in so many is judged at the deeper, dearer depths too
 RUN_SECONDS = 10
 HEADER_NAMES = list(calc.NAMES)
 LIMIT_DEPTH = 9
-OLD_NAME = "ms"  # of document 01, in the place of the three clocks
+EQUAL_COUNTS = 0.1  # of the cases, beside those whose counts are equal by chance
+
+# Names of document 01, each with those that have its place.
+OLD_NAMES = {"ms": calc.CLOCKS, "lines": calc.COUNTS}
 
 # The stored batch.
-BATCH_SEED, BATCH_COUNT = 35, 150
+BATCH_SEED, BATCH_COUNT = 56, 185
 BATCH_END = b"\0"
 BATCH_SHORT = 2000
 PORTFOLIO, SEASONS = 61, 4  # the stations of request (h), and the seasons of each
+PAIRS_EVERY = 29  # one case in so many of the pairs of counts, in a sheet of its own
 BATCH_FILE = Path(__file__).parents[1] / "crates" / "batch" / "stdin"
 
 
@@ -44,15 +51,42 @@ def number_in(rng, spans):
     return rng.choice((low, high, rng.randint(low, high), rng.randint(low, high)))
 
 
-def random_case(rng):
+def rodded_case(rng):
+    """A case with rods, their place not yet settled."""
     case = Case(*(number_in(rng, spans) for spans in calc.RANGES))
     case = case._replace(station=rng.randint(1, 65535), season=rng.randint(1, 4),
-                         body=rng.choice((50, 70)), place=rng.randint(1, 2))
-    if rng.random() < 0.4:
-        case = case._replace(layer=0, thick=0)
-    if rng.random() < 0.4:
-        return case._replace(rods=0, rodlen=0, place=0)
-    return case._replace(rods=max(1, case.rods))
+                         body=rng.choice((50, 70)), rods=max(1, case.rods))
+    if rng.random() < EQUAL_COUNTS:
+        case = case._replace(along=case.across)
+    return case._replace(layer=0, thick=0) if rng.random() < 0.4 else case
+
+
+def at_place(case, place):
+    """A case with its rods there, or without rods."""
+    return case._replace(place=place) if place else case._replace(rods=0, rodlen=0, place=0)
+
+
+def random_case(rng):
+    return at_place(rodded_case(rng), 0 if rng.random() < 0.4 else rng.randint(1, 2))
+
+
+def span_of(name):
+    return calc.RANGES[calc.NAMES.index(name)][-1]
+
+
+def cases_of_pairs(seed):
+    """Every pair of counts at each place of rods with both ends of spacing and depth; all else is
+    random, and each has its own station.
+    """
+    rng = random.Random(f"{seed},pairs")
+    counts = [range(low, high + 1) for low, high in map(span_of, calc.COUNTS)]
+    places = range(span_of("place")[1] + 1)
+    yards = product(*counts, places, span_of("space"), span_of("depth"))
+    return [
+        at_place(rodded_case(rng)._replace(
+            station=station, across=across, along=along, space=space, depth=depth), place)
+        for station, (across, along, place, space, depth) in enumerate(yards, start=1)
+    ]
 
 
 def meeting(case, voltage, limit):
@@ -63,7 +97,7 @@ def meeting(case, voltage, limit):
         return None
     wanted = float(getattr(ends, limit).lower / getattr(ends, voltage).lower) * 1000 * 1000
     pairs = [(round(wanted / split), split) for split in range(1, 1001)]
-    (low, high), = calc.RANGES[calc.NAMES.index("fault")]
+    low, high = span_of("fault")
     pairs = [(fault, split) for fault, split in pairs if low <= fault <= high]
     if not pairs:
         return None
@@ -119,6 +153,12 @@ class Sheet:
         return "".join(lines).encode("latin-1")
 
 
+def sheet_of(cases):
+    """A sheet with the names in their own order."""
+    lines = [",".join(map(str, fields)) + "\n" for fields in (HEADER_NAMES, *cases)]
+    return "".join(lines).encode("ascii")
+
+
 def stations(sheet, count):
     """Lines of random cases for stations of five digits, each in one season."""
     return [sheet.fields(random_case(sheet.rng)._replace(station=65535 - i)) for i in range(count)]
@@ -168,13 +208,25 @@ def fewer_names(sheet, rng):
 
 
 def old_names(sheet, rng):
-    """A sheet of document 01's own names: one time where the three clocks are."""
-    kept, *dropped = rng.sample(calc.CLOCKS, len(calc.CLOCKS))
-    for name in dropped:
-        at = sheet.names.index(name)
-        for fields in (sheet.names, *sheet.lines):
-            del fields[at]
-    sheet.names[sheet.names.index(kept)] = OLD_NAME
+    """A sheet with a name of document 01 where two or three are now, or with each of its names."""
+    for old in rng.choice((("ms",), ("lines",), ("ms", "lines"))):
+        kept, *dropped = rng.sample(OLD_NAMES[old], len(OLD_NAMES[old]))
+        for name in dropped:
+            at = sheet.names.index(name)
+            for fields in (sheet.names, *sheet.lines):
+                del fields[at]
+        sheet.names[sheet.names.index(kept)] = old
+
+
+def carried_over(text, old):
+    """A sheet with the value of one of document 01's names in each column that has its place now."""
+    names, *lines = (line.split(calc.FIELD_END) for line in text.split(calc.LINE_END))
+    if old.encode("ascii") in names:
+        at, new = names.index(old.encode("ascii")), OLD_NAMES[old]
+        names[at : at + 1] = [name.encode("ascii") for name in new]
+        for line in lines[:-1]:  # after the last line end stands nothing
+            line[at : at + 1] *= len(new)
+    return calc.LINE_END.join(map(calc.FIELD_END.join, (names, *lines)))
 
 
 def surplus_name(sheet, rng):
@@ -332,7 +384,7 @@ BYTE_DAMAGES = (
 # A third of the sheets is sound, and the rarer refusals come more often.
 CHOICES = (
     FIELD_DAMAGES + BYTE_DAMAGES + (nothing,) * 16
-    + (many_lines, out_of_range, disagreement, repeated_key, at_the_limit) * 3
+    + (many_lines, out_of_range, disagreement, repeated_key, at_the_limit, old_names) * 3
 )
 
 
@@ -378,12 +430,13 @@ def sheets_at_the_limits():
 
 
 def batch():
-    """Sheets, each ended by a byte 0, which none of them has in it; only those at the limits are
-    long.
+    """Sheets, each ended by a byte 0, which none of them has in it; only those at the limits and
+    that of the pairs of counts are long.
     """
     sheets = [numbered_sheet(BATCH_SEED, number)[1] for number in range(BATCH_COUNT)]
     short = [sheet for sheet in sheets if BATCH_END not in sheet and len(sheet) <= BATCH_SHORT]
-    return b"".join(sheet + BATCH_END for sheet in (*short, *sheets_at_the_limits()))
+    pairs = sheet_of(cases_of_pairs(BATCH_SEED)[::PAIRS_EVERY])
+    return b"".join(sheet + BATCH_END for sheet in (*short, *sheets_at_the_limits(), pairs))
 
 
 # --------------------------------------------------------------------------
@@ -433,21 +486,65 @@ def run(program, seed, count):
     return tally, rows, failed
 
 
+def rows_of(program, cases):
+    """The program's answers, sheet by sheet: some of the cases, and their rows or a refusal."""
+    for at in range(0, len(cases), calc.MAX_VALUE_LINES):
+        some = cases[at : at + calc.MAX_VALUE_LINES]
+        yield some, read_rows(printed_by(program, sheet_of(some)))
+
+
+def width_shares(case, row):
+    """The width of each pair as a share of what is allowed."""
+    pairs = zip(calc.row_pairs(row), calc.allowed_widths(case, row))
+    return calc.Ends(*(float((upper - lower) / allowed) for (lower, upper), allowed in pairs))
+
+
+def run_pairs(program, cases):
+    """What is wrong with the rows of the cases, and each case that has a row with its widths."""
+    wrong, widths = [], []
+    for some, rows in rows_of(program, cases):
+        wrong += judge(some, rows, lambda: False)
+        if not isinstance(rows, Refusal):
+            widths += [(case, width_shares(case, row)) for case, row in zip(some, rows)]
+    return wrong, widths
+
+
+def tell_sheets(program, seed, count):
+    """Whether all sheets agree; the tallies are printed."""
+    tally, rows, failed = run(program, seed, count)
+    refused = ", ".join(f"{tally[number]} with {number}" for number in range(1, 9))
+    print(f"seed {seed}: {count} sheets, {tally[0]} accepted, refused {refused}; "
+          f"{rows} rows compared; {failed} sheets disagree")
+    return not failed
+
+
+def tell_pairs(program, seed):
+    """Whether all rows of the pairs of counts are right; the widest ends are printed."""
+    cases = cases_of_pairs(seed)
+    wrong, widths = run_pairs(program, cases)
+    for complaint in wrong:
+        print(complaint)
+    for name in calc.Ends._fields if widths else ():
+        case, shares = max(widths, key=lambda found: getattr(found[1], name))
+        print(f"{name}: at most {getattr(shares, name):.3f} of the allowed width, at {case}")
+    print(f"seed {seed}: {len(widths)} rows of {len(cases)} cases compared; {len(wrong)} complaints")
+    return not wrong
+
+
 def main():
     parser = argparse.ArgumentParser(description=__doc__.split("\n")[0])
     parser.add_argument("--seed", type=int, default=1)
     parser.add_argument("--count", type=int, default=200)
     parser.add_argument("--program", default=PROGRAM)
+    parser.add_argument("--pairs", action="store_true", help="run every pair of counts and end")
     parser.add_argument("--batch", action="store_true", help="write the stored batch and end")
     asked = parser.parse_args()
     if asked.batch:
         BATCH_FILE.write_bytes(batch())
         return 0
-    tally, rows, failed = run(asked.program, asked.seed, asked.count)
-    refused = ", ".join(f"{tally[number]} with {number}" for number in range(1, 9))
-    print(f"seed {asked.seed}: {asked.count} sheets, {tally[0]} accepted, refused {refused}; "
-          f"{rows} rows compared; {failed} sheets disagree")
-    return 1 if failed else 0
+    if asked.pairs:
+        return 0 if tell_pairs(asked.program, asked.seed) else 1
+    return 0 if tell_sheets(asked.program, asked.seed, asked.count) else 1
 
 
 if __name__ == "__main__":

@@ -13,7 +13,6 @@ from fractions import Fraction
 
 import calculator as calc
 import differential
-from printed import read_rows
 
 DEPTH = 9
 NEAR = Fraction(1, 1000)
@@ -27,7 +26,7 @@ def at_limit(rng):
     ends = calc.exact_ends(case, DEPTH)
     part = ends.tolerable_touch.lower / ends.mesh.lower * (1 + NEAR * Fraction(rng.randint(-999, 999), 1000))
     fault = round(case.fault * part)
-    low, high = calc.RANGES[calc.NAMES.index("fault")][-1]
+    low, high = differential.span_of("fault")
     if not low <= fault <= high:
         return None
     case = case._replace(fault=fault)
@@ -45,16 +44,6 @@ def cases_near(rng, count):
     return list(cases.values())
 
 
-def rows_of(program, cases):
-    """The program's rows, sheet by sheet."""
-    rows = []
-    for at in range(0, len(cases), calc.MAX_VALUE_LINES):
-        lines = [calc.NAMES, *cases[at : at + calc.MAX_VALUE_LINES]]
-        sheet = "".join(",".join(map(str, line)) + "\n" for line in lines)
-        rows += read_rows(differential.printed_by(program, sheet.encode("ascii")))
-    return rows
-
-
 def widened(row, at, reference):
     """A row with a pair as wide as was allowed, about its middle."""
     spare = int(OLD_SHARE * reference * 1000 + 10) - (row[at + 1] - row[at])
@@ -65,8 +54,9 @@ def widened(row, at, reference):
 
 
 def was_undecided(case, row):
-    row = widened(row, MESH, calc.driving(case) / calc.total_length(case))
-    row = widened(row, STEP, calc.driving(case) / calc.step_length(case))
+    driving = calc.driving(case, calc.na(case))
+    row = widened(row, MESH, driving / calc.total_length(case))
+    row = widened(row, STEP, driving / calc.step_length(case))
     return calc.verdict_of(row) == calc.UNDECIDED
 
 
@@ -77,7 +67,7 @@ def main():
     parser.add_argument("--program", default=differential.PROGRAM)
     asked = parser.parse_args()
     cases = cases_near(random.Random(asked.seed), asked.count)
-    rows = rows_of(asked.program, cases)
+    rows = [row for _, some in differential.rows_of(asked.program, cases) for row in some]
     before = sum(was_undecided(case, row) for case, row in zip(cases, rows))
     now = sum(row[2] == calc.UNDECIDED for row in rows)
     print(f"{len(cases)} yards near their limit: {before} undecided by the old widths, {now} now")

@@ -21,11 +21,11 @@ SEED, RANDOM_RECORDS = 1, 50
 
 RECORD_KINDS = ("factor", "size", "tolerable", "resistance", "row")
 
-# A yard with a layer and with rods at its perimeter.
+# A square yard with a layer and with rods at its perimeter.
 YARD = Case(
     station=7, season=1, soil=400, layer=2500, thick=102, shock=500, clear=500, wire=500,
-    body=70, fault=3180, split=600, xr=10, lines=11, space=7000, depth=500, dia=100, rods=20,
-    rodlen=7500, place=1, metal=1)
+    body=70, fault=3180, split=600, xr=10, across=11, along=11, space=7000, depth=500, dia=100,
+    rods=20, rodlen=7500, place=1, metal=1)
 
 # Both sides of each edge of Table 10.
 FACTOR_CLEAR = (8, 9, 49, 50, 99, 100, 199, 200, 299, 300, 399, 400, 499, 500, 3000, 3001)
@@ -86,11 +86,17 @@ SURFACE_SHOCK = (9, 250, 500, 1000, 3000)
 # Rods, their length and their place.
 RODS = ((0, 0, 0), (1, 1000, 1), (200, 10000, 1), (200, 10000, 2))
 
+# Counts, each asked exchanged too: the least and the greatest unequal ones, the longest yard, two
+# whose area is a square, the first with nb 1 at depth 3, example B.3 of IEEE Std 80, and squares.
+COUNTS = ((2, 3), (24, 25), (2, 25), (2, 5), (3, 9), (9, 10), (10, 13), (2, 2), (10, 10), (25, 25))
+COUNT_KINDS = ("resistance", "row")
+
 # What breaks a rule or two: layer before rods, 5 before 6, the leftmost 5.
 BROKEN = (
     {"thick": 0}, {"layer": 0}, {"rodlen": 0}, {"rods": 0}, {"place": 0},
     {"thick": 0, "rods": 0}, {"thick": 0, "metal": 12}, {"layer": 0, "place": 3},
-    {"soil": 9, "metal": 0}, {"metal": 12, "rods": 201},
+    {"soil": 9, "metal": 0}, {"metal": 12, "rods": 201}, {"across": 26, "along": 1},
+    {"along": 26, "layer": 0},
 )
 
 # Upper and lower number: one, the ends, beside one, and refused ones.
@@ -157,12 +163,22 @@ def clocks():
 
 
 def resistances():
-    for soil, depth, (rods, rodlen, place), lines, space in product(
-            (10, 5000), (250, 2500), RODS, (2, 25), (2500, 30000)):
+    ends = (2, 25)
+    for soil, depth, (rods, rodlen, place), across, along, space in product(
+            (10, 5000), (250, 2500), RODS, ends, ends, (2500, 30000)):
         case = YARD._replace(soil=soil, depth=depth, rods=rods, rodlen=rodlen, place=place,
-                             lines=lines, space=space)
+                             across=across, along=along, space=space)
         yield line("resistance", case)
         yield line("row", case)
+
+
+def counts():
+    """Equal and unequal counts, and their exchange, at each place of rods."""
+    both = (turned for pair in COUNTS for turned in (pair, pair[::-1]))
+    for (across, along), (rods, rodlen, place), space, kind in product(
+            both, RODS, (2500, 7777), COUNT_KINDS):
+        yield line(kind, YARD._replace(across=across, along=along, rods=rods, rodlen=rodlen,
+                                       place=place, space=space))
 
 
 def edges():
@@ -214,9 +230,11 @@ def logarithms():
         yield line("ln", (rng.randint(1, 10 ** rng.randint(1, 15)) for _ in range(2)))
 
 
-def one_time_only(case):
-    """A record of document 01's own names, with one time in the place of three."""
-    return [number for name, number in zip(calc.NAMES, case) if name not in calc.CLOCKS[1:]]
+def earlier_records(case):
+    """Records of names sold earlier: with one time, with one count of lines, with both."""
+    clocks, counts = calc.CLOCKS[1:], calc.COUNTS[1:]
+    for dropped in (clocks, counts, clocks + counts):
+        yield [number for name, number in zip(calc.NAMES, case) if name not in dropped]
 
 
 def no_questions():
@@ -225,14 +243,14 @@ def no_questions():
     yield from ("", ",", "factor", "ln", "ln,", "ln,1", "ln,1,", "ln,1,2,3", "ln,1,2,", "ln,,1")
     yield from (line(kind, YARD) for kind in ("", "ln", "factors", "facto", "Factor", "row ", "17", "touch", "step"))
     yield from (sound + ",1", sound + ",", sound[:-2], sound[:-1], "tolerable,1,2")
-    yield from (line(kind, one_time_only(YARD)) for kind in RECORD_KINDS)
+    yield from (line(kind, record) for kind in RECORD_KINDS for record in earlier_records(YARD))
     yield from (f"ln,{number},1" for number in (2**64, 10**19 * 2, 10**40, "-1", "+1", "1.0", "x"))
 
 
 def questions():
     """All of them, each once, in a fixed order."""
-    series = (factors, sizes, tolerable, worked, clocks, resistances, edges, broken, random_records,
-              logarithms, no_questions)
+    series = (factors, sizes, tolerable, worked, clocks, resistances, counts, edges, broken,
+              random_records, logarithms, no_questions)
     return list(dict.fromkeys(question for make in series for question in make()))
 
 

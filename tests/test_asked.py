@@ -23,7 +23,7 @@ PAIRS = {"tolerable": ("tolerable_touch", "tolerable_step"), "resistance": ("res
 COUNTS = {"ln": 2, **{kind: calc.COLUMN_COUNT for kind in RECORD_KINDS}}
 MOST_NUMBER = 2**64 - 1
 # The least count of different questions of each kind.
-LEAST = {"factor": 270, "size": 450, "tolerable": 220, "resistance": 250, "row": 400,
+LEAST = {"factor": 270, "size": 450, "tolerable": 220, "resistance": 480, "row": 600,
          "ln": 400}
 # Which clocks each number of an answer hangs on.
 NUMBERS_BY_CLOCK = {
@@ -35,8 +35,10 @@ NUMBERS_BY_CLOCK = {
         "tolerable_step": ("shock",), "mesh": ("clear",), "step": ("clear",), "rise": ("clear",),
     },
 }
-CLOCK_DEPTH = 6
-RESISTANCE_NAMES = ("soil", "lines", "space", "depth", "rods", "rodlen", "place")
+# Which numbers hang on the two counts.
+NUMBERS_BY_COUNT = {"resistance": ("resistance",), "row": ("mesh", "step", "resistance", "rise")}
+TELL_DEPTH = 6
+RESISTANCE_NAMES = ("soil", *calc.COUNTS, "space", "depth", "rods", "rodlen", "place")
 
 
 def read_question(line):
@@ -149,6 +151,15 @@ class Answers(Asked):
     def test_broken_lines_are_unknown(self):
         self.assertEqual(set(self.broken.values()), {"unknown"})
 
+    def test_exchanged_counts_have_one_answer(self):
+        for kind in questions.COUNT_KINDS:
+            answers = self.answered(kind)
+            both = {case: case._replace(across=case.along, along=case.across) for case in answers}
+            both = {case: turned for case, turned in both.items() if case != turned and turned in answers}
+            self.assertGreater(len(both), 80)
+            for case, turned in both.items():
+                self.assertEqual(answers[case], answers[turned])
+
 
 class Judging(Asked):
     """Lines changed by a little are told from right ones."""
@@ -254,9 +265,9 @@ class Coverage(Asked):
         self.assertTrue(kinds - set(LEAST))
         counts = {line.count(",") for line in self.broken}
         self.assertLessEqual({0, 1, 2, calc.COLUMN_COUNT, calc.COLUMN_COUNT + 1}, counts)
-        one_time = calc.COLUMN_COUNT - len(calc.CLOCKS) + 1
-        kinds = {line.split(",")[0] for line in self.broken if line.count(",") == one_time}
-        self.assertLessEqual(set(RECORD_KINDS), kinds)
+        for numbers in (18, 19, 20):  # of document 01's names, with two counts, with three clocks
+            kinds = {line.split(",")[0] for line in self.broken if line.count(",") == numbers}
+            self.assertLessEqual(set(RECORD_KINDS), kinds)
 
     def test_sound_and_refused_records(self):
         for kind in RECORD_KINDS:
@@ -322,6 +333,20 @@ class Coverage(Asked):
             for span in calc.RANGES[place]:
                 self.assertLessEqual(set(span), asked, name)
         self.assertLessEqual({0, 1, 2}, {case.place for case in self.answered("resistance")})
+
+    def test_equal_and_unequal_counts_at_each_place(self):
+        pairs = {(2, 3), (24, 25), (2, 25), (2, 5), (9, 10), (10, 13)}
+        wanted = pairs | {pair[::-1] for pair in pairs} | {(2, 2), (25, 25)}
+        for kind, place in product(NUMBERS_BY_COUNT, (0, 1, 2)):
+            asked = {(case.across, case.along) for case in self.answered(kind) if case.place == place}
+            self.assertLessEqual(wanted, asked)
+
+    def test_each_count_is_refused_at_its_column(self):
+        for kind, (name, column), value in product(
+                NUMBERS_BY_COUNT, (("across", 13), ("along", 14)), (1, 26)):
+            refused = [refusal for case, refusal in self.refused(kind).items()
+                       if case == questions.YARD._replace(**{name: value})]
+            self.assertEqual(refused, [(5, 0, column)])
 
     def test_every_column_is_refused_below_and_above(self):
         for kind, (place, (name, spans)) in product(
@@ -389,7 +414,7 @@ class Coverage(Asked):
 
 def numbers_by(kind, case):
     """The numbers that the calculator answers, by name: those that the rules settle, and pairs."""
-    ends = calc.exact_ends(case, CLOCK_DEPTH)._asdict()
+    ends = calc.exact_ends(case, TELL_DEPTH)._asdict()
     settled = {"factor": calc.decrement_thousandths(case), "size": calc.conductor_kcmil(case),
                "current": calc.grid_current_microamperes(case)}
     if kind in SETTLED:
@@ -399,35 +424,43 @@ def numbers_by(kind, case):
     return {"size": settled["size"], "current": settled["current"], **ends}
 
 
-class Clocks(unittest.TestCase):
-    """The stored questions tell a program that reads one clock for another, in any one number."""
+class Told(unittest.TestCase):
+    """What the stored questions tell from a right program."""
 
     @classmethod
     def setUpClass(cls):
         cls.sound = defaultdict(list)  # by kind: the records that are not refused
-        for line in lines_of(questions.FILE.read_text(encoding="ascii")):
+        for line in lines_of(questions.text()):
             question = read_question(line)
             if question and question[0] in RECORD_KINDS and not calc.check_record(question[1]):
                 cls.sound[question[0]].append(question[1])
 
-    def assert_told(self, kind, clocks, change):
-        """Each number that hangs on these clocks changes in some question changed so."""
-        untold = {name for name, by in NUMBERS_BY_CLOCK[kind].items() if clocks & set(by)}
+    def assert_told(self, kind, names, change):
+        """Each of these numbers changes in some question changed so."""
+        untold = set(names)
         for case in self.sound[kind]:
             if not untold:
                 return
             right, wrong = numbers_by(kind, case), numbers_by(kind, change(case))
             untold = {name for name in untold if not is_told(right[name], wrong[name])}
-        self.assertEqual(set(), untold, f"{kind}: {clocks}")
+        self.assertEqual(set(), untold, kind)
+
+
+class Clocks(Told):
+    """A program that reads one clock for another is told, in any one number."""
+
+    def assert_clocks_told(self, kind, clocks, change):
+        names = [name for name, by in NUMBERS_BY_CLOCK[kind].items() if clocks & set(by)]
+        self.assert_told(kind, names, change)
 
     def test_one_clock_read_for_another(self):
         for kind, (read, meant) in product(NUMBERS_BY_CLOCK, permutations(calc.CLOCKS, 2)):
-            self.assert_told(kind, {meant}, lambda case: case._replace(
+            self.assert_clocks_told(kind, {meant}, lambda case: case._replace(
                 **{meant: getattr(case, read)}))
 
     def test_two_clocks_exchanged(self):
         for kind, (one, other) in product(NUMBERS_BY_CLOCK, combinations(calc.CLOCKS, 2)):
-            self.assert_told(kind, {one, other}, lambda case: case._replace(
+            self.assert_clocks_told(kind, {one, other}, lambda case: case._replace(
                 **{one: getattr(case, other), other: getattr(case, one)}))
 
     def test_each_clock_at_both_ends_with_the_others(self):
@@ -442,6 +475,20 @@ class Clocks(unittest.TestCase):
             clear = {case.clear for case in self.sound[kind]
                      if {case.shock, case.wire} == set(questions.CLOCK_ENDS)}
             self.assertLessEqual({49, 50, 499, 500}, clear, kind)
+
+
+class Counts(Told):
+    """A program that works a rectangle as another yard is told, in any one number."""
+
+    def test_one_count_read_for_another(self):
+        for (kind, names), (read, meant) in product(
+                NUMBERS_BY_COUNT.items(), permutations(calc.COUNTS)):
+            self.assert_told(kind, names, lambda case: case._replace(**{meant: getattr(case, read)}))
+
+    def test_the_mean_count_for_both(self):
+        for kind, names in NUMBERS_BY_COUNT.items():
+            self.assert_told(kind, names, lambda case: calc.with_lines(
+                case, (case.across + case.along) // 2))
 
 
 if __name__ == "__main__":

@@ -7,6 +7,7 @@ table kept what they held.
 """
 
 import unittest
+from itertools import product
 from pathlib import Path
 
 import calculator as calc
@@ -21,7 +22,9 @@ READERS = (read_rows, read_verdicts)
 KEPT = "kept,"
 MOST_BYTES = 524288  # what the program reads
 LEAST_OF_EACH = 3
-OLD_COLUMN = 6  # of the one time in document 01's own order
+# What names of document 01 a sheet may have, and their first column in its own order.
+OLD_COLUMNS = {("ms",): 6, ("lines",): 13, ("ms", "lines"): 6}
+LEAST_PAIRS = 60  # of unequal counts at each place of rods
 
 
 def answers_of(text):
@@ -43,18 +46,14 @@ def kept_after(wanted):
     return TABLE - (0 if isinstance(wanted, Refusal) else calc.ROW_LENGTH * len(wanted))
 
 
-def one_time_column(sheet):
-    """The column of the one time in a sheet of document 01 that is otherwise sound, or 0."""
-    lines = [line.split(calc.FIELD_END) for line in sheet.split(calc.LINE_END)[:-1]]
-    name = differential.OLD_NAME.encode("ascii")
-    if not lines or name not in lines[0]:
-        return 0
-    at = lines[0].index(name)
-    clocks = [clock.encode("ascii") for clock in calc.CLOCKS]
-    carried = [lines[0][:at] + clocks + lines[0][at + 1 :]]
-    carried += [line[:at] + line[at : at + 1] * len(clocks) + line[at + 1 :] for line in lines[1:]]
-    text = b"".join(calc.FIELD_END.join(line) + calc.LINE_END for line in carried)
-    return 0 if isinstance(calc.read_sheet(text), Refusal) else at + 1
+def old_columns(sheet):
+    """The names of document 01 in a sheet that is otherwise sound, each with its column."""
+    names = sheet.split(calc.LINE_END)[0].split(calc.FIELD_END)
+    found = {old: names.index(old.encode("ascii")) + 1
+             for old in differential.OLD_NAMES if old.encode("ascii") in names}
+    for old in found:
+        sheet = differential.carried_over(sheet, old)
+    return {} if isinstance(calc.read_sheet(sheet), Refusal) else found
 
 
 class Batch(unittest.TestCase):
@@ -138,15 +137,32 @@ class Coverage(Batch):
         self.assertIn(Refusal(4, calc.MAX_VALUE_LINES + 2, 0), self.wanted)
         self.assertIn(Refusal(4, 2, 0), self.wanted)
 
-    def test_sheets_of_document_01_are_refused_at_their_one_time(self):
-        columns = set()
+    def test_sheets_with_names_of_document_01_are_refused_at_the_first(self):
+        columns = {names: set() for names in OLD_COLUMNS}
         for (sheet, _), rows, verdicts in zip(self.asked, self.rows, self.verdicts):
-            column = one_time_column(sheet)
-            if column:
-                columns.add(column)
-                self.assertEqual((rows, verdicts), (Refusal(2, 1, column),) * 2)
-        self.assertGreaterEqual(len(columns), 2)
-        self.assertIn(OLD_COLUMN, columns)
+            found = old_columns(sheet)
+            if found:
+                columns[tuple(found)].add(min(found.values()))
+                self.assertEqual((rows, verdicts), (Refusal(2, 1, min(found.values())),) * 2)
+        for names, column in OLD_COLUMNS.items():
+            self.assertIn(column, columns[names], names)
+            self.assertGreaterEqual(len(columns[names]), 2, names)
+
+    def test_pairs_of_counts_at_each_place(self):
+        """Both ends of spacing and depth with each place, and equal counts among them."""
+        cases = [case for wanted in self.wanted if not isinstance(wanted, Refusal) for case in wanted]
+        for place in range(3):
+            there = [case for case in cases if case.place == place]
+            unequal = {(case.across, case.along) for case in there if case.across != case.along}
+            self.assertGreaterEqual(len(unequal), LEAST_PAIRS)
+            self.assertTrue(any(case.across == case.along for case in there))
+            found = {(case.space, case.depth) for case in there}
+            self.assertLessEqual(set(product((2500, 30000), (250, 2500))), found)
+
+    def test_one_sheet_is_of_the_pairs_of_counts(self):
+        share = differential.cases_of_pairs(differential.BATCH_SEED)[:: differential.PAIRS_EVERY]
+        self.assertLessEqual(len(share), calc.MAX_VALUE_LINES)
+        self.assertIn(share, self.wanted)
 
     def test_sound_above_what_document_01_allowed(self):
         """More than 64 lines and 16,384 bytes, before request (h) of document 02."""

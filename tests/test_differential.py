@@ -1,9 +1,10 @@
 """Tests of the differential run: it passes a right program and tells wrong ones."""
 
 import io
+import random
 import unittest
 from contextlib import redirect_stdout
-from itertools import permutations
+from itertools import permutations, product
 from unittest import mock
 
 import calculator as calc
@@ -12,6 +13,7 @@ from calculator import Refusal
 from printed import ROW_NAMES
 
 SEED, COUNT = 2, 60
+PAIRS_EVERY = 101  # one case in so many of the pairs of counts is run here
 K = 9
 
 
@@ -35,8 +37,8 @@ def with_rows(change):
     return program
 
 
-def with_clocks(read, meant):
-    """A program that reads one clock for another."""
+def with_column(read, meant):
+    """A program that reads one column for another."""
     def program(_, sheet):
         cases = calc.read_sheet(sheet)
         if isinstance(cases, Refusal):
@@ -46,16 +48,9 @@ def with_clocks(read, meant):
     return program
 
 
-def takes_one_time(_, sheet):
-    """A program that still takes document 01's one time, for all three clocks."""
-    names, *lines = (line.split(b",") for line in sheet.split(b"\n"))
-    if differential.OLD_NAME.encode() in names:
-        at = names.index(differential.OLD_NAME.encode())
-        names[at : at + 1] = [clock.encode() for clock in calc.CLOCKS]
-        for line in lines[:-1]:
-            line[at : at + 1] *= len(calc.CLOCKS)
-        sheet = b"\n".join(b",".join(line) for line in (names, *lines))
-    return text_of(right_answer(sheet))
+def takes(old):
+    """A program that still takes a name of document 01, for all that have its place."""
+    return lambda _, sheet: text_of(right_answer(differential.carried_over(sheet, old)))
 
 
 def refuses_all(_, sheet):
@@ -79,9 +74,9 @@ WRONG = {
     "always says safe": with_rows(lambda rows: [row[:2] + [1] + row[3:] for row in rows]),
     "calls the undecided unsafe": with_rows(
         lambda rows: [row[:2] + [min(row[2], calc.UNSAFE)] + row[3:] for row in rows]),
-    **{f"reads {read} for {meant}": with_clocks(read, meant)
-       for read, meant in permutations(calc.CLOCKS, 2)},
-    "takes a sheet with one time": takes_one_time,
+    **{f"reads {read} for {meant}": with_column(read, meant)
+       for names in (calc.CLOCKS, calc.COUNTS) for read, meant in permutations(names, 2)},
+    **{f"takes a sheet with {old}": takes(old) for old in differential.OLD_NAMES},
     "prints no line end": lambda _, sheet: text_of(right_answer(sheet))[:-1],
 }
 
@@ -105,6 +100,61 @@ class Differential(unittest.TestCase):
         """A table for the most rows is never too short."""
         tally = self.run_with(with_rows(lambda rows: rows))[0]
         self.assertLessEqual(set(range(8)), set(tally))
+
+
+class Cases(unittest.TestCase):
+    """What random cases and the cases of the pairs of counts are."""
+
+    def test_unequal_counts_mostly(self):
+        rng = random.Random(SEED)
+        cases = [differential.random_case(rng) for _ in range(500)]
+        self.assertTrue(all(calc.check_record(case) is None for case in cases))
+        equal = [case for case in cases if case.across == case.along]
+        self.assertTrue(len(cases) / 20 < len(equal) < len(cases) / 3)
+        self.assertGreater(len({case.across for case in equal}), 15)
+        self.assertEqual({case.place for case in cases}, {0, 1, 2})
+
+    def test_every_pair_at_each_place_with_both_ends(self):
+        cases = differential.cases_of_pairs(SEED)
+        self.assertTrue(all(calc.check_record(case) is None for case in cases))
+        self.assertEqual(len({case.station for case in cases}), len(cases))
+        found = {(c.across, c.along, c.place, c.space, c.depth) for c in cases}
+        counts = range(2, 26)
+        wanted = product(counts, counts, range(3), (2500, 30000), (250, 2500))
+        self.assertEqual(found, set(wanted))
+        self.assertEqual(len(cases), 12 * 576)
+
+
+class Pairs(unittest.TestCase):
+    """The run over the pairs of counts."""
+
+    def run_with(self, program):
+        cases = differential.cases_of_pairs(SEED)[::PAIRS_EVERY]
+        with mock.patch.object(differential, "printed_by", program):
+            return cases, *differential.run_pairs("program", cases)
+
+    def test_a_right_program_agrees(self):
+        cases, wrong, widths = self.run_with(with_rows(lambda rows: rows))
+        self.assertEqual(wrong, [])
+        self.assertEqual([case for case, _ in widths], cases)
+        self.assertTrue(all(0 <= share <= 1 for _, shares in widths for share in shares))
+
+    def test_wrong_programs_are_told(self):
+        for read, meant in permutations(calc.COUNTS):
+            self.assertTrue(self.run_with(with_column(read, meant))[1])
+        cases, wrong, widths = self.run_with(refuses_all)
+        self.assertTrue(wrong)
+        self.assertEqual(widths, [])
+
+    def test_a_wide_pair_is_told(self):
+        """Tolerable touch, the first pair, twice as wide as it may be."""
+        def widened(row):
+            return row[:6] + [row[5] + row[5] // 5000 + 20] + row[7:]
+        cases, wrong, widths = self.run_with(with_rows(lambda rows: list(map(widened, rows))))
+        self.assertGreaterEqual(len(wrong), len(cases))
+        for _, shares in widths:
+            self.assertTrue(1.9 < shares.tolerable_touch <= 2)
+            self.assertLess(shares.mesh, 1)
 
 
 if __name__ == "__main__":

@@ -16,7 +16,7 @@ DEPTHS = (3, 6, 9, 12)
 LINES = 64  # the most of document 01 before request (h) of document 02
 
 # Examples B.1 and B.2 of IEEE Std 80-2013, Annex B: no rods, and 20 at the perimeter.
-B1 = Case(80, 1, 400, 2500, 102, 500, 500, 500, 70, 3180, 600, 4, 11, 7000, 500, 100, 0, 0, 0, 2)
+B1 = Case(80, 1, 400, 2500, 102, 500, 500, 500, 70, 3180, 600, 4, 11, 11, 7000, 500, 100, 0, 0, 0, 2)
 B2 = B1._replace(season=2, rods=20, rodlen=7500, place=1)
 
 
@@ -72,12 +72,17 @@ class Coverage(Rows):
         self.assertNotEqual(self.names, list(calc.NAME_BYTES))
         self.assertEqual(sorted(self.names), sorted(calc.NAME_BYTES))
 
-    def test_bodies_places_metals_lines(self):
+    def test_bodies_places_metals_counts(self):
         self.assertEqual(self.values("body"), {50, 70})
         self.assertEqual(self.values("place"), {0, 1, 2})
         self.assertEqual(self.values("metal"), set(range(1, 12)))
-        self.assertEqual(self.values("lines"), set(range(2, 26)))
+        for name in calc.COUNTS:
+            self.assertEqual(self.values(name), set(range(2, 26)))
         self.assertEqual(self.values("season"), {1, 2, 3, 4})
+
+    def test_every_yard_is_square(self):
+        """As on document 01's sheets; the batch and the questions have the rectangles."""
+        self.assertTrue(all(case.across == case.along for case in self.cases))
 
     def test_bodies_with_places_and_surfaces(self):
         combined = {(case.body, case.place, case.layer == 0) for case in self.cases}

@@ -1,5 +1,5 @@
-"""The program `verdict` is run on document 01's sample sheet, each of whose clocks has the value of
-its ms, and prints what document 01 shows.
+"""The program `verdict` is run on document 01's sample sheet, whose ms each clock has and whose lines
+each count, and prints what document 01 shows.
 
 `rt check verdict` holds the program to these files. test_batch.py judges the same listing of many
 sheets.
@@ -14,9 +14,9 @@ from printed import read_verdicts
 VERDICT = Path(__file__).parents[1] / "crates" / "verdict"
 
 SAMPLE = b"""\
-station,season,soil,layer,thick,shock,clear,wire,body,fault,split,xr,lines,space,depth,dia,rods,rodlen,place,metal
-7,1,400,2500,102,500,500,500,70,3180,600,10,11,7000,500,100,0,0,0,1
-7,2,100,2500,102,500,500,500,70,3180,600,10,11,7000,500,100,0,0,0,1
+station,season,soil,layer,thick,shock,clear,wire,body,fault,split,xr,across,along,space,depth,dia,rods,rodlen,place,metal
+7,1,400,2500,102,500,500,500,70,3180,600,10,11,11,7000,500,100,0,0,0,1
+7,2,100,2500,102,500,500,500,70,3180,600,10,11,11,7000,500,100,0,0,0,1
 """
 SHOWN = b"""\
 station,season,verdict,kcmil

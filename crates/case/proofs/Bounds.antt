@@ -5,7 +5,7 @@ use Prim.Native.String.{String}
 use mathlib.Core.Path.{_≡_, refl, ap}
 use mathlib.Core.Bool.{Bool, true, false, cond, _&&_, _||_}
 use mathlib.Core.Logic.{_⊎_, inl, inr, ⊎-elim}
-use mathlib.Core.List.{List, [], _∷_}
+use mathlib.Core.List.{List}
 use native.Mathlib.Omega.{arith}
 use lib.ListN.{length, getD}
 use lib.Dec.{T, leb, eqb, leb→le, eqb→eq}
@@ -13,7 +13,7 @@ use Rattle.case.specs.declared.Case.{Case}
 use Rattle.case.specs.declared.Finding.{Finding}
 use Rattle.case.specs.declared.Finding.the-variants.{Sound, OutOfRange, Disagreement}
 use Rattle.text.specs.Text.{bytes, same}
-use Rattle.case.specs.Columns.{columns, name-count, inRange, nameIndex, named}
+use Rattle.case.specs.Columns.{columns, inRange, nameIndex, named}
 use Rattle.case.specs.Case.{values}
 use Rattle.case.specs.Check.{outOfRange, disagreement, finding, caseFinding, countFrom, ownPlaces, recordFinding, judgedBy, recordJudged}
 use Rattle.case.specs.declared.Judged.the-variants as judged
@@ -83,7 +83,8 @@ bounded c r g =
       fault = between 100 80000 (c .fault) (at "fault");
       split = between 1 1000 (c .split) (at "split");
       xr = between 1 40 (c .xr) (at "xr");
-      lines = between 2 25 (c .lines) (at "lines");
+      across = between 2 25 (c .across) (at "across");
+      along = between 2 25 (c .along) (at "along");
       space = between 2500 30000 (c .space) (at "space");
       depth = between 250 2500 (c .depth) (at "depth");
       dia = between 50 300 (c .dia) (at "dia");

@@ -50,7 +50,8 @@ pub record Bounds (c : Case) : Type 0 where
   pub fault : Between 100 (c .fault) 80000
   pub split : Between 1 (c .split) 1000
   pub xr : Between 1 (c .xr) 40
-  pub lines : Between 2 (c .lines) 25
+  pub across : Between 2 (c .across) 25
+  pub along : Between 2 (c .along) 25
   pub space : Between 2500 (c .space) 30000
   pub depth : Between 250 (c .depth) 2500
   pub dia : Between 50 (c .dia) 300

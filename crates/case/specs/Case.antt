@@ -9,7 +9,7 @@ use Rattle.case.specs.declared.Case.{Case}
 abbrev pub values : Case → List ℕ
 values c =
     c .station ∷ c .season ∷ c .soil ∷ c .layer ∷ c .thick ∷ c .shock ∷ c .clear ∷ c .wire
-    ∷ c .body ∷ c .fault ∷ c .split ∷ c .xr ∷ c .lines ∷ c .space
+    ∷ c .body ∷ c .fault ∷ c .split ∷ c .xr ∷ c .across ∷ c .along ∷ c .space
     ∷ c .depth ∷ c .dia ∷ c .rods ∷ c .rodlen ∷ c .place ∷ c .metal
     ∷ []
 
@@ -28,14 +28,15 @@ caseOf v =
       fault = getD v 9 0;
       split = getD v 10 0;
       xr = getD v 11 0;
-      lines = getD v 12 0;
-      space = getD v 13 0;
-      depth = getD v 14 0;
-      dia = getD v 15 0;
-      rods = getD v 16 0;
-      rodlen = getD v 17 0;
-      place = getD v 18 0;
-      metal = getD v 19 0;
+      across = getD v 12 0;
+      along = getD v 13 0;
+      space = getD v 14 0;
+      depth = getD v 15 0;
+      dia = getD v 16 0;
+      rods = getD v 17 0;
+      rodlen = getD v 18 0;
+      place = getD v 19 0;
+      metal = getD v 20 0;
     }
 
 pub case-of-values : (c : Case) → caseOf (values c) ≡ c

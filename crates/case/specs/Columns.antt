@@ -31,7 +31,8 @@ Form = List Column
 abbrev column : String → Range → Column
 column name range = record { name = bytes name; range = range }
 
--- document 01's names with their ranges; request (a) of document 02: "ms gives place to shock, clear and wire in that order, each 9..3000"
+-- document 01's names with their ranges; request (a) of document 02: "ms gives place to shock, clear and wire in that order, each 9..3000";
+-- request (c): "The column lines becomes across and along in that order, each 2..25"
 unfoldable pub columns : Form
 columns =
     column "station" (from 1 65535)
@@ -46,7 +47,8 @@ columns =
     ∷ column "fault" (from 100 80000)
     ∷ column "split" (from 1 1000)
     ∷ column "xr" (from 1 40)
-    ∷ column "lines" (from 2 25)
+    ∷ column "across" (from 2 25)
+    ∷ column "along" (from 2 25)
     ∷ column "space" (from 2500 30000)
     ∷ column "depth" (from 250 2500)
     ∷ column "dia" (from 50 300)
@@ -58,7 +60,7 @@ columns =
 
 -- how many they are
 abbrev pub nameCount : ℕ
-nameCount = 20
+nameCount = 21
 
 pub name-count : length columns ≡ nameCount
 unfolding columns

@@ -9,7 +9,7 @@ use parts::disagreement;
 use parts::out_of_range;
 
 // How many names document 01's table has.
-pub const NAMES: usize = 20;
+pub const NAMES: usize = 21;
 
 // The numbers of document 01's table of names, in its order and units.
 pub struct Case {
@@ -25,7 +25,8 @@ pub struct Case {
     pub fault: u32,
     pub split: u32,
     pub xr: u32,
-    pub lines: u32,
+    pub across: u32,
+    pub along: u32,
     pub space: u32,
     pub depth: u32,
     pub dia: u32,
@@ -65,14 +66,15 @@ pub fn case_of(v: [u32; NAMES]) -> Case
         fault: v[9],
         split: v[10],
         xr: v[11],
-        lines: v[12],
-        space: v[13],
-        depth: v[14],
-        dia: v[15],
-        rods: v[16],
-        rodlen: v[17],
-        place: v[18],
-        metal: v[19],
+        across: v[12],
+        along: v[13],
+        space: v[14],
+        depth: v[15],
+        dia: v[16],
+        rods: v[17],
+        rodlen: v[18],
+        place: v[19],
+        metal: v[20],
     }
 }
 
@@ -93,7 +95,8 @@ fn values_of(c: Case) -> [u32; NAMES]
         c.fault,
         c.split,
         c.xr,
-        c.lines,
+        c.across,
+        c.along,
         c.space,
         c.depth,
         c.dia,
@@ -142,6 +145,7 @@ fn check(c: Case) -> Finding
             18,
             19,
             20,
+            21,
         ],
         c,
     )

@@ -14,7 +14,7 @@ use crate::range::in_range;
 // The places of layer and rods among the names.
 const LAYER: usize = 3;
 
-const RODS: usize = 16;
+const RODS: usize = 17;
 
 // The lesser of two columns, where 0 is none.
 fn left_of(a: usize, c: usize) -> usize

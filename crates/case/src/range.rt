@@ -27,6 +27,7 @@ const RANGES: [Range; NAMES] = [
     Range::From(1, 1000),
     Range::From(1, 40),
     Range::From(2, 25),
+    Range::From(2, 25),
     Range::From(2500, 30000),
     Range::From(250, 2500),
     Range::From(50, 300),

@@ -1,4 +1,4 @@
 pub mod SquareLoad
 pub mod Smallest
-pub mod DrivingProduct
+pub mod GridCurrent
 pub mod Metals

@@ -1,13 +1,13 @@
 -- The smallest number for the rounded square is the conductor size.
 -- Assumes nothing.
-use Prim.Native.Nat.{ℕ, _+_, _*_, _^_, _≤_, _<_}
-use mathlib.Core.Path.{_≡_, sym, ap}
+use Prim.Native.Nat.{ℕ, _*_, _<_}
+use mathlib.Core.Path.{_≡_, ap}
 use native.Mathlib.Omega.{arith}
-use native.Mathlib.Nat.{mul-le-mul-right, pow-suc, pow-zero}
 use native.Mathlib.Decide.{decLt}
 use Rattle.case.specs.declared.Case.{Case}
 use Rattle.formulas.specs.Size.{duty, size}
-use Rattle.formulas.proofs.Size.{square, size-enough, size-least}
+use Rattle.exact.proofs.Powers.{square}
+use Rattle.formulas.proofs.Size.{size-enough, size-least}
 use Rattle.current.specs.Size.{squareLoad, IsSmallest}
 use Rattle.current.proofs.SquareLoad.{load-low, load-high}
 

@@ -2,24 +2,25 @@
 -- Assumes nothing.
 use native.Mathlib.Omega.{arith}
 use Rattle.exact.specs.Fraction.{whole}
-use Rattle.exact.specs.Exact.{Exact, exactly, _·x_, _÷x_}
+use Rattle.exact.specs.Exact.{Exact, exactly, _−x_, _·x_, _÷x_}
 use Rattle.exact.specs.Depth.{Consistent}
 use Rattle.exact.proofs.Order.{whole≤}
-use Rattle.exact.proofs.Consistency.{consistent-exactly, consistent-sum, consistent-product, consistent-quotient}
+use Rattle.exact.proofs.Consistency.{consistent-exactly, consistent-sum, consistent-difference, consistent-product, consistent-quotient}
 use Rattle.exact.proofs.Positive.{positive-exactly}
 use Rattle.exact.proofs.Logarithm.{consistent-ln}
 use Rattle.exact.proofs.Quantity.{Quantity, quantity-exactly, quantity-sum, quantity-product, quantity-quotient, quantity-root, quantity-π}
 use Rattle.case.specs.declared.Case.{Case}
 use Rattle.case.specs.Bounds.{Bounds}
-use Rattle.formulas.specs.Lengths.{ρ, side, Ki}
+use Rattle.formulas.specs.Lengths.{ρ, D, Ki}
 use Rattle.formulas.specs.Current.{IG}
 use Rattle.formulas.specs.Tolerable.{rootTime, tolerableTouch, tolerableStep}
 use Rattle.formulas.specs.Mesh.{Km, mesh}
-use Rattle.formulas.specs.Step.{Ks, step}
+use Rattle.formulas.specs.Step.{halfPower, Ks, step}
 use Rattle.formulas.specs.Resistance.{√20, resistance, potentialRise}
 use Rattle.formulas.proofs.MeshArgument.{G-pos}
-use Rattle.formulas.proofs.Quantities.{one, quantity-turn, quantity-ρ, quantity-Ki, quantity-IG, quantity-Kh, quantity-Kii, quantity-spread, quantity-LM}
-use Rattle.formulas.proofs.Positive.{one-thousandth, millisecond, h-pos, side-pos, LT-pos, LS-pos}
+use Rattle.formulas.proofs.Quantities.{one, quantity-turn, quantity-ρ, quantity-Ki, quantity-IG, quantity-Kh, quantity-Kii, quantity-spread, consistent-halfPower, quantity-LM}
+use Rattle.formulas.proofs.Conductors.{quantity-s}
+use Rattle.formulas.proofs.Positive.{one-thousandth, millisecond, D-pos, h-pos, LT-pos, LS-pos}
 
 pub q20 : Quantity √20
 unfolding √20
@@ -38,9 +39,6 @@ module _ {c : Case} (b : Bounds c) where
   unfolding tolerableStep
   consistent-tolerable-step = consistent-quotient (quantity-rootTime .positive) (consistent-exactly _) (quantity-rootTime .consistent)
 
-  q-side : Quantity (exactly (side c))
-  q-side = quantity-exactly (side-pos b)
-
   pub quantity-resistance : Quantity (resistance c)
   unfolding resistance
   quantity-resistance =
@@ -48,8 +46,8 @@ module _ {c : Case} (b : Bounds c) where
       (quantity-sum (quantity-quotient one (quantity-exactly (LT-pos b)))
       (quantity-quotient
       (quantity-sum one
-      (quantity-quotient one (quantity-sum one (quantity-quotient (quantity-product (quantity-exactly (h-pos b)) q20) q-side))))
-      (quantity-product q-side q20)))
+      (quantity-quotient one (quantity-sum one (quantity-quotient (quantity-product (quantity-exactly (h-pos b)) q20) (quantity-s b)))))
+      (quantity-product (quantity-s b) q20)))
 
   pub consistent-rise : Consistent (potentialRise c)
   unfolding potentialRise
@@ -64,9 +62,15 @@ module _ {c : Case} (b : Bounds c) where
 
   -- ---- the step voltage
 
+  -- (1 − 0.5^(n−2))/D
+  pub consistent-share : Consistent ((exactly (whole 1) −x halfPower c) ÷x exactly (D c))
+  consistent-share =
+      let spacing = quantity-exactly (D-pos b) in
+      consistent-quotient (spacing .positive) (consistent-difference (one .consistent) (consistent-halfPower b)) (spacing .consistent)
+
   pub consistent-Ks : Consistent (Ks c)
   unfolding Ks
-  consistent-Ks = consistent-quotient (quantity-π .positive) (consistent-exactly _) (quantity-π .consistent)
+  consistent-Ks = consistent-quotient (quantity-π .positive) (consistent-sum (consistent-exactly _) consistent-share) (quantity-π .consistent)
 
   pub consistent-step : Consistent (step c)
   unfolding step

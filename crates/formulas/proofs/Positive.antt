@@ -7,13 +7,13 @@ use native.Mathlib.Omega.{arith}
 use native.Mathlib.Nat.{mul-pos as nat-pos, mul-le-mul-right}
 use lib.Dec.{lit≤}
 use Rattle.exact.specs.Fraction.{Fraction, _≤f_, _<f_, whole, decimal, _+f_, _·f_, _÷f_}
-use Rattle.exact.proofs.Order.{trans≤, lt-of-lt-of-le, le-of-lt, whole≤, whole-pos, nonneg}
-use Rattle.exact.proofs.Sums.{le+}
-use Rattle.exact.proofs.Products.{mul-pos, mul-nonneg, mono·, one-mul}
-use Rattle.exact.proofs.Quotients.{inv-pos}
+use Rattle.exact.proofs.Order.{trans≤, lt-of-lt-of-le, le-of-lt, refl≤, whole≤, whole-pos, nonneg}
+use Rattle.exact.proofs.Sums.{add-comm, mono+, le+}
+use Rattle.exact.proofs.Products.{mul-pos, mul-nonneg, mul≤, mono·, mul-assoc, mul-one, mul-add, one-mul}
+use Rattle.exact.proofs.Quotients.{inv-pos, mul-inv}
 use Rattle.case.specs.declared.Case.{Case}
 use Rattle.case.specs.Bounds.{Bounds, Rodless, Rodded}
-use Rattle.formulas.specs.Lengths.{ρ, D, h, d, Lr, side, Lc, LR, LT}
+use Rattle.formulas.specs.Lengths.{ρ, D, h, d, Lr, Lx, Ly, Lc, Lp, area, LR, LT, na}
 use Rattle.formulas.specs.Current.{gridCurrent}
 use Rattle.formulas.specs.Mesh.{G′}
 use Rattle.formulas.specs.Step.{LS}
@@ -51,10 +51,9 @@ pub four-squares : {m : ℕ} → 1 ≤ m → whole 1 ≤f whole 4 ·f whole m ·
 unfolding whole _·f_
 four-squares {m} l = omega (arith, mul-le-mul-right m l)
 
-pub two-squares : {q : Fraction} → whole 1 ≤f q → whole 1 ≤f whole 2 ·f (q ·f q)
-two-squares {q} p =
-    let s : whole 1 ≤f q ·f q = trans≤ (one-mul (whole 1) .fro) (mono· (nonneg 1) (trans≤ (nonneg 1) p) p p) in
-    trans≤ (one-mul (whole 1) .fro) (mono· (nonneg 1) (nonneg 2) (whole≤ (omega arith)) s)
+-- a product of two numbers from 1 up
+product-least : {p q : Fraction} → whole 1 ≤f p → whole 1 ≤f q → whole 1 ≤f p ·f q
+product-least h k = trans≤ (one-mul (whole 1) .fro) (mono· (nonneg 1) (trans≤ (nonneg 1) h) h k)
 
 -- ---- rods
 
@@ -89,22 +88,64 @@ module _ {c : Case} (b : Bounds c) where
   unfolding d
   d-pos = decimal-pos 4 (omega (arith, b .dia .low))
 
-  pub lines-pos : whole 0 <f whole (c .lines)
-  lines-pos = whole-pos (omega (arith, b .lines .low))
-
   pub current-pos : 0 < gridCurrent c
   unfolding gridCurrent
   current-pos =
       nat-pos (nat-pos {m = c .fault} {n = c .split} (omega (arith, b .fault .low)) (omega (arith, b .split .low)))
       (omega (arith, factor-bounds b .low))
 
-  pub side-pos : whole 0 <f side c
-  unfolding side
-  side-pos = mul-pos (whole-pos (omega (arith, b .lines .low))) D-pos
+  -- the sides are at least a metre
+  side-metre : (count : ℕ) → 2 ≤ count → whole 1 ≤f whole (count - 1) ·f D c
+  unfolding D
+  side-metre count l = product-least (whole≤ (omega arith)) (metre (c .space) (omega (arith, b .space .low)))
+
+  pub Lx-metre : whole 1 ≤f Lx c
+  unfolding Lx
+  Lx-metre = side-metre (c .across) (b .across .low)
+
+  pub Ly-metre : whole 1 ≤f Ly c
+  unfolding Ly
+  Ly-metre = side-metre (c .along) (b .along .low)
+
+  pub Lx-pos : whole 0 <f Lx c
+  Lx-pos = lt-of-lt-of-le (whole-pos (omega arith)) Lx-metre
+
+  pub Ly-pos : whole 0 <f Ly c
+  Ly-pos = lt-of-lt-of-le (whole-pos (omega arith)) Ly-metre
+
+  pub area-least : whole 1 ≤f area c
+  unfolding area
+  area-least = product-least Lx-metre Ly-metre
+
+  -- the square of the diagonal
+  pub diagonal-least : whole 1 ≤f Lx c ·f Lx c +f Ly c ·f Ly c
+  diagonal-least = trans≤ (product-least Lx-metre Lx-metre) (le+ (mul-nonneg (le-of-lt Ly-pos) (le-of-lt Ly-pos)))
+
+  pub Lp-pos : whole 0 <f Lp c
+  unfolding Lp
+  Lp-pos = mul-pos (whole-pos (omega arith)) (add-pos Lx-pos (le-of-lt Ly-pos))
+
+  -- there are at least two conductors each way
+  pub Lp-within-Lc : Lp c ≤f Lc c
+  unfolding Lp Lc
+  Lp-within-Lc =
+      trans≤ (mul-add (whole 2) (Lx c) (Ly c) .to)
+      (trans≤ (add-comm (whole 2 ·f Lx c) (whole 2 ·f Ly c) .to)
+      (mono+ (mul≤ (le-of-lt Ly-pos) (whole≤ (b .across .low))) (mul≤ (le-of-lt Lx-pos) (whole≤ (b .along .low)))))
 
   pub Lc-pos : whole 0 <f Lc c
-  unfolding Lc
-  Lc-pos = mul-pos (mul-pos (whole-pos (omega arith)) lines-pos) side-pos
+  Lc-pos = lt-of-lt-of-le Lp-pos Lp-within-Lc
+
+  pub na-least : whole 2 ≤f na c
+  unfolding na _÷f_
+  na-least =
+      trans≤ (mul-one (whole 2) .fro)
+      (trans≤ (mono· (le-of-lt (whole-pos (omega arith))) (nonneg 2) (refl≤ (whole 2)) (mul-inv Lp-pos .fro))
+      (trans≤ (mul-assoc (whole 2) (Lp c) _ .fro)
+      (mul≤ (le-of-lt (inv-pos (Lp c))) (mono· (le-of-lt Lp-pos) (nonneg 2) (refl≤ (whole 2)) Lp-within-Lc))))
+
+  pub na-pos : whole 0 <f na c
+  na-pos = lt-of-lt-of-le (whole-pos (omega arith)) na-least
 
   pub LR-nonneg : whole 0 ≤f LR c
   unfolding LR Lr
@@ -124,10 +165,3 @@ module _ {c : Case} (b : Bounds c) where
       div-pos _
       (mul-pos (add-pos D-pos (le-of-lt (mul-pos (whole-pos (omega arith)) h-pos)))
       (add-pos (mul-pos D-pos D-pos) (le-of-lt (mul-pos (whole-pos (omega arith)) (mul-pos h-pos h-pos)))))
-
-  -- the side is at least a metre
-  pub side-metre : whole 1 ≤f side c
-  unfolding side D
-  side-metre =
-      trans≤ (one-mul (whole 1) .fro)
-      (mono· (nonneg 1) (nonneg (c .lines - 1)) (whole≤ (omega (arith, b .lines .low))) (metre (c .space) (omega (arith, b .space .low))))

@@ -1,42 +1,40 @@
--- n, Ki, IG and the parts of Km and LM are positive and consistent.
+-- Ki, IG and the parts of Km, Ks and LM are positive and consistent.
 -- Assumes nothing.
-use mathlib.Core.Path.{_≡_, refl}
-use mathlib.Core.Bool.{Bool, true, false, cond}
+use mathlib.Core.Path.{_≡_}
+use mathlib.Core.Bool.{true}
 use native.Mathlib.Omega.{arith}
 use lib.Dec.{lit<, eqb, eqb→eq}
 use Rattle.exact.specs.Fraction.{_<f_, whole, decimal, _·f_}
 use Rattle.exact.specs.Exact.{exactly, _+x_, _−x_, _·x_, _÷x_}
+use Rattle.exact.specs.Logarithm.{ln}
+use Rattle.exact.specs.Depth.{Consistent}
 use Rattle.exact.specs.Root.{root}
 use Rattle.exact.specs.Pi.{π}
-use Rattle.exact.proofs.Order.{whole≤, whole-pos, nonneg, le-of-lt}
+use Rattle.exact.proofs.Order.{whole-pos, nonneg, le-of-lt}
 use Rattle.exact.proofs.Sums.{le+}
 use Rattle.exact.proofs.Products.{mul-pos}
-use Rattle.exact.proofs.Consistency.{consistent-exactly, consistent-difference}
-use Rattle.exact.proofs.Positive.{AtLeast, at-least-exactly, at-least-times, positive-less}
+use Rattle.exact.proofs.Consistency.{consistent-exactly, consistent-difference, consistent-product, consistent-minus}
+use Rattle.exact.proofs.Logarithm.{consistent-ln}
+use Rattle.exact.proofs.Exponential.{consistent-exp, positive-exp}
+use Rattle.exact.proofs.Positive.{at-least-times, positive-less}
 use Rattle.exact.proofs.Quantity.{Quantity, quantity-exactly, quantity-sum, quantity-product, quantity-quotient, quantity-root, quantity-π}
 use Rattle.case.specs.declared.Case.{Case}
 use Rattle.case.specs.Bounds.{Bounds, Rodded}
-use Rattle.formulas.specs.Lengths.{ρ, n, Ki, Lr, side}
+use Rattle.formulas.specs.Lengths.{ρ, equalCounts, n, Ki, Lr}
 use Rattle.formulas.specs.Current.{IG}
-use Rattle.formulas.specs.Mesh.{Kh, Kii, LM}
-use Rattle.formulas.proofs.Positive.{decimal-pos, one-thousandth, four-squares, two-squares, ρ-pos, h-pos, current-pos, Lc-pos, LT-pos, side-metre, rodded, Lr-pos, LR-pos}
-
--- a definition by two cases
-pub by-place : {A : Type 0} (P : A → Type 0) (b : Bool) {x y : A} → (b ≡ true → P x) → (b ≡ false → P y) → P (cond b x y)
-by-place P true h k = h refl
-by-place P false h k = k refl
-
--- two definitions by one case
-pub by-both : {A B : Type 0} (P : A → B → Type 0) (t : Bool) {x y : A} {x′ y′ : B} → (t ≡ true → P x x′) → (t ≡ false → P y y′)
-    → P (cond t x y) (cond t x′ y′)
-by-both P true f g = f refl
-by-both P false f g = g refl
+use Rattle.formulas.specs.Mesh.{Kh, innerWeight, Kii, diagonal, LM}
+use Rattle.formulas.specs.Step.{halfPower}
+use Rattle.formulas.proofs.Positive.{decimal-pos, one-thousandth, four-squares, ρ-pos, h-pos, current-pos, Lc-pos, LT-pos, diagonal-least, rodded, Lr-pos, LR-pos}
+use Rattle.formulas.proofs.Conductors.{by-place, n-least, quantity-n}
 
 pub one : Quantity (exactly (whole 1))
 one = quantity-exactly (whole-pos (omega arith))
 
+pub two : Quantity (exactly (whole 2))
+two = quantity-exactly (whole-pos (omega arith))
+
 pub quantity-turn : Quantity (exactly (whole 2) ·x π)
-quantity-turn = quantity-product (quantity-exactly (whole-pos (omega arith))) quantity-π
+quantity-turn = quantity-product two quantity-π
 
 module _ {c : Case} (b : Bounds c) where
   -- ---- ρ, Ki, IG
@@ -44,19 +42,11 @@ module _ {c : Case} (b : Bounds c) where
   pub quantity-ρ : Quantity (exactly (ρ c))
   quantity-ρ = quantity-exactly (ρ-pos b)
 
-  pub n-least : AtLeast (whole 2) (n c)
-  unfolding n
-  n-least = at-least-exactly (whole≤ (b .lines .low))
-
-  pub quantity-n : Quantity (n c)
-  unfolding n
-  quantity-n = quantity-exactly (whole-pos (omega (arith, b .lines .low)))
-
   pub quantity-Ki : Quantity (Ki c)
   unfolding Ki
   quantity-Ki =
       quantity-sum (quantity-exactly (decimal-pos 3 (omega arith)))
-      (quantity-product (quantity-exactly (decimal-pos 3 (omega arith))) quantity-n)
+      (quantity-product (quantity-exactly (decimal-pos 3 (omega arith))) (quantity-n b))
 
   pub quantity-IG : Quantity (IG c)
   unfolding IG
@@ -68,39 +58,63 @@ module _ {c : Case} (b : Bounds c) where
   unfolding Kh
   quantity-Kh = quantity-root 2 (omega arith) (one-thousandth (le+ (le-of-lt (h-pos b))))
 
-  pub quantity-line-root : Quantity (root (c .lines) (exactly (whole 4 ·f whole (c .lines) ·f whole (c .lines))))
+  pub quantity-line-root : Quantity (root (c .across) (exactly (whole 4 ·f whole (c .across) ·f whole (c .across))))
   quantity-line-root =
-      quantity-root (c .lines) (omega (arith, b .lines .low)) (one-thousandth (four-squares (omega (arith, b .lines .low))))
+      quantity-root (c .across) (omega (arith, b .across .low)) (one-thousandth (four-squares (omega (arith, b .across .low))))
+
+  pub twice-n : Quantity (exactly (whole 2) ·x n c)
+  twice-n = quantity-product two (quantity-n b)
+
+  -- (2/n)·ln(2n)
+  pub consistent-inner : Consistent (exactly (whole 2) ÷x n c ·x ln (exactly (whole 2) ·x n c))
+  consistent-inner =
+      consistent-product (quantity-quotient two (quantity-n b) .consistent) (consistent-ln (twice-n .positive) (twice-n .consistent))
+
+  pub quantity-innerWeight : Quantity (innerWeight c)
+  unfolding innerWeight
+  quantity-innerWeight =
+      by-place Quantity (equalCounts c) (λ e. quantity-quotient one quantity-line-root)
+      (λ e. record { consistent = consistent-exp (consistent-minus consistent-inner); positive = positive-exp _ })
 
   pub quantity-Kii : Quantity (Kii c)
   unfolding Kii
-  quantity-Kii = by-place Quantity (eqb (c .place) 1) (λ e. one) (λ e. quantity-quotient one quantity-line-root)
+  quantity-Kii = by-place Quantity (eqb (c .place) 1) (λ e. one) (λ e. quantity-innerWeight)
 
-  twice-n : Quantity (exactly (whole 2) ·x n c)
-  twice-n = quantity-product (quantity-exactly (whole-pos (omega arith))) quantity-n
-
-  one-below : whole 1 <f whole 2 ·f whole 2
+  one-below : whole 1 <f whole 2 ·f whole 1
   unfolding whole _·f_
   one-below = record { lt = lit< tt }
 
-  -- 2n − 1, where 2n is at least 4
+  -- 2n − 1, where 2n is at least 2
   pub quantity-odd : Quantity (exactly (whole 2) ·x n c −x exactly (whole 1))
   quantity-odd =
       record {
         consistent = consistent-difference (twice-n .consistent) (consistent-exactly (whole 1));
-        positive = positive-less one-below (twice-n .consistent) (at-least-times (whole 2) (nonneg 2) (quantity-n .consistent) n-least);
+        positive = positive-less one-below (twice-n .consistent) (at-least-times (whole 2) (nonneg 2) (quantity-n b .consistent) (n-least b));
       }
 
   pub quantity-spread : Quantity (exactly (whole 8) ÷x (π ·x (exactly (whole 2) ·x n c −x exactly (whole 1))))
   quantity-spread = quantity-quotient (quantity-exactly (whole-pos (omega arith))) (quantity-product quantity-π quantity-odd)
 
+  -- ---- 0.5^(n−2)
+
+  pub consistent-half-exponent : Consistent ((n c −x exactly (whole 2)) ·x ln (exactly (whole 2)))
+  consistent-half-exponent =
+      consistent-product (consistent-difference (quantity-n b .consistent) (consistent-exactly (whole 2)))
+      (consistent-ln (two .positive) (two .consistent))
+
+  pub consistent-halfPower : Consistent (halfPower c)
+  unfolding halfPower
+  consistent-halfPower =
+      by-place Consistent (equalCounts c) (λ e. consistent-exactly _) (λ e. consistent-exp (consistent-minus consistent-half-exponent))
+
   -- ---- LM
 
-  pub quantity-diagonal : Quantity (root 2 (exactly (whole 2 ·f (side c ·f side c))))
-  quantity-diagonal = quantity-root 2 (omega arith) (one-thousandth (two-squares (side-metre b)))
+  pub quantity-diagonal : Quantity (diagonal c)
+  unfolding diagonal
+  quantity-diagonal = quantity-root 2 (omega arith) (one-thousandth (diagonal-least b))
 
   pub quantity-weight : Rodded c
-      → Quantity (exactly (decimal 155 2) +x exactly (decimal 122 2 ·f Lr c) ÷x root 2 (exactly (whole 2 ·f (side c ·f side c))))
+      → Quantity (exactly (decimal 155 2) +x exactly (decimal 122 2 ·f Lr c) ÷x diagonal c)
   quantity-weight r =
       quantity-sum (quantity-exactly (decimal-pos 2 (omega arith)))
       (quantity-quotient (quantity-exactly (mul-pos (decimal-pos 2 (omega arith)) (Lr-pos r))) quantity-diagonal)

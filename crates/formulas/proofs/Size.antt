@@ -6,15 +6,16 @@ use mathlib.Core.Bool.{Bool, true, false, cond, not}
 use mathlib.Core.Logic.{_⊎_, inl, inr}
 use native.Mathlib.Omega.{arith}
 use native.Mathlib.Decide.{decLe}
-use native.Mathlib.Nat.{add-zero, zero-add, eq-or-lt-of-le, mul-le-mul, lt-of-le-of-lt, mul-pos, pow-suc, pow-zero}
+use native.Mathlib.Nat.{add-zero, zero-add, eq-or-lt-of-le, mul-le-mul, lt-of-le-of-lt, mul-pos}
 use lib.IntN.{pos}
 use lib.ListN.{drop}
 use lib.Dec.{T, lit<, leb, leb→le, le→leb, nleb→lt}
-use Rattle.exact.specs.Fraction.{Fraction, _≤f_, _<f_, _≈f_, whole, decimal, _·f_, top}
-use Rattle.exact.specs.Exact.{Exact, exactly, _·x_, Above, AtOrBelow}
+use Rattle.exact.specs.Fraction.{Fraction, _<f_, _≈f_, whole, decimal, _·f_, top}
+use Rattle.exact.specs.Exact.{exactly, Above, AtOrBelow}
 use Rattle.exact.specs.Root.{root}
 use Rattle.exact.specs.Reported.{Scale, over}
 use Rattle.exact.specs.Depth.{Consistent}
+use Rattle.exact.proofs.Powers.{square}
 use Rattle.exact.proofs.Order.{le-of-lt}
 use Rattle.exact.proofs.Consistency.{consistent-exactly}
 use Rattle.exact.proofs.Roots.{consistent-root}
@@ -56,9 +57,6 @@ module _ (test : ℕ → Bool) where
       go false e v (inr n) next = next n v
 
 -- ---- the size by squares
-
-pub square : (n : ℕ) → n ^ 2 ≡ n * n
-square n = rw (pow-suc n 1, pow-suc n 0, pow-zero n) (omega arith)
 
 square-grows : (n : ℕ) → n ≤ n ^ 2 * 10 ^ 19
 square-grows zero = omega arith

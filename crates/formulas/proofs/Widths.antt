@@ -1,32 +1,36 @@
--- Every width of document 01, 'What exact means', as changed by request (j), worked by hand on its sample yard, and on that yard with twenty rods of 7.5 m along the
--- perimeter: a width made wider or narrower is refused here.
+-- Every width of document 01, 'What exact means', as changed by requests (j) and (c), worked by hand on its sample yard, on that yard with twenty rods of 7.5 m along the
+-- perimeter, and on a rectangle: a width made wider or narrower is refused here.
 -- Assumes nothing.
 use Prim.Native.Nat.{ℕ, _+_, _-_}
 use mathlib.Core.List.{List, [], _∷_}
 use lib.IntN.{pos}
 use lib.Dec.{lit≤}
 use Rattle.interval.specs.declared.Interval.{Interval}
-use Rattle.exact.specs.Fraction.{Fraction, _≤f_, _≈f_, whole, decimal, _+f_, _·f_, inv, _÷f_}
+use Rattle.exact.specs.Fraction.{Fraction, _≈f_, whole, decimal, _+f_, _·f_, inv, _÷f_}
 use Rattle.exact.specs.Reported.{ten, over, reported}
 use Rattle.case.specs.declared.Case.{Case}
 use Rattle.case.specs.Case.{caseOf}
 use Rattle.formulas.specs.Decrement.{ratios, table10, factorsAt, columnAt, factor, Df}
-use Rattle.formulas.specs.Lengths.{ρ, D, Lr, side, Lc, LR, LT}
+use Rattle.formulas.specs.Lengths.{ρ, D, Lr, Lx, Ly, Lc, Lp, LR, LT, na}
 use Rattle.formulas.specs.Current.{gridCurrent}
 use Rattle.formulas.specs.Step.{LS}
 use Rattle.formulas.specs.Width.{mV, μΩ, tolerableWidth, resistanceWidth, riseWidth, referenceKi, referenceCurrent, meshWidth, stepWidth}
 use Rattle.formulas.proofs.Tables.{Every}
 
--- the sample by its rods, their length and their place
-sampleWith : ℕ → ℕ → ℕ → Case
-sampleWith rods rodlen place =
-    caseOf (7 ∷ 1 ∷ 400 ∷ 2500 ∷ 102 ∷ 500 ∷ 500 ∷ 500 ∷ 70 ∷ 3180 ∷ 600 ∷ 10 ∷ 11 ∷ 7000 ∷ 500 ∷ 100 ∷ rods ∷ rodlen ∷ place ∷ 1 ∷ [])
+-- the sample by its counts and its rods, their length and their place
+sampleWith : ℕ → ℕ → ℕ → ℕ → ℕ → Case
+sampleWith across along rods rodlen place =
+    caseOf (7 ∷ 1 ∷ 400 ∷ 2500 ∷ 102 ∷ 500 ∷ 500 ∷ 500 ∷ 70 ∷ 3180 ∷ 600 ∷ 10 ∷ across ∷ along ∷ 7000 ∷ 500 ∷ 100 ∷ rods ∷ rodlen ∷ place ∷ 1 ∷ [])
 
 abbrev sample : Case
-sample = sampleWith 0 0 0
+sample = sampleWith 11 11 0 0 0
 
 abbrev rodded : Case
-rodded = sampleWith 20 7500 1
+rodded = sampleWith 11 11 20 7500 1
+
+-- IEEE Std 80-2013, B.3: 63 m by 84 m, 38 rods of 10 m
+abbrev rectangle : Case
+rectangle = sampleWith 10 13 38 10000 1
 
 -- a pair by its lower end, which counts; the upper end stands a little above
 abbrev from : ℕ → Interval
@@ -54,8 +58,11 @@ widths =
     -- with rods: over 1690 and over 1282.5
     ∷ worked (meshWidth rodded) (whole 34239904 ÷f whole 1690000000)
     ∷ worked (stepWidth rodded) (whole 30164904 ÷f whole 1282500000)
+    -- of the rectangle na is 79/7 and Ki of it 81/35: 1/100,000 of 400·81/35·1908 over 2039 and over 1567.25, and 10 mV
+    ∷ worked (meshWidth rectangle) (whole 665921 ÷f whole 35682500)
+    ∷ worked (stepWidth rectangle) (whole 2333459 ÷f whole 109707500)
     ∷ []
 
 as-worked : Every (λ w. w .width ≈f w .number) widths
-unfolding widths sampleWith tolerableWidth resistanceWidth riseWidth meshWidth stepWidth referenceKi referenceCurrent gridCurrent Df factor factorsAt table10 columnAt ratios ρ D Lr side Lc LR LT LS mV μΩ reported ten over inv whole decimal _+f_ _·f_ _÷f_
-as-worked = (record { to = record { le = lit≤ tt }; fro = record { le = lit≤ tt } }, (record { to = record { le = lit≤ tt }; fro = record { le = lit≤ tt } }, (record { to = record { le = lit≤ tt }; fro = record { le = lit≤ tt } }, (record { to = record { le = lit≤ tt }; fro = record { le = lit≤ tt } }, (record { to = record { le = lit≤ tt }; fro = record { le = lit≤ tt } }, (record { to = record { le = lit≤ tt }; fro = record { le = lit≤ tt } }, (record { to = record { le = lit≤ tt }; fro = record { le = lit≤ tt } }, tt)))))))
+unfolding widths sampleWith tolerableWidth resistanceWidth riseWidth meshWidth stepWidth referenceKi referenceCurrent gridCurrent Df factor factorsAt table10 columnAt ratios ρ D Lr Lx Ly Lc Lp LR LT na LS mV μΩ reported ten over inv whole decimal _+f_ _·f_ _÷f_
+as-worked = (record { to = record { le = lit≤ tt }; fro = record { le = lit≤ tt } }, (record { to = record { le = lit≤ tt }; fro = record { le = lit≤ tt } }, (record { to = record { le = lit≤ tt }; fro = record { le = lit≤ tt } }, (record { to = record { le = lit≤ tt }; fro = record { le = lit≤ tt } }, (record { to = record { le = lit≤ tt }; fro = record { le = lit≤ tt } }, (record { to = record { le = lit≤ tt }; fro = record { le = lit≤ tt } }, (record { to = record { le = lit≤ tt }; fro = record { le = lit≤ tt } }, (record { to = record { le = lit≤ tt }; fro = record { le = lit≤ tt } }, (record { to = record { le = lit≤ tt }; fro = record { le = lit≤ tt } }, tt)))))))))

@@ -6,17 +6,15 @@ use mathlib.Core.List.{List, [], _∷_}
 use native.Mathlib.Omega.{arith}
 use native.Mathlib.Decide.{decLe}
 use native.Mathlib.Nat.{zero-lt-suc}
-use lib.IntN.{ℤ, pos}
-use lib.Dec.{lit≤, lit<}
-use Rattle.interval.specs.declared.Interval.{Interval}
-use Rattle.exact.specs.Fraction.{Fraction, _≤f_, _<f_, _≈f_, whole, decimal, _+f_, neg, _−f_, _·f_, inv, _÷f_, top, decLef, choose, minf, maxf}
+use lib.IntN.{pos}
+use lib.Dec.{lit≤}
+use Rattle.exact.specs.Fraction.{Fraction, _≈f_, whole, decimal, _+f_, neg, _−f_, _·f_, inv, _÷f_, top, decLef, choose, minf, maxf}
 use Rattle.exact.specs.Ends.{Ends, least, greatest, combine, _÷e_}
-use Rattle.exact.specs.Exact.{Exact, exactly, _÷x_, Holds}
+use Rattle.exact.specs.Exact.{exactly, _÷x_, Holds}
 use Rattle.exact.specs.Root.{root}
 use Rattle.exact.specs.Reported.{Scale, ten, over, reported}
 use Rattle.exact.specs.Depth.{Within}
 use Rattle.exact.proofs.Order.{refl≤}
-use Rattle.exact.proofs.Points.{Point}
 use Rattle.exact.proofs.Holding.{holds-wider, holds-exactly, holds-quotient}
 use Rattle.exact.proofs.Roots.{holds-root}
 use Rattle.exact.proofs.Consistency.{consistent-exactly}
@@ -48,7 +46,8 @@ yard soil body ms fault split xr metal =
       fault = fault;
       split = split;
       xr = xr;
-      lines = 11;
+      across = 11;
+      along = 11;
       space = 7000;
       depth = 500;
       dia = 100;

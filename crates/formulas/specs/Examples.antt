@@ -2,8 +2,9 @@
 -- Assumes nothing.
 use Prim.Native.Nat.{ℕ}
 use mathlib.Core.Path.{_≡_, refl}
-use mathlib.Core.List.{List, [], _∷_, map}
+use mathlib.Core.List.{[], _∷_, map}
 use Rattle.exact.specs.Fraction.{Fraction, whole, inv}
+use Rattle.exact.specs.Exact.{exactly}
 use Rattle.case.specs.Case.{caseOf}
 use Rattle.formulas.specs.Step.{halfPower}
 use Rattle.formulas.specs.Decrement.{ratios, table10, factorsAt, columnAt, factor, Df}
@@ -40,7 +41,7 @@ ratio-edges = refl
 sizeOf : ℕ → ℕ → ℕ → ℕ → ℕ
 unfolding size smallest enough duty Kf constants Df factor factorsAt table10 columnAt ratios
 sizeOf fault ms xr metal =
-    size (caseOf (7 ∷ 1 ∷ 400 ∷ 0 ∷ 0 ∷ ms ∷ ms ∷ ms ∷ 70 ∷ fault ∷ 600 ∷ xr ∷ 11 ∷ 7000 ∷ 500 ∷ 100 ∷ 0 ∷ 0 ∷ 0 ∷ metal ∷ []))
+    size (caseOf (7 ∷ 1 ∷ 400 ∷ 0 ∷ 0 ∷ ms ∷ ms ∷ ms ∷ 70 ∷ fault ∷ 600 ∷ xr ∷ 11 ∷ 11 ∷ 7000 ∷ 500 ∷ 100 ∷ 0 ∷ 0 ∷ 0 ∷ metal ∷ []))
 
 metals : map (sizeOf 20000 1000 10) (1 ∷ 2 ∷ 3 ∷ 4 ∷ 5 ∷ 6 ∷ 7 ∷ 8 ∷ 9 ∷ 10 ∷ 11 ∷ [])
     ≡ 140 ∷ 142 ∷ 236 ∷ 209 ∷ 242 ∷ 293 ∷ 346 ∷ 368 ∷ 295 ∷ 580 ∷ 601 ∷ []
@@ -54,8 +55,8 @@ asymmetrical = refl
 
 -- the half-powers of document 01's table, one over each number: 2^(n−2) for n from 2 to 25
 halfPowerAt : ℕ → Fraction
-unfolding halfPower
-halfPowerAt n = halfPower (caseOf (7 ∷ 1 ∷ 400 ∷ 0 ∷ 0 ∷ 500 ∷ 500 ∷ 500 ∷ 70 ∷ 3180 ∷ 600 ∷ 10 ∷ n ∷ 7000 ∷ 500 ∷ 100 ∷ 0 ∷ 0 ∷ 0 ∷ 1 ∷ []))
+unfolding halfPower exactly
+halfPowerAt n = halfPower (caseOf (7 ∷ 1 ∷ 400 ∷ 0 ∷ 0 ∷ 500 ∷ 500 ∷ 500 ∷ 70 ∷ 3180 ∷ 600 ∷ 10 ∷ n ∷ n ∷ 7000 ∷ 500 ∷ 100 ∷ 0 ∷ 0 ∷ 0 ∷ 1 ∷ [])) 3 .lower
 
 half-powers : map halfPowerAt (2 ∷ 3 ∷ 4 ∷ 5 ∷ 6 ∷ 7 ∷ 7 ∷ 7 ∷ 8 ∷ 9 ∷ 10 ∷ 11 ∷ 12 ∷ 13 ∷ 14 ∷ 15 ∷ 16 ∷ 17 ∷ 18 ∷ 19 ∷ 20 ∷ 21 ∷ 22 ∷ 23 ∷ 24 ∷ 25 ∷ [])
     ≡ map (λ p. inv (whole p)) (1 ∷ 2 ∷ 4 ∷ 8 ∷ 16 ∷ 32 ∷ 32 ∷ 32 ∷ 64 ∷ 128 ∷ 256 ∷ 512 ∷ 1024 ∷ 2048 ∷ 4096 ∷ 8192 ∷ 16384 ∷ 32768 ∷ 65536 ∷ 131072 ∷ 262144 ∷ 524288 ∷ 1048576 ∷ 2097152 ∷ 4194304 ∷ 8388608 ∷ [])

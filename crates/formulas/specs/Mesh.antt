@@ -1,14 +1,15 @@
--- Mesh voltage in volts. Document 01, 'The formulas'.
+-- Mesh voltage in volts. Document 01, 'The formulas', and request (c) of document 02.
 -- Assumes nothing.
 use mathlib.Core.Bool.{cond}
 use lib.Dec.{eqb}
 use Rattle.exact.specs.Fraction.{Fraction, whole, decimal, _+f_, _−f_, _·f_, _÷f_}
-use Rattle.exact.specs.Exact.{Exact, exactly, _+x_, _−x_, _·x_, _÷x_}
+use Rattle.exact.specs.Exact.{Exact, exactly, _+x_, _−x_, _·x_, _÷x_, minus}
 use Rattle.exact.specs.Root.{root}
 use Rattle.exact.specs.Logarithm.{ln}
+use Rattle.exact.specs.Exponential.{exp}
 use Rattle.exact.specs.Pi.{π}
 use Rattle.case.specs.declared.Case.{Case}
-use Rattle.formulas.specs.Lengths.{ρ, D, h, d, n, Lr, side, Lc, LR, LT, Ki}
+use Rattle.formulas.specs.Lengths.{ρ, D, h, d, Lr, Lx, Ly, Lc, LR, LT, equalCounts, n, Ki}
 use Rattle.formulas.specs.Current.{IG}
 
 module _ (c : Case) where
@@ -29,10 +30,16 @@ module _ (c : Case) where
   unfoldable pub Kh : Exact
   Kh = root 2 (exactly (whole 1 +f h c))
 
-  -- "Kii is 1 for place 1, else (2n) to the power −2/n": "one over the n-th root of 4n²"
+  -- (2n) to the power −2/n: of a square "one over the n-th root of 4n²", else "e to the power −(2/n)·ln(2n)"
+  unfoldable pub innerWeight : Exact
+  innerWeight =
+      cond (equalCounts c)
+      (exactly (whole 1) ÷x root (c .across) (exactly (whole 4 ·f whole (c .across) ·f whole (c .across))))
+      (exp (minus (exactly (whole 2) ÷x n c ·x ln (exactly (whole 2) ·x n c))))
+
+  -- "Kii is 1 for place 1, else (2n) to the power −2/n"
   unfoldable pub Kii : Exact
-  Kii =
-      cond (eqb (c .place) 1) (exactly (whole 1)) (exactly (whole 1) ÷x root (c .lines) (exactly (whole 4 ·f whole (c .lines) ·f whole (c .lines))))
+  Kii = cond (eqb (c .place) 1) (exactly (whole 1)) innerWeight
 
   -- "Km = (ln G + (Kii/Kh)·ln(8/(π(2n−1))))/(2π)"
   unfoldable pub Km : Exact
@@ -40,13 +47,16 @@ module _ (c : Case) where
       (ln (exactly G) +x Kii ÷x Kh ·x ln (exactly (whole 8) ÷x (π ·x (exactly (whole 2) ·x n c −x exactly (whole 1)))))
       ÷x (exactly (whole 2) ·x π)
 
-  -- "LM is Lc + LR for place 0 or 2; for place 1 it is Lc + (1.55 + 1.22·Lr/√(2s²))·LR."
+  -- "The diagonal is √(Lx²+Ly²)"
+  unfoldable pub diagonal : Exact
+  diagonal = root 2 (exactly (Lx c ·f Lx c +f Ly c ·f Ly c))
+
+  -- "LM is Lc + LR for place 0 or 2; for place 1 it is Lc + (1.55 + 1.22·Lr/√(2s²))·LR.", √(2s²) being the diagonal
   unfoldable pub LM : Exact
   LM =
       cond (eqb (c .place) 1)
       (exactly (Lc c)
-      +x (exactly (decimal 155 2) +x exactly (decimal 122 2 ·f Lr c) ÷x root 2 (exactly (whole 2 ·f (side c ·f side c))))
-      ·x exactly (LR c))
+      +x (exactly (decimal 155 2) +x exactly (decimal 122 2 ·f Lr c) ÷x diagonal) ·x exactly (LR c))
       (exactly (LT c))
 
   -- "Mesh voltage = ρ·Km·Ki·IG/LM"

@@ -1,10 +1,11 @@
--- Resistance of the grid in ohms and ground potential rise in volts. Document 01, 'The formulas'.
+-- Resistance of the grid in ohms and ground potential rise in volts. Document 01, 'The formulas', and request (c) of
+-- document 02.
 -- Assumes nothing.
 use Rattle.exact.specs.Fraction.{whole}
 use Rattle.exact.specs.Exact.{Exact, exactly, _+x_, _·x_, _÷x_}
 use Rattle.exact.specs.Root.{root}
 use Rattle.case.specs.declared.Case.{Case}
-use Rattle.formulas.specs.Lengths.{ρ, h, side, LT}
+use Rattle.formulas.specs.Lengths.{ρ, h, s, LT}
 use Rattle.formulas.specs.Current.{IG}
 
 unfoldable pub √20 : Exact
@@ -19,7 +20,7 @@ module _ (c : Case) where
   resistance =
       exactly (ρ c)
       ·x (one ÷x exactly (LT c)
-      +x (one +x one ÷x (one +x exactly (h c) ·x √20 ÷x exactly (side c))) ÷x (exactly (side c) ·x √20))
+      +x (one +x one ÷x (one +x exactly (h c) ·x √20 ÷x s c)) ÷x (s c ·x √20))
 
   -- "Ground potential rise = IG times resistance."
   unfoldable pub potentialRise : Exact

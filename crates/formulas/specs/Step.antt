@@ -1,17 +1,22 @@
--- Step voltage in volts. Document 01, 'The formulas', and request (b) of document 02.
+-- Step voltage in volts. Document 01, 'The formulas', and requests (b) and (c) of document 02.
 -- Assumes nothing.
 use Prim.Native.Nat.{_-_, _^_}
-use Rattle.exact.specs.Fraction.{Fraction, whole, decimal, _+f_, _−f_, _·f_, inv, _÷f_}
-use Rattle.exact.specs.Exact.{Exact, exactly, _·x_, _÷x_}
+use mathlib.Core.Bool.{cond}
+use Rattle.exact.specs.Fraction.{Fraction, whole, decimal, _+f_, _·f_, inv}
+use Rattle.exact.specs.Exact.{Exact, exactly, _+x_, _−x_, _·x_, _÷x_, minus}
+use Rattle.exact.specs.Logarithm.{ln}
+use Rattle.exact.specs.Exponential.{exp}
 use Rattle.exact.specs.Pi.{π}
 use Rattle.case.specs.declared.Case.{Case}
-use Rattle.formulas.specs.Lengths.{ρ, D, h, Lc, LR, Ki}
+use Rattle.formulas.specs.Lengths.{ρ, D, h, Lc, LR, equalCounts, n, Ki}
 use Rattle.formulas.specs.Current.{IG}
 
 module _ (c : Case) where
-  -- 0.5^(n−2), one over 2^(n−2). Document 02, (b): "working the power of one half itself"
-  unfoldable pub halfPower : Fraction
-  halfPower = inv (whole (2 ^ (c .lines - 2)))
+  -- 0.5^(n−2): of a square one over 2^(n−2), as (b) has it, "working the power of one half itself"; else, as (c) has it, "e to the power
+  -- −(n−2)·ln 2"
+  unfoldable pub halfPower : Exact
+  halfPower =
+      cond (equalCounts c) (exactly (inv (whole (2 ^ (c .across - 2))))) (exp (minus ((n c −x exactly (whole 2)) ·x ln (exactly (whole 2)))))
 
   -- "LS = 0.75·Lc + 0.85·LR"
   unfoldable pub LS : Fraction
@@ -20,7 +25,7 @@ module _ (c : Case) where
   -- "Ks = (1/(2h) + 1/(D+h) + (1 − 0.5^(n−2))/D)/π"
   unfoldable pub Ks : Exact
   Ks =
-      exactly (inv (whole 2 ·f h c) +f inv (D c +f h c) +f (whole 1 −f halfPower) ÷f D c) ÷x π
+      (exactly (inv (whole 2 ·f h c) +f inv (D c +f h c)) +x (exactly (whole 1) −x halfPower) ÷x exactly (D c)) ÷x π
 
   -- "Step voltage = ρ·Ks·Ki·IG/LS"
   unfoldable pub step : Exact

@@ -1,10 +1,11 @@
--- How far apart the two ends of a reported pair may be. Document 01, 'What exact means', and request (j) of document 02.
+-- How far apart the two ends of a reported pair may be. Document 01, 'What exact means', and requests (j) and (c) of document
+-- 02.
 -- Assumes nothing.
-use Rattle.exact.specs.Fraction.{Fraction, whole, decimal, _+f_, _·f_, _÷f_}
+use Rattle.exact.specs.Fraction.{Fraction, decimal, _+f_, _·f_, _÷f_}
 use Rattle.exact.specs.Ends.{Ends}
 use Rattle.exact.specs.Reported.{Scale, ten}
 use Rattle.case.specs.declared.Case.{Case}
-use Rattle.formulas.specs.Lengths.{ρ, LT}
+use Rattle.formulas.specs.Lengths.{ρ, LT, na}
 use Rattle.formulas.specs.Current.{gridCurrent}
 use Rattle.formulas.specs.Step.{LS}
 
@@ -27,9 +28,10 @@ resistanceWidth A = decimal 1 4 ·f A .lower +f decimal 2 6
 unfoldable pub riseWidth : Ends → Fraction
 riseWidth A = decimal 5 4 ·f A .lower +f decimal 10 3
 
--- Ki and IG that the widths of the mesh and step voltages refer to, as fractions; IG in amperes
+-- Ki and IG that the widths of the mesh and step voltages refer to, as fractions; IG in amperes. Request (c): "the mesh and step widths use Ki
+-- worked with na in place of n"
 unfoldable pub referenceKi : Case → Fraction
-referenceKi c = decimal 644 3 +f decimal 148 3 ·f whole (c .lines)
+referenceKi c = decimal 644 3 +f decimal 148 3 ·f na c
 
 unfoldable pub referenceCurrent : Case → Fraction
 referenceCurrent c = decimal (gridCurrent c) 6

@@ -1,16 +1,15 @@
 -- How spans go through the operations: each bound of a result from those of its parts.
 -- Assumes nothing.
-use Prim.Native.Nat.{ℕ, zero, suc, _+_, _*_, _/_, _≤_, _<_, _^_}
-use mathlib.Core.Path.{_≡_, refl, sym, ap, _∙_}
+use Prim.Native.Nat.{ℕ, suc, _+_, _*_, _/_, _≤_, _<_}
+use mathlib.Core.Path.{_≡_, refl, ap}
 use native.Mathlib.Omega.{arith}
 use native.Mathlib.Nat.{mul-le-mul, mul-le-mul-left, mul-le-mul-right, le-trans, lt-of-mul-lt-mul-right, mul-lt-mul-of-pos-right, le-of-suc-le-suc}
 use lib.IntN.{pos}
 use lib.Signed.{_≤ℤ_}
 use Rattle.interval.specs.Whole.{ceilDiv}
-use Rattle.interval.specs.Operations.{natural, point, size, sumOf, outwardOf, scaledOf, productOf, quotientOf, Ordered}
+use Rattle.interval.specs.Operations.{natural, point, size, sumOf, outwardOf, scaledOf, productOf, quotientOf}
 use Rattle.interval.specs.declared.Interval.{Interval}
-use Rattle.interval.specs.Signed.{plus}
-use Rattle.interval.specs.Span.{Span, Relative}
+use Rattle.interval.specs.Span.{Span}
 use Rattle.interval.proofs.Natural.{point-natural, natural-sum, natural-scaled, natural-outward, natural-product, natural-quotient}
 use Rattle.interval.proofs.Rounding.{floorDiv-below, floorDiv-above, ceilDiv-above, ceilDiv-below, ceilDiv-by, floorDiv-by}
 use Rattle.interval.proofs.Signed.{halves-le}
@@ -178,20 +177,3 @@ module _ {i : Interval} {l h w : ℕ} (s : Span i l h w) where
   pub span-upper : i .upper ≡ pos (s .b)
   unfolding natural
   span-upper = ap (λ (j : Interval). j .upper) (s .is)
-
--- ---- two ways to speak of one interval
-
-abbrev lowerOf : Interval → ℕ
-lowerOf i = plus (i .lower)
-
-abbrev upperOf : Interval → ℕ
-upperOf i = plus (i .upper)
-
-module _ {i : Interval} {l h w per extra : ℕ} (s : Span i l h w) (r : Relative i per extra) where
-  pub relative-lower : r .a ≡ s .a
-  unfolding natural
-  relative-lower = ap lowerOf (sym (r .is) ∙ s .is)
-
-  pub relative-upper : r .b ≡ s .b
-  unfolding natural
-  relative-upper = ap upperOf (sym (r .is) ∙ s .is)

@@ -1,40 +1,50 @@
 -- The lengths in millimetres are those of the formulas, and lie within bounds.
 -- Assumes nothing.
-use Prim.Native.Nat.{ℕ, _+_, _-_, _*_, _≤_, _<_}
-use mathlib.Core.Path.{_≡_, ap}
+use Prim.Native.Nat.{ℕ, _+_, _-_, _*_, _≤_}
 use mathlib.Core.Logic.{⊎-elim}
 use native.Mathlib.Omega.{arith}
-use native.Mathlib.Nat.{mul-le-mul, mul-le-mul-left, le-trans}
-use lib.Dec.{lit≤}
-use Rattle.exact.specs.Fraction.{_≤f_, _≈f_, whole, decimal, _+f_, _·f_}
-use Rattle.exact.proofs.Order.{refl≈, sym≈, trans≈}
+use native.Mathlib.Nat.{mul-le-mul}
+use Rattle.exact.specs.Fraction.{Fraction, _≈f_, whole, decimal, _+f_, _·f_}
+use Rattle.exact.proofs.Order.{refl≈, trans≈}
 use Rattle.exact.proofs.Sums.{cong+}
 use Rattle.exact.proofs.Products.{cong·}
 use Rattle.case.specs.declared.Case.{Case}
 use Rattle.case.specs.Bounds.{Between, Bounds, Rodless, Rodded}
-use Rattle.formulas.specs.Lengths.{D, Lr, side, Lc, LR, LT}
-use Rattle.lengths.specs.Lengths.{sideLength, conductorLength, rodLength, totalLength}
+use Rattle.formulas.specs.Lengths.{D, Lr, Lx, Ly, Lc, LR, LT}
+use Rattle.lengths.specs.Lengths.{sideOf, sideX, sideY, conductorLength, rodLength, totalLength}
 
 -- ---- bounds
 
-module _ {c : Case} (b : Bounds c) where
-  pub lines-less : Between 1 (c .lines - 1) 24
-  lines-less = record { low = omega (arith, b .lines .low); high = omega (arith, b .lines .high) }
+pub side-bounds : {count space : ℕ} → Between 2 count 25 → Between 2500 space 30000 → Between 2500 (sideOf count space) 720000
+unfolding sideOf
+side-bounds {count} n d =
+    let low : 1 ≤ count - 1 = omega (arith, n .low) in
+    let high : count - 1 ≤ 24 = omega (arith, n .high) in
+    record { low = mul-le-mul low (d .low); high = mul-le-mul high (d .high) }
 
-  pub side-bounds : Between 2500 (sideLength c) 720000
-  unfolding sideLength
-  side-bounds =
-      record {
-        low = mul-le-mul (lines-less .low) (b .space .low);
-        high = mul-le-mul (lines-less .high) (b .space .high);
-      }
+module _ {c : Case} (b : Bounds c) where
+  pub x-bounds : Between 2500 (sideX c) 720000
+  x-bounds = side-bounds (b .across) (b .space)
+
+  pub y-bounds : Between 2500 (sideY c) 720000
+  y-bounds = side-bounds (b .along) (b .space)
+
+  -- the conductors of one direction
+  part-bounds : {count side : ℕ} → Between 2 count 25 → Between 2500 side 720000 → Between 5000 (count * side) 18000000
+  part-bounds n l = record { low = mul-le-mul (n .low) (l .low); high = mul-le-mul (n .high) (l .high) }
+
+  pub across-bounds : Between 5000 (c .across * sideY c) 18000000
+  across-bounds = part-bounds (b .across) y-bounds
+
+  pub along-bounds : Between 5000 (c .along * sideX c) 18000000
+  along-bounds = part-bounds (b .along) x-bounds
 
   pub conductor-bounds : Between 10000 (conductorLength c) 36000000
   unfolding conductorLength
   conductor-bounds =
       record {
-        low = mul-le-mul (mul-le-mul-left 2 (b .lines .low)) (side-bounds .low);
-        high = mul-le-mul (mul-le-mul-left 2 (b .lines .high)) (side-bounds .high);
+        low = omega (arith, across-bounds .low, along-bounds .low);
+        high = omega (arith, across-bounds .high, along-bounds .high);
       }
 
   pub rods-high : c .rods ≤ 200
@@ -62,18 +72,24 @@ add-decimal : (m k : ℕ) → decimal m 3 +f decimal k 3 ≈f decimal (m + k) 3
 unfolding decimal _+f_
 add-decimal m k = omega arith
 
-twice-whole : (m : ℕ) → whole 2 ·f whole m ≈f whole (2 * m)
-unfolding whole _·f_
-twice-whole m = omega arith
-
 module _ (c : Case) where
-  pub side-is : side c ≈f decimal (sideLength c) 3
-  unfolding side D sideLength
-  side-is = times-decimal (c .lines - 1) (c .space) 3
+  pub x-is : Lx c ≈f decimal (sideX c) 3
+  unfolding Lx D sideOf
+  x-is = times-decimal (c .across - 1) (c .space) 3
+
+  pub y-is : Ly c ≈f decimal (sideY c) 3
+  unfolding Ly D sideOf
+  y-is = times-decimal (c .along - 1) (c .space) 3
+
+  -- the conductors of one direction
+  part-is : (count side : ℕ) {q : Fraction} → q ≈f decimal side 3 → whole count ·f q ≈f decimal (count * side) 3
+  part-is count side e = trans≈ (cong· (refl≈ (whole count)) e) (times-decimal count side 3)
 
   pub conductor-is : Lc c ≈f decimal (conductorLength c) 3
   unfolding Lc conductorLength
-  conductor-is = trans≈ (cong· (twice-whole (c .lines)) side-is) (times-decimal (2 * c .lines) (sideLength c) 3)
+  conductor-is =
+      trans≈ (cong+ (part-is (c .across) (sideY c) y-is) (part-is (c .along) (sideX c) x-is))
+      (add-decimal (c .across * sideY c) (c .along * sideX c))
 
   pub rod-is : LR c ≈f decimal (rodLength c) 3
   unfolding LR Lr rodLength

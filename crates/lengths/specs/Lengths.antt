@@ -1,14 +1,22 @@
--- The lengths of document 01's 'The formulas' in whole millimetres.
+-- The lengths of document 01's 'The formulas' and of request (c) of document 02 in whole millimetres.
 -- Assumes nothing.
 use Prim.Native.Nat.{ℕ, _+_, _-_, _*_}
 use Rattle.case.specs.declared.Case.{Case}
 
+-- the side of a number of conductors at a distance
+unfoldable pub sideOf : ℕ → ℕ → ℕ
+sideOf count space = (count - 1) * space
+
 module _ (c : Case) where
-  unfoldable pub sideLength : ℕ
-  sideLength = (c .lines - 1) * c .space
+  -- Lx and Ly
+  abbrev pub sideX : ℕ
+  sideX = sideOf (c .across) (c .space)
+
+  abbrev pub sideY : ℕ
+  sideY = sideOf (c .along) (c .space)
 
   unfoldable pub conductorLength : ℕ
-  conductorLength = 2 * c .lines * sideLength
+  conductorLength = c .across * sideY + c .along * sideX
 
   unfoldable pub rodLength : ℕ
   rodLength = c .rods * c .rodlen

@@ -1,4 +1,4 @@
--- How far apart the ends of ρ·Ki·IG/LM are: LM's are at most 1/3,535,000 apart.
+-- How far apart the ends of ρ·Ki·IG/LM are: LM's are at most 1/3,535,000 apart, ρ·Ki·IG's at most 1/31,000,000 and 2.
 -- Assumes nothing.
 use Prim.Native.Nat.{ℕ, _+_, _*_, _/_, _≤_, _<_}
 use mathlib.Core.Path.{_≡_}
@@ -7,13 +7,14 @@ use native.Mathlib.Nat.{mul-le-mul-left, le-trans, lt-of-mul-lt-mul-right, le-of
 use lib.Dec.{eqb, lit≤, lit<}
 use Rattle.interval.specs.Whole.{ceilDiv}
 use Rattle.interval.specs.Operations.{natural}
-use Rattle.interval.specs.Span.{Relative}
-use Rattle.interval.proofs.Natural.{point-natural, natural-quotient}
-use Rattle.interval.proofs.Rounding.{floorDiv-below, floorDiv-above, ceilDiv-above, ceilDiv-below}
+use Rattle.interval.specs.Span.{Span, Relative}
+use Rattle.interval.proofs.Natural.{natural-quotient}
+use Rattle.interval.proofs.Span.{span-natural}
+use Rattle.interval.proofs.Rounding.{floorDiv-below, floorDiv-above, ceilDiv-above, ceilDiv-below, ceilDiv-by}
 use Rattle.case.specs.declared.Case.{Case}
 use Rattle.case.specs.Bounds.{Bounds}
-use Rattle.formulas.proofs.Quantities.{by-place}
-use Rattle.current.specs.Drive.{driveOf}
+use Rattle.formulas.proofs.Conductors.{by-place}
+use Rattle.drive.proofs.Spans.{low, high, drive-is, drive-order, drive-near, drive-by-length}
 use Rattle.lengths.specs.Lengths.{conductorLength, rodLength, totalLength}
 use Rattle.lengths.proofs.Lengths.{conductor-bounds}
 use Rattle.mesh.specs.Ends.{rodWeight, weighedLength, meshLength, drivenEnds}
@@ -33,38 +34,47 @@ mesh-length-relative {c} b =
     (relative-product (rodLength c) (lit< tt) (weight-span b) weight))
     (λ e. relative-point (1000 * totalLength c) 3535000)
 
--- ---- ρ·Ki·IG/LM: n over c and over d, which are at most 1/3,535,000 apart
+-- ---- ρ·Ki·IG/LM: x to y, at most 1/31,000,000 and 2 apart, over c to d, at most 1/3,535,000 apart
 
-driven-near : (n c d L U : ℕ) → 3535000 * d ≤ 3535001 * c → 0 < c → U * c < n + c → n < L * d + d → 3535000 * U ≤ 3535001 * L + 7070000
-driven-near n c d L U h p u l =
-    le-of-suc-le-suc
-    (lt-of-mul-lt-mul-right c (omega (arith, mul-le-mul-left L h)))
+driven-near : (x y c d L U : ℕ) → 31000000 * y ≤ 31000001 * x + 31000000 * 2 → 3535000 * d ≤ 3535001 * c → 10000000 ≤ c → U * c < y + c → x < L * d + d
+    → 3170000 * U ≤ 3170001 * L + 9510000
+driven-near x y c d L U w h p u l = le-of-suc-le-suc (lt-of-mul-lt-mul-right c (omega (arith, mul-le-mul-left L h)))
+
+length-within : (c : Case) → conductorLength c ≤ totalLength c
+unfolding totalLength
+length-within c = omega arith
 
 -- the ends of ρ·Ki·IG/LM, in mV
-pub record Driven (c : Case) : Type 0 where
+pub record Driven {c : Case} (b : Bounds c) : Type 0 where
   pub L : ℕ
   pub U : ℕ
   pub is : drivenEnds c ≡ natural L U
   pub order : L ≤ U
-  pub near : 3535000 * U ≤ 3535001 * L + 7070000
-  pub low : L * (1000 * totalLength c) ≤ driveOf c
+  pub near : 3170000 * U ≤ 3170001 * L + 9510000
+  pub below : L * (1000 * totalLength c) ≤ low b
+  pub most : U ≤ 63468800000
 
-pub driven-ends : {c : Case} → Bounds c → Driven c
+pub driven-ends : {c : Case} (b : Bounds c) → Driven b
 unfolding drivenEnds
 driven-ends {c} b =
     let e = mesh-length-span b in
-    let n = driveOf c * 1 in
+    let x = low b * 1 in
+    let y = high b * 1 in
     let p : 0 < e .a = le-trans (omega (arith, mesh-length-low b)) (e .from) in
     let q : 0 < e .b = le-trans p (e .order) in
-    let below = floorDiv-below n (e .b) in
-    let least = mul-le-mul-left (n / e .b) (e .order) in
+    let floor = floorDiv-below x (e .b) in
+    let least = mul-le-mul-left (x / e .b) (e .order) in
     record {
-      L = n / e .b;
-      U = ceilDiv n (e .a);
-      is = rw (e .is, point-natural (driveOf c)) (natural-quotient (driveOf c) (driveOf c) 1 p (e .order));
-      order = le-of-mul-le-mul-right (omega (arith, below, least, ceilDiv-above n p)) p;
+      L = x / e .b;
+      U = ceilDiv y (e .a);
+      is = rw (e .is, drive-is b) (natural-quotient (low b) (high b) 1 p (e .order));
+      order = le-of-mul-le-mul-right (omega (arith, floor, least, ceilDiv-above y p, drive-order b)) p;
       near =
-          driven-near n (e .a) (e .b) (n / e .b) (ceilDiv n (e .a)) (omega (arith, relative-span e (mesh-length-relative b))) p (ceilDiv-below n p)
-          (floorDiv-above n q);
-      low = omega (arith, below, least, mul-le-mul-left (n / e .b) (e .from));
+          driven-near x y (e .a) (e .b) (x / e .b) (ceilDiv y (e .a)) (omega (arith, drive-near b)) (omega (arith, relative-span e (mesh-length-relative b)))
+          (le-trans (mesh-length-low b) (e .from)) (ceilDiv-below y p) (floorDiv-above x q);
+      below = omega (arith, floor, least, mul-le-mul-left (x / e .b) (e .from));
+      most = ceilDiv-by y p (omega (arith, drive-by-length b, mul-le-mul-left 63468800000 (e .from), length-within c));
     }
+
+pub driven-span : {c : Case} → Bounds c → Span (drivenEnds c) 0 63468800000 63468800000
+driven-span b = let v = driven-ends b in rw (v .is) (span-natural (v .L) (v .U) (omega arith) (v .order) (v .most) (omega (arith, v .most)))

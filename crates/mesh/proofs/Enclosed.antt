@@ -1,18 +1,17 @@
 -- The mesh voltage's ends include the exact value's ends.
 -- Assumes nothing.
-use Prim.Native.Nat.{ℕ, _*_, _^_}
+use Prim.Native.Nat.{ℕ, _+_, _*_, _^_}
 use mathlib.Core.Path.{refl}
 use native.Mathlib.Omega.{arith}
 use lib.Dec.{eqb, lit≤}
 use lib.IntN.{pos}
 use Rattle.interval.specs.Operations.{point}
 use Rattle.interval.proofs.Span.{span-divisor}
-use Rattle.exact.specs.Fraction.{Fraction, _≈f_, whole, decimal, _·f_}
+use Rattle.exact.specs.Fraction.{Fraction, _≈f_, decimal, _+f_, _·f_}
 use Rattle.exact.specs.Exact.{exactly, _+x_, _·x_, _÷x_}
-use Rattle.exact.specs.Root.{root}
-use Rattle.exact.specs.Depth.{Consistent}
 use Rattle.exact.specs.Reported.{ten, over}
-use Rattle.exact.proofs.Order.{refl≈, trans≈}
+use Rattle.exact.proofs.Order.{trans≈}
+use Rattle.exact.proofs.Sums.{cong+}
 use Rattle.exact.proofs.Products.{cong·}
 use Rattle.exact.proofs.Reported.{decimal-over}
 use Rattle.exact.proofs.Consistency.{consistent-exactly, consistent-quotient}
@@ -28,25 +27,26 @@ use Rattle.enclosure.proofs.Quotients.{encloses-quotient}
 use Rattle.enclosure.proofs.Roots.{encloses-sqrt-even}
 use Rattle.case.specs.declared.Case.{Case}
 use Rattle.case.specs.Bounds.{Bounds, Rodded}
-use Rattle.formulas.specs.Lengths.{ρ, Lr, side, Lc, LR, Ki}
+use Rattle.formulas.specs.Lengths.{ρ, Lr, Lc, LR, Ki}
 use Rattle.formulas.specs.Current.{IG}
-use Rattle.formulas.specs.Mesh.{LM, mesh}
+use Rattle.formulas.specs.Mesh.{diagonal, LM, mesh}
 use Rattle.formulas.specs.Width.{mV}
 use Rattle.formulas.proofs.Consistent.{consistent-Km}
 use Rattle.formulas.proofs.Positive.{LR-pos}
-use Rattle.current.proofs.DrivingProduct.{drive-encloses}
-use Rattle.lengths.specs.Lengths.{sideLength, conductorLength, rodLength, totalLength}
-use Rattle.lengths.proofs.Lengths.{side-is, conductor-is, rod-is, total-is}
-use Rattle.mesh.specs.Ends.{diagonal, rodWeight, weighedLength, meshLength, drivenEnds, meshEnds}
+use Rattle.drive.proofs.Enclosed.{drive-consistent, drive-encloses}
+use Rattle.lengths.specs.Lengths.{sideX, sideY, conductorLength, rodLength, totalLength}
+use Rattle.lengths.proofs.Lengths.{x-is, y-is, conductor-is, rod-is, total-is}
+use Rattle.mesh.specs.Ends.{diagonalEnds, rodWeight, weighedLength, meshLength, drivenEnds, meshEnds}
 use Rattle.mesh.proofs.LengthSpans.{diagonal-span, mesh-length-span, mesh-length-low}
-use Rattle.formulas.proofs.Quantities.{quantity-ρ, quantity-Ki, quantity-IG, quantity-diagonal, quantity-weight, quantity-LM, place-rodded, by-both}
+use Rattle.formulas.proofs.Quantities.{quantity-Ki, quantity-IG, quantity-diagonal, quantity-weight, quantity-LM, place-rodded}
+use Rattle.formulas.proofs.Conductors.{by-both}
 use Rattle.mesh.proofs.FactorEnclosed.{factor-encloses}
 
 -- ---- fractions as counts
 
-twice-square : (m : ℕ) → whole 2 ·f (decimal m 3 ·f decimal m 3) ≈f over (pos (2 * (m * m))) (ten 6)
-unfolding whole decimal over ten _·f_
-twice-square m = omega arith
+squares-is : (x y : ℕ) → decimal x 3 ·f decimal x 3 +f decimal y 3 ·f decimal y 3 ≈f over (pos (x * x + y * y)) (ten 6)
+unfolding decimal over ten _·f_ _+f_
+squares-is x y = omega arith
 
 rod-share : (m : ℕ) → decimal 122 2 ·f decimal m 3 ≈f over (pos (122 * m)) (ten 5)
 unfolding decimal over ten _·f_
@@ -60,15 +60,15 @@ length-encloses k e = encloses-count (pos (1000 * k)) (ten 6) (trans≈ e (decim
 module _ {c : Case} (b : Bounds c) where
   -- ---- LM
 
-  diagonal-encloses : Encloses (root 2 (exactly (whole 2 ·f (side c ·f side c)))) (ten 6) (diagonal c)
-  unfolding diagonal ten
+  diagonal-encloses : Encloses (diagonal c) (ten 6) (diagonalEnds c)
+  unfolding diagonal diagonalEnds ten
   diagonal-encloses =
-      let s = sideLength c in
-      encloses-sqrt-even (ten 6) {v = ten 6} (2 * (s * s)) (10 ^ 6) refl (omega arith) (pair-ends (2 * (s * s) * 10 ^ 6))
-      (encloses-count (pos (2 * (s * s))) (ten 6)
-      (trans≈ (cong· (refl≈ (whole 2)) (cong· (side-is c) (side-is c))) (twice-square s)))
+      let x = sideX c in
+      let y = sideY c in
+      encloses-sqrt-even (ten 6) {v = ten 6} (x * x + y * y) (10 ^ 6) refl (omega arith) (pair-ends ((x * x + y * y) * 10 ^ 6))
+      (encloses-count (pos (x * x + y * y)) (ten 6) (trans≈ (cong+ (cong· (x-is c) (x-is c)) (cong· (y-is c) (y-is c))) (squares-is x y)))
 
-  weight-encloses : Encloses (exactly (decimal 155 2) +x exactly (decimal 122 2 ·f Lr c) ÷x root 2 (exactly (whole 2 ·f (side c ·f side c)))) (ten 9) (rodWeight c)
+  weight-encloses : Encloses (exactly (decimal 155 2) +x exactly (decimal 122 2 ·f Lr c) ÷x diagonal c) (ten 9) (rodWeight c)
   unfolding rodWeight Lr ten
   weight-encloses =
       encloses-sum (consistent-exactly _)
@@ -80,7 +80,7 @@ module _ {c : Case} (b : Bounds c) where
 
   weighed-encloses : Rodded c
       → Encloses (exactly (Lc c)
-      +x (exactly (decimal 155 2) +x exactly (decimal 122 2 ·f Lr c) ÷x root 2 (exactly (whole 2 ·f (side c ·f side c)))) ·x exactly (LR c))
+      +x (exactly (decimal 155 2) +x exactly (decimal 122 2 ·f Lr c) ÷x diagonal c) ·x exactly (LR c))
       (ten 6) (weighedLength c)
   unfolding weighedLength ten
   weighed-encloses r =
@@ -98,14 +98,11 @@ module _ {c : Case} (b : Bounds c) where
 
   -- ---- the mesh voltage
 
-  driven-consistent : Consistent (exactly (ρ c) ·x Ki c ·x IG c)
-  driven-consistent = quantity-product (quantity-product (quantity-ρ b) (quantity-Ki b)) (quantity-IG b) .consistent
-
   driven-encloses : Encloses (exactly (ρ c) ·x Ki c ·x IG c ÷x LM c) mV (drivenEnds c)
   unfolding drivenEnds mV ten
   driven-encloses =
-      encloses-quotient (ten 3) 1 refl (span-divisor (omega (arith, mesh-length-low b)) (mesh-length-span b) .0) driven-consistent
-      (quantity-LM b .consistent) (drive-encloses c) mesh-length-encloses
+      encloses-quotient (ten 3) 1 refl (span-divisor (omega (arith, mesh-length-low b)) (mesh-length-span b) .0) (drive-consistent b)
+      (quantity-LM b .consistent) (drive-encloses b) mesh-length-encloses
 
   -- the code's order: (ρ·Ki·IG/LM)·Km
   pub mesh-encloses : Encloses (mesh c) mV (meshEnds c)
@@ -115,5 +112,5 @@ module _ {c : Case} (b : Bounds c) where
       encloses-same
       (factor-last (consistent-exactly (ρ c)) (consistent-Km b) (quantity-Ki b .consistent) (quantity-IG b .consistent) (m .consistent)
       (m .positive) (lit≤ tt))
-      (encloses-product mV 10000000 refl (consistent-quotient (m .positive) driven-consistent (m .consistent)) (consistent-Km b)
+      (encloses-product mV 10000000 refl (consistent-quotient (m .positive) (drive-consistent b) (m .consistent)) (consistent-Km b)
       driven-encloses (factor-encloses b))

@@ -1,15 +1,13 @@
 -- The ends of Km include the exact value's ends.
 -- Assumes nothing.
-use Prim.Native.Nat.{ℕ, _+_, _*_, _^_}
-use mathlib.Core.Path.{_≡_, refl}
+use Prim.Native.Nat.{_+_, _*_, _^_}
+use mathlib.Core.Path.{refl}
 use native.Mathlib.Omega.{arith}
 use lib.Dec.{eqb, lit≤}
 use lib.IntN.{pos}
-use Rattle.interval.specs.Operations.{natural}
 use Rattle.interval.proofs.Span.{span-divisor}
-use Rattle.exact.specs.Fraction.{_≈f_, whole, decimal, _+f_, _·f_, top}
+use Rattle.exact.specs.Fraction.{_≈f_, whole, decimal, _+f_}
 use Rattle.exact.specs.Exact.{exactly, _−x_, _·x_, _÷x_}
-use Rattle.exact.specs.Root.{root}
 use Rattle.exact.specs.Pi.{π}
 use Rattle.exact.specs.Logarithm.{ln}
 use Rattle.exact.specs.Depth.{workDepth, Consistent}
@@ -25,7 +23,7 @@ use Rattle.enclosure.proofs.Basics.{encloses-count, encloses-whole}
 use Rattle.enclosure.proofs.Sums.{encloses-sum, encloses-times}
 use Rattle.enclosure.proofs.Products.{encloses-product}
 use Rattle.enclosure.proofs.Quotients.{encloses-quotient}
-use Rattle.enclosure.proofs.Roots.{encloses-root-of, encloses-sqrt-even}
+use Rattle.enclosure.proofs.Roots.{encloses-sqrt-even}
 use Rattle.enclosure.proofs.Constants.{π-encloses}
 use Rattle.logarithm.proofs.LnEnds.{ln-encloses}
 use Rattle.case.specs.declared.Case.{Case}
@@ -33,21 +31,12 @@ use Rattle.case.specs.Bounds.{Bounds}
 use Rattle.formulas.specs.Lengths.{n, h}
 use Rattle.formulas.specs.Mesh.{G, Kh, Kii, Km}
 use Rattle.formulas.proofs.MeshArgument.{G-pos}
-use Rattle.mesh.specs.Factor.{rootOf, argumentLog, depthFactor, innerFactor, innerTerm, geometricFactor}
+use Rattle.mesh.specs.Factor.{argumentLog, depthFactor, innerFactor, innerTerm, geometricFactor}
 use Rattle.mesh.proofs.Argument.{top-inside, bottom-inside, G-is}
-use Rattle.mesh.proofs.LineTables.{root-known}
-use Rattle.mesh.proofs.FactorSpans.{turn-span, depth-span, line-root-span}
-use Rattle.formulas.proofs.Quantities.{quantity-turn, quantity-Kh, quantity-line-root, quantity-Kii, quantity-spread, by-both}
-use Rattle.mesh.proofs.SpreadEnclosed.{spread-encloses}
-
--- 4m² is a whole number
-squares-top : (m : ℕ) → top (whole 4 ·f whole m ·f whole m) ≡ 4 * (m * m)
-unfolding top whole _·f_
-squares-top m = omega arith
-
-squares-den : (m : ℕ) → (whole 4 ·f whole m ·f whole m) .den ≡ 1
-unfolding whole _·f_
-squares-den m = refl
+use Rattle.mesh.proofs.FactorSpans.{turn-span, depth-span}
+use Rattle.formulas.proofs.Quantities.{quantity-turn, quantity-Kh, quantity-Kii, quantity-spread}
+use Rattle.formulas.proofs.Conductors.{by-both}
+use Rattle.conductors.proofs.WeightsEnclosed.{spread-encloses, inner-encloses}
 
 module _ {c : Case} (b : Bounds c) where
   -- ---- ln G
@@ -73,22 +62,10 @@ module _ {c : Case} (b : Bounds c) where
       encloses-sqrt-even (ten 9) {v = ten 3} (1000 + c .depth) 1000 refl (omega arith) (pair-ends ((1000 + c .depth) * 10 ^ 15))
       (encloses-count (pos (1000 + c .depth)) (ten 3) depth-count)
 
-  root-encloses : Encloses (root (c .lines) (exactly (whole 4 ·f whole (c .lines) ·f whole (c .lines)))) (ten 9) (natural (rootOf (c .lines)) (rootOf (c .lines) + 1))
-  unfolding ten
-  root-encloses =
-      let m = c .lines in
-      let r = rootOf m in
-      let k = root-known (b .lines) in
-      encloses-root-of m (whole 4 ·f whole m ·f whole m) (ten 9) r (r + 1) 1000 (omega (arith, b .lines .low)) refl
-      (rw (squares-top m, squares-den m) (omega (arith, k .low))) (rw (squares-top m, squares-den m) (omega (arith, k .high)))
-
-  inner-encloses : Encloses (Kii c) (ten 9) (innerFactor c)
+  kii-encloses : Encloses (Kii c) (ten 9) (innerFactor c)
   unfolding Kii innerFactor ten
-  inner-encloses =
-      by-both (λ x i. Encloses x (ten 9) i) (eqb (c .place) 1) (λ e. encloses-whole 1 (ten 9) refl)
-      (λ e.
-      encloses-quotient (ten 9) 1000000000 refl (span-divisor (lit≤ tt) (line-root-span b) .0) (consistent-exactly (whole 1))
-      (quantity-line-root b .consistent) (encloses-whole 1 (ten 9) refl) root-encloses)
+  kii-encloses =
+      by-both (λ x i. Encloses x (ten 9) i) (eqb (c .place) 1) (λ e. encloses-whole 1 (ten 9) refl) (λ e. inner-encloses b)
 
   -- ---- Km
 
@@ -103,7 +80,7 @@ module _ {c : Case} (b : Bounds c) where
   term-encloses =
       encloses-product (ten 9) 1000000000 refl (ratio-consistent .consistent) log-consistent
       (encloses-quotient (ten 9) 1000000000 refl (span-divisor (lit≤ tt) (depth-span b) .0) (quantity-Kii b .consistent)
-      (quantity-Kh b .consistent) inner-encloses depth-encloses)
+      (quantity-Kh b .consistent) kii-encloses depth-encloses)
       (spread-encloses b)
 
   pub factor-encloses : Encloses (Km c) (ten 7) (geometricFactor c)

@@ -1,36 +1,41 @@
--- Sizes and widths of LM and of ρ·Ki·IG/LM.
+-- Sizes and widths of LM.
 -- Assumes nothing.
-use Prim.Native.Nat.{ℕ, _+_, _-_, _*_, _^_, _≤_}
-use mathlib.Core.Path.{_≡_}
+use Prim.Native.Nat.{_+_, _*_, _^_, _≤_}
 use native.Mathlib.Omega.{arith}
-use native.Mathlib.Nat.{mul-le-mul, mul-le-mul-left, mul-le-mul-right, le-trans}
+use native.Mathlib.Nat.{mul-le-mul, mul-le-mul-left}
 use lib.Dec.{eqb, lit≤, lit<}
 use lib.IntN.{pos}
 use Rattle.interval.specs.Operations.{point, productOf, quotientOf}
 use Rattle.interval.specs.Span.{Span}
 use Rattle.interval.proofs.Span.{span-point, span-wider, span-sum, span-product, span-quotient}
 use Rattle.case.specs.declared.Case.{Case}
-use Rattle.case.specs.Bounds.{Bounds}
-use Rattle.formulas.proofs.Quantities.{by-place}
-use Rattle.current.specs.Drive.{driveOf}
-use Rattle.current.proofs.DrivingProduct.{current-bounds}
-use Rattle.lengths.specs.Lengths.{sideLength, conductorLength, rodLength, totalLength}
-use Rattle.lengths.proofs.Lengths.{side-bounds, conductor-bounds, rodlen-high, rod-bound, total-bounds}
-use Rattle.mesh.specs.Ends.{diagonal, rodWeight, weighedLength, meshLength, drivenEnds}
+use Rattle.case.specs.Bounds.{Between, Bounds}
+use Rattle.formulas.proofs.Conductors.{by-place}
+use Rattle.lengths.specs.Lengths.{sideX, sideY, conductorLength, rodLength, totalLength}
+use Rattle.lengths.proofs.Lengths.{x-bounds, y-bounds, conductor-bounds, rodlen-high, rod-bound, total-bounds}
+use Rattle.mesh.specs.Ends.{diagonalEnds, rodWeight, weighedLength, meshLength}
 use Rattle.enclosure.proofs.RootSpan.{root-span}
 
 module _ {c : Case} (b : Bounds c) where
-  pub diagonal-span : Span (diagonal c) 3535000 1018300000 1
-  unfolding diagonal
+  -- Lx²+Ly²
+  pub squares-bounds : Between 12500000 (sideX c * sideX c + sideY c * sideY c) 1036800000000
+  squares-bounds =
+      let x = x-bounds b in
+      let y = y-bounds b in
+      record {
+        low = omega (arith, mul-le-mul (x .low) (x .low), mul-le-mul (y .low) (y .low));
+        high = omega (arith, mul-le-mul (x .high) (x .high), mul-le-mul (y .high) (y .high));
+      }
+
+  pub diagonal-span : Span (diagonalEnds c) 3535000 1018300000 1
+  unfolding diagonalEnds
   diagonal-span =
-      let s = side-bounds b in
-      root-span (2 * (sideLength c * sideLength c) * 10 ^ 6) 3535000 1018300000
-      (omega (arith, mul-le-mul (s .low) (s .low))) (omega (arith, mul-le-mul (s .high) (s .high)))
+      root-span ((sideX c * sideX c + sideY c * sideY c) * 10 ^ 6) 3535000 1018300000 (omega (arith, squares-bounds .low)) (omega (arith, squares-bounds .high))
 
   pub rodlen-span : Span (point (pos (122 * c .rodlen))) 0 1220000 0
   rodlen-span = span-point (122 * c .rodlen) (omega arith) (mul-le-mul-left 122 (rodlen-high b))
 
-  pub share-span : Span (quotientOf (point (pos (122 * c .rodlen))) (diagonal c) 10000000000) 0 3452000000 978
+  pub share-span : Span (quotientOf (point (pos (122 * c .rodlen))) (diagonalEnds c) 10000000000) 0 3452000000 978
   share-span = span-quotient 10000000000 0 3452000000 977 (lit< tt) (lit≤ tt) (lit≤ tt) (lit≤ tt) rodlen-span diagonal-span
 
   pub weight-span : Span (rodWeight c) 1000000000 5002000000 978
@@ -62,34 +67,3 @@ module _ {c : Case} (b : Bounds c) where
 
   pub mesh-length-low : 10000000 ≤ 1000 * totalLength c
   mesh-length-low = mul-le-mul-left 1000 (total-bounds b .low)
-
--- ---- ρ·Ki·IG/LM
-
--- 644 + 148n is at most 470n(n − 1)
-factor-by-lines : (k : ℕ) → 1 ≤ k → 644 + 148 * (k + 1) ≤ 470 * ((k + 1) * k)
-factor-by-lines k h = omega (arith, mul-le-mul-right k h)
-
-module _ {c : Case} (b : Bounds c) where
-  lines-factor : 644 + 148 * c .lines ≤ 470 * (c .lines * (c .lines - 1))
-  lines-factor =
-      let e : c .lines - 1 + 1 ≡ c .lines = omega (arith, b .lines .low) in
-      rw e at (factor-by-lines (c .lines - 1) (omega (arith, b .lines .low)))
-
-  conductors-by-lines : 5000 * (c .lines * (c .lines - 1)) ≤ conductorLength c
-  unfolding conductorLength sideLength
-  conductors-by-lines = omega (arith, mul-le-mul-left (2 * (c .lines * (c .lines - 1))) (b .space .low))
-
-  pub drive-by-length : driveOf c ≤ 63468800000 * (1000 * totalLength c)
-  unfolding driveOf totalLength
-  drive-by-length =
-      le-trans (mul-le-mul (mul-le-mul (b .soil .high) lines-factor) (current-bounds b .high)) (omega (arith, conductors-by-lines))
-
-  pub drive-span : Span (point (pos (driveOf c))) 0 (driveOf c) 0
-  drive-span = span-point (driveOf c) (omega arith) (omega arith)
-
-  pub driven-span : Span (drivenEnds c) 0 63468800000 12500001
-  unfolding drivenEnds
-  driven-span =
-      let x = mesh-length-low b in
-      span-quotient 1 0 63468800000 12500000 (omega arith) (omega arith) (omega (arith, drive-by-length))
-      (omega (arith, drive-by-length, mul-le-mul-left (12500000 * (1000 * totalLength c)) x)) drive-span (mesh-length-span b)

@@ -1,10 +1,8 @@
 pub mod Argument
 pub mod Logarithms
-pub mod LineTables
 pub mod FactorSpans
 pub mod LengthSpans
 pub mod DrivenWidths
 pub mod Widths
-pub mod SpreadEnclosed
 pub mod FactorEnclosed
 pub mod Enclosed

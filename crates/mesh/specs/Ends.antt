@@ -1,6 +1,6 @@
 -- The ends of LM and of the mesh voltage, by whole-number intervals. Names for the free part: callers use their laws.
 -- Assumes nothing.
-use Prim.Native.Nat.{_*_, _^_}
+use Prim.Native.Nat.{_+_, _*_, _^_}
 use mathlib.Core.Bool.{cond}
 use lib.Dec.{eqb}
 use lib.IntN.{pos}
@@ -8,18 +8,18 @@ use Rattle.interval.specs.declared.Interval.{Interval}
 use Rattle.interval.specs.Operations.{point, sumOf, productOf, quotientOf}
 use Rattle.enclosure.specs.SquareRoot.{rootPair}
 use Rattle.case.specs.declared.Case.{Case}
-use Rattle.current.specs.Drive.{driveOf}
-use Rattle.lengths.specs.Lengths.{sideLength, conductorLength, rodLength, totalLength}
+use Rattle.drive.specs.Ends.{driveEnds}
+use Rattle.lengths.specs.Lengths.{sideX, sideY, conductorLength, rodLength, totalLength}
 use Rattle.mesh.specs.Factor.{geometricFactor}
 
 module _ (c : Case) where
-  -- √(2s²) in 10^−6 m
-  unfoldable pub diagonal : Interval
-  diagonal = rootPair (2 * (sideLength c * sideLength c) * 10 ^ 6)
+  -- √(Lx²+Ly²) in 10^−6 m
+  unfoldable pub diagonalEnds : Interval
+  diagonalEnds = rootPair ((sideX c * sideX c + sideY c * sideY c) * 10 ^ 6)
 
-  -- 1.55 + 1.22·Lr/√(2s²) in 10^−9
+  -- 1.55 + 1.22·Lr over the diagonal, in 10^−9
   unfoldable pub rodWeight : Interval
-  rodWeight = sumOf (point (pos 1550000000)) (quotientOf (point (pos (122 * c .rodlen))) diagonal 10000000000)
+  rodWeight = sumOf (point (pos 1550000000)) (quotientOf (point (pos (122 * c .rodlen))) diagonalEnds 10000000000)
 
   -- LM with rods along the perimeter, in 10^−6 m
   unfoldable pub weighedLength : Interval
@@ -32,7 +32,7 @@ module _ (c : Case) where
 
   -- ρ·Ki·IG/LM in mV
   unfoldable pub drivenEnds : Interval
-  drivenEnds = quotientOf (point (pos (driveOf c))) meshLength 1
+  drivenEnds = quotientOf (driveEnds c) meshLength 1
 
   -- the mesh voltage in mV
   unfoldable pub meshEnds : Interval

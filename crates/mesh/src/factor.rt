@@ -1,45 +1,15 @@
 // Km, the geometric factor of the mesh voltage.
 ghost use mathlib.Core.Path.{_≡_};
 ghost use Rattle.case.specs.Bounds.{Bounds};
-ghost use Rattle.mesh.specs.Factor.{argumentTop, argumentBottom, argumentLog, spreadOf, rootOf, depthFactor, innerFactor, innerTerm, geometricFactor};
+ghost use Rattle.mesh.specs.Factor.{argumentTop, argumentBottom, argumentLog, depthFactor, innerFactor, innerTerm, geometricFactor};
+ghost use Rattle.drive.specs.Ends.{numberOf};
 use case::Case;
-use enclosure::PI_ABOVE;
-use enclosure::PI_BELOW;
+use conductors::inner_weight;
+use conductors::spread;
 use enclosure::pi;
 use interval::Interval;
 use interval::root::root_ends;
 use logarithm::ln_ends;
-
-// 8 in 10^-9.
-const EIGHT: u64 = 8000000000;
-
-// The n-th root of 4n² in 10^-9, rounded down, for n from 2 to 25.
-const ROOTS: [u64; 24] = [
-    4000000000,
-    3301927248,
-    2828427124,
-    2511886431,
-    2289428485,
-    2125519790,
-    2000000000,
-    1900856996,
-    1820564203,
-    1754190889,
-    1698381329,
-    1650776232,
-    1609670042,
-    1573799853,
-    1542210825,
-    1514167743,
-    1489095324,
-    1466536951,
-    1446125549,
-    1427562629,
-    1410602953,
-    1395043139,
-    1380713071,
-    1367469347,
-];
 
 // G is argument_top over argument_bottom.
 fn argument_top(c: Case) -> u64
@@ -66,20 +36,6 @@ fn argument_log(c: Case) -> Interval
     ln_ends(argument_top(c), argument_bottom(c))
 }
 
-// ln(8/(π(2n−1))) in 10^-9.
-fn spread(c: Case) -> Interval
-    requires { ⌜ Bounds c ⌝ }
-    ensures { λ r. ⌜ r ≡ spreadOf (c .lines) ⌝ }
-{
-    let odd = 2 * (c.lines as u64) - 1;
-    let least = ln_ends(EIGHT, odd * PI_ABOVE);
-    let most = ln_ends(EIGHT, odd * PI_BELOW);
-    Interval {
-        lower: least.lower,
-        upper: most.upper,
-    }
-}
-
 // Kh in 10^-9.
 fn depth_factor(c: Case) -> Interval
     requires { ⌜ Bounds c ⌝ }
@@ -88,40 +44,36 @@ fn depth_factor(c: Case) -> Interval
     root_ends((1000 + (c.depth as u64)) * 1000000000000000)
 }
 
-// The root for the case's number of lines.
-fn lines_root(c: Case) -> u64
+// Kii in 10^-9, for the case's n.
+fn inner_factor(c: Case, n: Interval) -> Interval
     requires { ⌜ Bounds c ⌝ }
-    ensures { λ r. ⌜ r ≡ rootOf (c .lines) ⌝ }
-{
-    ROOTS[(c.lines - 2) as usize]
-}
-
-// Kii in 10^-9.
-fn inner_factor(c: Case) -> Interval
-    requires { ⌜ Bounds c ⌝ }
+    requires { ⌜ n ≡ numberOf c ⌝ }
     ensures { λ r. ⌜ r ≡ innerFactor c ⌝ }
 {
     if c.place == 1 {
         return Interval::point(1000000000);
     }
-    let root = lines_root(c);
-    Interval::point(1000000000).quotient(Interval::natural(root, root + 1), 1000000000)
+    inner_weight(c.across, c.along, n)
 }
 
 // (Kii/Kh)·ln(8/(π(2n−1))) in 10^-9.
-fn inner_term(c: Case) -> Interval
+fn inner_term(c: Case, n: Interval) -> Interval
     requires { ⌜ Bounds c ⌝ }
+    requires { ⌜ n ≡ numberOf c ⌝ }
     ensures { λ r. ⌜ r ≡ innerTerm c ⌝ }
 {
-    let ratio = inner_factor(c).quotient(depth_factor(c), 1000000000);
-    ratio.product(spread(c), 1000000000)
+    let ratio = inner_factor(c, n).quotient(depth_factor(c), 1000000000);
+    ratio.product(spread(n), 1000000000)
 }
 
 // Km in 10^-7.
-pub fn geometric_factor(c: Case) -> Interval
+pub fn geometric_factor(c: Case, n: Interval) -> Interval
     requires { ⌜ Bounds c ⌝ }
+    requires { ⌜ n ≡ numberOf c ⌝ }
     ensures { λ r. ⌜ r ≡ geometricFactor c ⌝ }
 {
     let turn = pi().scaled(2);
-    argument_log(c).sum(inner_term(c)).quotient(turn, 10000000)
+    argument_log(c)
+        .sum(inner_term(c, n))
+        .quotient(turn, 10000000)
 }

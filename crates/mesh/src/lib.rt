@@ -1,28 +1,31 @@
 // Mesh voltage of a case, by whole-number intervals.
 ghost use mathlib.Core.Path.{_≡_};
 ghost use Rattle.case.specs.Bounds.{Bounds};
+ghost use Rattle.drive.specs.Ends.{numberOf, driveEnds};
 ghost use Rattle.mesh.specs.Ends.{drivenEnds, meshEnds};
 use crate::factor::geometric_factor;
 use crate::rods::mesh_length;
 use case::Case;
-use current::drive;
 use interval::Interval;
 
 mod factor;
 mod rods;
 
 // ρ·Ki·IG/LM in mV.
-fn driven(c: Case) -> Interval
+fn driven(c: Case, drive: Interval) -> Interval
     requires { ⌜ Bounds c ⌝ }
+    requires { ⌜ drive ≡ driveEnds c ⌝ }
     ensures { λ r. ⌜ r ≡ drivenEnds c ⌝ }
 {
-    Interval::point(drive(c)).quotient(mesh_length(c), 1)
+    drive.quotient(mesh_length(c), 1)
 }
 
-// Mesh voltage in mV.
-pub fn mesh_voltage(c: Case) -> Interval
+// Mesh voltage in mV, for the case's n and ρ·Ki·IG.
+pub fn mesh_voltage(c: Case, n: Interval, drive: Interval) -> Interval
     requires { ⌜ Bounds c ⌝ }
+    requires { ⌜ n ≡ numberOf c ⌝ }
+    requires { ⌜ drive ≡ driveEnds c ⌝ }
     ensures { λ r. ⌜ r ≡ meshEnds c ⌝ }
 {
-    driven(c).product(geometric_factor(c), 10000000)
+    driven(c, drive).product(geometric_factor(c, n), 10000000)
 }

@@ -1,25 +1,27 @@
 // LM, the length of conductors and rods that the mesh voltage counts.
 ghost use mathlib.Core.Path.{_≡_};
 ghost use Rattle.case.specs.Bounds.{Bounds};
-ghost use Rattle.mesh.specs.Ends.{diagonal as diagonalEnds, rodWeight, weighedLength, meshLength};
+ghost use Rattle.mesh.specs.Ends.{diagonalEnds, rodWeight, weighedLength, meshLength};
 use case::Case;
 use interval::Interval;
 use interval::root::root_ends;
 use lengths::conductor_length;
 use lengths::rod_length;
-use lengths::side_length;
+use lengths::side_x;
+use lengths::side_y;
 use lengths::total_length;
 
-// √(2s²) in micrometres.
+// √(Lx²+Ly²) in micrometres.
 fn diagonal(c: Case) -> Interval
     requires { ⌜ Bounds c ⌝ }
     ensures { λ r. ⌜ r ≡ diagonalEnds c ⌝ }
 {
-    let side = side_length(c);
-    root_ends(2 * (side * side) * 1000000)
+    let x = side_x(c);
+    let y = side_y(c);
+    root_ends((x * x + y * y) * 1000000)
 }
 
-// 1.55 + 1.22·Lr/√(2s²) in 10^-9.
+// 1.55 + 1.22·Lr over the diagonal, in 10^-9.
 fn rod_weight(c: Case) -> Interval
     requires { ⌜ Bounds c ⌝ }
     ensures { λ r. ⌜ r ≡ rodWeight c ⌝ }

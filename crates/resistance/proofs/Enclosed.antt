@@ -1,37 +1,41 @@
 -- The resistance's ends include the exact value's ends: each line follows the formula's line.
 -- Assumes nothing.
-use Prim.Native.Nat.{ℕ, _*_, _^_}
-use mathlib.Core.Path.{_≡_, refl}
+use Prim.Native.Nat.{_*_, _^_}
+use mathlib.Core.Path.{refl}
 use native.Mathlib.Omega.{arith}
 use lib.Dec.{lit≤}
 use lib.IntN.{pos}
-use Rattle.interval.specs.Operations.{point, scaledOf, quotientOf}
+use Rattle.interval.specs.Operations.{point, quotientOf}
 use Rattle.interval.proofs.Span.{span-divisor}
-use Rattle.exact.specs.Fraction.{_≈f_, whole, decimal}
+use Rattle.exact.specs.Fraction.{whole}
 use Rattle.exact.specs.Exact.{Exact, exactly, _+x_, _·x_, _÷x_}
-use Rattle.exact.specs.Reported.{Scale, ten, over}
-use Rattle.exact.specs.Depth.{Consistent}
-use Rattle.exact.proofs.Order.{refl≈, trans≈}
-use Rattle.exact.proofs.Reported.{decimal-over}
+use Rattle.exact.specs.Reported.{ten}
+use Rattle.exact.proofs.Order.{trans≈}
+use Rattle.exact.proofs.Reported.{scaleProduct, decimal-over}
 use Rattle.exact.proofs.Quantity.{Quantity, quantity-exactly, quantity-sum, quantity-product, quantity-quotient}
 use Rattle.enclosure.specs.Enclosure.{Encloses}
+use Rattle.enclosure.proofs.Counts.{decimal-count, count-product}
 use Rattle.enclosure.proofs.Basics.{encloses-count, encloses-whole, encloses-outward}
 use Rattle.enclosure.proofs.Constants.{√20-encloses}
 use Rattle.enclosure.proofs.Multiples.{encloses-multiple}
 use Rattle.enclosure.proofs.Sums.{encloses-sum, encloses-times}
+use Rattle.enclosure.proofs.Products.{encloses-product}
 use Rattle.enclosure.proofs.Quotients.{encloses-quotient}
+use Rattle.enclosure.proofs.SquareRoot.{pair-ends}
+use Rattle.enclosure.proofs.Roots.{encloses-sqrt-even}
 use Rattle.case.specs.declared.Case.{Case}
 use Rattle.case.specs.Bounds.{Bounds}
-use Rattle.formulas.specs.Lengths.{ρ, h, side, LT}
+use Rattle.formulas.specs.Lengths.{ρ, h, area, LT, equalCounts, √area, s}
 use Rattle.formulas.specs.Resistance.{√20, resistance}
 use Rattle.formulas.specs.Width.{μΩ}
-use Rattle.formulas.proofs.Positive.{ρ-pos, h-pos, side-pos, LT-pos}
+use Rattle.formulas.proofs.Positive.{h-pos, LT-pos}
 use Rattle.formulas.proofs.Quantities.{one}
+use Rattle.formulas.proofs.Conductors.{by-both, quantity-s}
 use Rattle.formulas.proofs.Consistent.{q20}
-use Rattle.lengths.specs.Lengths.{sideLength, totalLength}
-use Rattle.lengths.proofs.Lengths.{side-is, total-is}
-use Rattle.resistance.specs.Ends.{rootTwenty, depthEnds, shapeEnds, widthEnds, perSoilEnds, resistanceEnds}
-use Rattle.resistance.proofs.Spans.{side-span, total-span, depth-span, width-low, width-span}
+use Rattle.lengths.specs.Lengths.{sideX, sideY, totalLength}
+use Rattle.lengths.proofs.Lengths.{x-is, y-is, total-is}
+use Rattle.resistance.specs.Ends.{rootTwenty, sideEnds, depthEnds, shapeEnds, widthEnds, perSoilEnds, resistanceEnds}
+use Rattle.resistance.proofs.Spans.{side-span, depth-span, width-span, total-span}
 
 abbrev oneX : Exact
 oneX = exactly (whole 1)
@@ -45,31 +49,42 @@ unfolding ten
 one-encloses = encloses-whole 1 (ten 9) refl
 
 module _ {c : Case} (b : Bounds c) where
-  q-side : Quantity (exactly (side c))
-  q-side = quantity-exactly (side-pos b)
+  -- the area in mm²
+  area-encloses : Encloses (exactly (area c)) (scaleProduct (ten 3) (ten 3)) (point (pos (sideX c * sideY c)))
+  unfolding area
+  area-encloses =
+      let x = sideX c in
+      let y = sideY c in
+      encloses-count (pos (x * y)) (scaleProduct (ten 3) (ten 3))
+      (count-product x y (ten 3) (ten 3) (trans≈ (x-is c) (decimal-over x 3)) (trans≈ (y-is c) (decimal-over y 3)))
 
-  side-encloses : Encloses (exactly (side c)) (ten 3) (point (pos (sideLength c)))
-  side-encloses = encloses-count (pos (sideLength c)) (ten 3) (trans≈ (side-is c) (decimal-over (sideLength c) 3))
+  -- s in micrometres
+  side-encloses : Encloses (s c) (ten 6) (sideEnds c)
+  unfolding s √area sideEnds ten
+  side-encloses =
+      by-both (λ x i. Encloses x (ten 6) i) (equalCounts c)
+      (λ e. encloses-count _ (ten 6) (trans≈ (x-is c) (decimal-count (sideX c) 3 1000 (ten 6) refl (omega arith))))
+      (λ e. encloses-sqrt-even (ten 6) (sideX c * sideY c) (10 ^ 6) refl (omega arith) (pair-ends _) area-encloses)
 
   -- 1 + h·√20/s
   q-depth : Quantity (exactly (h c) ·x √20)
   q-depth = quantity-product (quantity-exactly (h-pos b)) q20
 
-  q-term : Quantity (oneX +x exactly (h c) ·x √20 ÷x exactly (side c))
-  q-term = quantity-sum one (quantity-quotient q-depth q-side)
+  q-term : Quantity (oneX +x exactly (h c) ·x √20 ÷x s c)
+  q-term = quantity-sum one (quantity-quotient q-depth (quantity-s b))
 
-  depth-encloses : Encloses (oneX +x exactly (h c) ·x √20 ÷x exactly (side c)) (ten 9) (depthEnds c)
+  depth-encloses : Encloses (oneX +x exactly (h c) ·x √20 ÷x s c) (ten 9) (depthEnds c)
   unfolding depthEnds h ten
   depth-encloses =
-      encloses-sum (one .consistent) (quantity-quotient q-depth q-side .consistent) one-encloses
-      (encloses-quotient (ten 9) 1 refl (span-divisor (lit≤ tt) (side-span b) .0) (q-depth .consistent) (q-side .consistent)
+      encloses-sum (one .consistent) (quantity-quotient q-depth (quantity-s b) .consistent) one-encloses
+      (encloses-quotient (ten 9) 1000 refl (span-divisor (lit≤ tt) (side-span b) .0) (q-depth .consistent) (quantity-s b .consistent)
       (encloses-multiple (c .depth) (ten 3) (ten 12) refl (decimal-over (c .depth) 3) (q20 .consistent) twenty) side-encloses)
 
   -- 1 + 1/(1 + h·√20/s)
-  q-shape : Quantity (oneX +x oneX ÷x (oneX +x exactly (h c) ·x √20 ÷x exactly (side c)))
+  q-shape : Quantity (oneX +x oneX ÷x (oneX +x exactly (h c) ·x √20 ÷x s c))
   q-shape = quantity-sum one (quantity-quotient one q-term)
 
-  shape-encloses : Encloses (oneX +x oneX ÷x (oneX +x exactly (h c) ·x √20 ÷x exactly (side c))) (ten 9) (shapeEnds c)
+  shape-encloses : Encloses (oneX +x oneX ÷x (oneX +x exactly (h c) ·x √20 ÷x s c)) (ten 9) (shapeEnds c)
   unfolding shapeEnds ten
   shape-encloses =
       encloses-sum (one .consistent) (quantity-quotient one q-term .consistent) one-encloses
@@ -77,14 +92,12 @@ module _ {c : Case} (b : Bounds c) where
       one-encloses depth-encloses)
 
   -- √20·s
-  q-width : Quantity (exactly (side c) ·x √20)
-  q-width = quantity-product q-side q20
+  q-width : Quantity (s c ·x √20)
+  q-width = quantity-product (quantity-s b) q20
 
-  width-encloses : Encloses (exactly (side c) ·x √20) (ten 9) (widthEnds c)
+  width-encloses : Encloses (s c ·x √20) (ten 9) (widthEnds c)
   unfolding widthEnds ten
-  width-encloses =
-      encloses-outward {u = ten 12} (ten 9) 1000 refl
-      (encloses-multiple (sideLength c) (ten 3) (ten 12) refl (trans≈ (side-is c) (decimal-over (sideLength c) 3)) (q20 .consistent) twenty)
+  width-encloses = encloses-product (ten 9) (10 ^ 6) refl (quantity-s b .consistent) (q20 .consistent) side-encloses twenty
 
   -- the two parts
   q-total : Quantity (exactly (LT c))
@@ -96,11 +109,11 @@ module _ {c : Case} (b : Bounds c) where
       encloses-quotient (ten 9) (10 ^ 12) refl (span-divisor (lit≤ tt) (total-span b) .0) (one .consistent) (q-total .consistent)
       (encloses-whole 1 (ten 0) refl) (encloses-count (pos (totalLength c)) (ten 3) (trans≈ (total-is c) (decimal-over (totalLength c) 3)))
 
-  second-encloses : Encloses ((oneX +x oneX ÷x (oneX +x exactly (h c) ·x √20 ÷x exactly (side c))) ÷x (exactly (side c) ·x √20)) (ten 9)
+  second-encloses : Encloses ((oneX +x oneX ÷x (oneX +x exactly (h c) ·x √20 ÷x s c)) ÷x (s c ·x √20)) (ten 9)
       (quotientOf (shapeEnds c) (widthEnds c) (10 ^ 9))
   unfolding ten
   second-encloses =
-      encloses-quotient (ten 9) (10 ^ 9) refl (span-divisor (width-low b) (width-span b) .0) (q-shape .consistent) (q-width .consistent)
+      encloses-quotient (ten 9) (10 ^ 9) refl (span-divisor (lit≤ tt) (width-span b) .0) (q-shape .consistent) (q-width .consistent)
       shape-encloses width-encloses
 
   pub resistance-encloses : Encloses (resistance c) μΩ (resistanceEnds c)

@@ -1,26 +1,25 @@
 -- The resistance's and the potential rise's ends are no further apart than document 01 allows.
 -- Assumes nothing.
-use Prim.Native.Nat.{ℕ, _+_, _*_, _/_, _%_, _^_, _≤_, _<_}
-use mathlib.Core.Path.{_≡_, refl}
+use Prim.Native.Nat.{ℕ, _+_, _*_, _/_, _≤_, _<_}
 use native.Mathlib.Omega.{arith}
-use native.Mathlib.Nat.{mul-le-mul-left, mul-le-mul-right}
+use native.Mathlib.Nat.{mul-le-mul-right}
 use lib.Dec.{lit<}
-use lib.IntN.{pos}
 use Rattle.interval.specs.Whole.{ceilDiv}
 use Rattle.interval.specs.Operations.{natural}
-use Rattle.interval.specs.Span.{Span, Relative}
+use Rattle.interval.specs.Span.{Relative}
 use Rattle.interval.proofs.Natural.{natural-scaled, natural-outward}
+use Rattle.interval.proofs.Relatives.{relative-span}
 use Rattle.interval.proofs.Rounding.{floorDiv-above, ceilDiv-below}
-use Rattle.exact.specs.Fraction.{_≤f_, decimal, _+f_, neg, _−f_, _·f_}
+use Rattle.exact.specs.Fraction.{decimal, _+f_, neg, _−f_, _·f_}
 use Rattle.exact.specs.Reported.{ten, over, reported, AtMost}
 use Rattle.case.specs.declared.Case.{Case}
 use Rattle.case.specs.Bounds.{Bounds}
-use Rattle.formulas.specs.Width.{mV, μΩ, resistanceWidth, riseWidth}
-use Rattle.resistance.specs.Ends.{perSoilEnds, resistanceEnds}
-use Rattle.resistance.proofs.Spans.{per-soil-span}
+use Rattle.formulas.specs.Width.{μΩ, resistanceWidth}
+use Rattle.resistance.specs.Ends.{resistanceEnds}
+use Rattle.resistance.proofs.Spans.{per-soil-span, per-soil-near}
 
 -- U and L are b s and a s over 1000, rounded outward
-near : (a b s L U : ℕ) → b ≤ a + 3 → 510000 ≤ a → 10 ≤ s → U * 1000 < b * s + 1000 → a * s < L * 1000 + 1000
+near : (a b s L U : ℕ) → 200000 * b ≤ 200001 * a + 200000 * 3 → 510000 ≤ a → 10 ≤ s → U * 1000 < b * s + 1000 → a * s < L * 1000 + 1000
     → 10000 * U ≤ 10001 * L + 10000 * 2
 near a b s L U p q r u l = omega (arith, mul-le-mul-right s p, mul-le-mul-right s q, u, l)
 
@@ -34,7 +33,8 @@ resistance-near {c} b =
       b = ceilDiv (s .b * k) 1000;
       is = rw (s .is, natural-scaled (s .a) (s .b) k) (natural-outward (s .a * k) (s .b * k) (lit< tt));
       near =
-          near (s .a) (s .b) k _ _ (s .near) (s .from) (b .soil .low) (ceilDiv-below (s .b * k) (lit< tt)) (floorDiv-above (s .a * k) (lit< tt));
+          near (s .a) (s .b) k _ _ (relative-span s (per-soil-near b)) (s .from) (b .soil .low) (ceilDiv-below (s .b * k) (lit< tt))
+          (floorDiv-above (s .a * k) (lit< tt));
     }
 
 within-allowed : (a b : ℕ) → 10000 * b ≤ 10001 * a + 10000 * 2 → AtMost (resistanceWidth (reported μΩ (natural a b))) (reported μΩ (natural a b))

@@ -1,33 +1,36 @@
 -- The ends of the resistance and of the potential rise, by whole-number intervals. Names for the free part: callers use their laws.
 -- Assumes nothing.
-use Prim.Native.Nat.{ℕ, _+_, _*_, _/_, _%_, _^_}
+use Prim.Native.Nat.{_*_, _^_}
+use mathlib.Core.Bool.{cond}
 use lib.IntN.{pos}
 use Rattle.interval.specs.declared.Interval.{Interval}
-use Rattle.interval.specs.Operations.{natural, point, sumOf, outwardOf, scaledOf, quotientOf}
+use Rattle.interval.specs.Operations.{natural, point, sumOf, outwardOf, scaledOf, productOf, quotientOf}
+use Rattle.enclosure.specs.SquareRoot.{rootPair}
 use Rattle.case.specs.declared.Case.{Case}
+use Rattle.formulas.specs.Lengths.{equalCounts}
 use Rattle.formulas.specs.Current.{gridCurrent}
-use Rattle.lengths.specs.Lengths.{sideLength, totalLength}
+use Rattle.lengths.specs.Lengths.{sideX, sideY, totalLength}
 
 -- √20 in 10^−9
 unfoldable pub rootTwenty : Interval
 rootTwenty = natural 4472135954 4472135955
 
--- the part of a current in microamperes below one ampere
-abbrev pub restOf : ℕ → ℕ
-restOf g = g % 10 ^ 6
-
 module _ (c : Case) where
+  -- s in micrometres: the side of a square, else the root of the area
+  unfoldable pub sideEnds : Interval
+  sideEnds = cond (equalCounts c) (point (pos (1000 * sideX c))) (rootPair (sideX c * sideY c * 10 ^ 6))
+
   -- 1 + h·√20/s in 10^−9
   unfoldable pub depthEnds : Interval
-  depthEnds = sumOf (point (pos (10 ^ 9))) (quotientOf (scaledOf rootTwenty (c .depth)) (point (pos (sideLength c))) 1)
+  depthEnds = sumOf (point (pos (10 ^ 9))) (quotientOf (scaledOf rootTwenty (c .depth)) sideEnds 1000)
 
   -- 1 + 1/(1 + h·√20/s) in 10^−9
   unfoldable pub shapeEnds : Interval
   shapeEnds = sumOf (point (pos (10 ^ 9))) (quotientOf (point (pos (10 ^ 9))) depthEnds (10 ^ 9))
 
-  -- √20·s in 10^−6 mm
+  -- √20·s in 10^−9 m
   unfoldable pub widthEnds : Interval
-  widthEnds = outwardOf (scaledOf rootTwenty (sideLength c)) 1000
+  widthEnds = productOf sideEnds rootTwenty (10 ^ 6)
 
   -- 1/LT + (1 + 1/(1 + h·√20/s))/(√20·s), in 10^−9 per metre
   unfoldable pub perSoilEnds : Interval
@@ -37,9 +40,6 @@ module _ (c : Case) where
   unfoldable pub resistanceEnds : Interval
   resistanceEnds = outwardOf (scaledOf perSoilEnds (c .soil)) 1000
 
-  -- IG times resistance, in mV: IG in whole amperes and the rest
+  -- IG times resistance, in mV
   unfoldable pub riseEnds : Interval
-  riseEnds =
-      outwardOf
-      (sumOf (scaledOf resistanceEnds (gridCurrent c / 10 ^ 6 * 1000)) (outwardOf (scaledOf resistanceEnds (restOf (gridCurrent c))) 1000))
-      (10 ^ 6)
+  riseEnds = productOf resistanceEnds (point (pos (gridCurrent c))) (10 ^ 9)

@@ -1,11 +1,13 @@
 // Resistance of the grid and ground potential rise, by whole-number intervals.
 ghost use mathlib.Core.Path.{_≡_};
 ghost use Rattle.case.specs.Bounds.{Bounds};
-ghost use Rattle.resistance.specs.Ends.{rootTwenty, depthEnds, shapeEnds, widthEnds, perSoilEnds, resistanceEnds, riseEnds};
+ghost use Rattle.resistance.specs.Ends.{rootTwenty, sideEnds, depthEnds, shapeEnds, widthEnds, perSoilEnds, resistanceEnds, riseEnds};
 use case::Case;
 use current::grid_current;
 use interval::Interval;
-use lengths::side_length;
+use interval::root::root_ends;
+use lengths::side_x;
+use lengths::side_y;
 use lengths::total_length;
 
 // √20 in 10^-9.
@@ -15,13 +17,27 @@ fn root_twenty() -> Interval
     Interval::natural(4472135954, 4472135955)
 }
 
+// s in micrometres: the side of a square, else the root of the area.
+fn side_term(c: Case) -> Interval
+    requires { ⌜ Bounds c ⌝ }
+    ensures { λ r. ⌜ r ≡ sideEnds c ⌝ }
+{
+    let x = side_x(c);
+    let y = side_y(c);
+    if c.across == c.along {
+        return Interval::point(1000 * x);
+    }
+    root_ends(x * y * 1000000)
+}
+
 // 1 + h·√20/s in 10^-9.
 fn depth_term(c: Case) -> Interval
     requires { ⌜ Bounds c ⌝ }
     ensures { λ r. ⌜ r ≡ depthEnds c ⌝ }
 {
-    let side = Interval::point(side_length(c));
-    let share = root_twenty().scaled(c.depth as u64).quotient(side, 1);
+    let share = root_twenty()
+        .scaled(c.depth as u64)
+        .quotient(side_term(c), 1000);
     Interval::point(1000000000).sum(share)
 }
 
@@ -34,12 +50,12 @@ fn shape_term(c: Case) -> Interval
     one.sum(one.quotient(depth_term(c), 1000000000))
 }
 
-// √20·s in 10^-6 mm.
+// √20·s in 10^-9 m.
 fn width_term(c: Case) -> Interval
     requires { ⌜ Bounds c ⌝ }
     ensures { λ r. ⌜ r ≡ widthEnds c ⌝ }
 {
-    root_twenty().scaled(side_length(c)).outward(1000)
+    side_term(c).product(root_twenty(), 1000000)
 }
 
 // The resistance per ohm metre of soil, in 10^-9 per metre.
@@ -60,14 +76,11 @@ pub fn resistance(c: Case) -> Interval
     per_soil(c).scaled(c.soil as u64).outward(1000)
 }
 
-// Ground potential rise in mV.
-pub fn potential_rise(c: Case) -> Interval
+// Ground potential rise in mV, for the case's resistance.
+pub fn potential_rise(c: Case, ohms: Interval) -> Interval
     requires { ⌜ Bounds c ⌝ }
+    requires { ⌜ ohms ≡ resistanceEnds c ⌝ }
     ensures { λ r. ⌜ r ≡ riseEnds c ⌝ }
 {
-    let current = grid_current(c);
-    let ohms = resistance(c);
-    let amperes = ohms.scaled(current / 1000000 * 1000);
-    let rest = ohms.scaled(current % 1000000).outward(1000);
-    amperes.sum(rest).outward(1000000)
+    ohms.wide_product(Interval::point(grid_current(c)), 1000000000)
 }

@@ -32,8 +32,12 @@ pub fn work_row(c: Case) -> Row
     let limits = tolerable::touch_and_step(c);
     let touch = limits.touch;
     let limit = limits.step;
-    let mesh = mesh::mesh_voltage(c);
-    let step = step::step_voltage(c);
+    let n = conductors::effective_number(c.across, c.along);
+    let drive = drive::drive(c, n);
+    let mesh = mesh::mesh_voltage(c, n, drive);
+    let step = step::step_voltage(c, n, drive);
+    let ohms = resistance::resistance(c);
+    let rise = resistance::potential_rise(c, ohms);
     Row {
         station: c.station as i64,
         season: c.season as i64,
@@ -44,7 +48,7 @@ pub fn work_row(c: Case) -> Row
         tolerable_step: limit,
         mesh,
         step,
-        resistance: resistance::resistance(c),
-        rise: resistance::potential_rise(c),
+        resistance: ohms,
+        rise,
     }
 }

@@ -1,5 +1,6 @@
-pub mod HalfPowers
+pub mod FactorSpans
 pub mod Spans
 pub mod Ratios
+pub mod FactorEnclosed
 pub mod Enclosed
 pub mod Widths

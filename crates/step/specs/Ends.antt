@@ -1,22 +1,31 @@
 -- The ends of the step voltage, by whole-number intervals. Names for the free part: callers use their laws.
 -- Assumes nothing.
 use Prim.Native.Nat.{ℕ, _+_, _-_, _*_, _^_}
+use mathlib.Core.Bool.{cond}
 use lib.IntN.{pos}
 use Rattle.interval.specs.declared.Interval.{Interval}
-use Rattle.interval.specs.Operations.{point, sumOf, productOf, quotientOf}
+use Rattle.interval.specs.Operations.{point, sumOf, differenceOf, productOf, quotientOf}
 use Rattle.enclosure.specs.Pi.{πEnds}
 use Rattle.case.specs.declared.Case.{Case}
-use Rattle.current.specs.Drive.{driveOf}
+use Rattle.formulas.specs.Lengths.{equalCounts}
 use Rattle.lengths.specs.Lengths.{conductorLength, rodLength}
+use Rattle.conductors.specs.Weights.{halfPowerEnds}
+use Rattle.drive.specs.Ends.{numberOf, driveEnds}
 
 -- a / d per millimetre, in 10^−9 per metre
 unfoldable pub perMetre : ℕ → ℕ → Interval
 perMetre a d = quotientOf (point (pos a)) (point (pos d)) (10 ^ 12)
 
 module _ (c : Case) where
-  -- 2^(n−2)
-  unfoldable pub halfPowerOf : ℕ
-  halfPowerOf = 2 ^ (c .lines - 2)
+  -- 2^(n−2) of a square
+  unfoldable pub powerOfTwo : ℕ
+  powerOfTwo = 2 ^ (c .across - 2)
+
+  -- (1 − 0.5^(n−2))/D in 10^−9 per metre: of a square by the power of two, else by the half-power
+  unfoldable pub shareEnds : Interval
+  shareEnds =
+      cond (equalCounts c) (perMetre (powerOfTwo - 1) (powerOfTwo * c .space))
+      (quotientOf (differenceOf (point (pos (10 ^ 9))) (halfPowerEnds (numberOf c))) (point (pos (c .space))) 1000)
 
   -- D + h, in millimetres
   unfoldable pub reach : ℕ
@@ -24,8 +33,7 @@ module _ (c : Case) where
 
   -- 1/(2h) + 1/(D+h) + (1 − 0.5^(n−2))/D, in 10^−9 per metre
   unfoldable pub spacingSum : Interval
-  spacingSum =
-      sumOf (sumOf (perMetre 1 (2 * c .depth)) (perMetre 1 reach)) (perMetre (halfPowerOf - 1) (halfPowerOf * c .space))
+  spacingSum = sumOf (sumOf (perMetre 1 (2 * c .depth)) (perMetre 1 reach)) shareEnds
 
   -- Ks, in 10^−7 per metre
   unfoldable pub spacingFactor : Interval
@@ -36,9 +44,9 @@ module _ (c : Case) where
   stepLength = 15 * conductorLength c + 17 * rodLength c
 
   -- ρ·Ki·IG/LS, in mV
-  unfoldable pub driveEnds : Interval
-  driveEnds = quotientOf (point (pos (driveOf c))) (point (pos (50 * stepLength))) 1
+  unfoldable pub drivenEnds : Interval
+  drivenEnds = quotientOf (driveEnds c) (point (pos (50 * stepLength))) 1
 
   -- step voltage, in mV
   unfoldable pub stepVoltageEnds : Interval
-  stepVoltageEnds = productOf driveEnds spacingFactor (10 ^ 7)
+  stepVoltageEnds = productOf drivenEnds spacingFactor (10 ^ 7)

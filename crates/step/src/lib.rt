@@ -2,21 +2,14 @@
 ghost use mathlib.Core.Path.{_≡_};
 ghost use Prim.Native.Nat.{_<_, _^_};
 ghost use Rattle.case.specs.Bounds.{Bounds};
-ghost use Rattle.step.specs.Ends.{perMetre, halfPowerOf, spacingSum, spacingFactor, stepLength, driveEnds, stepVoltageEnds};
+ghost use Rattle.drive.specs.Ends.{numberOf, driveEnds};
+ghost use Rattle.step.specs.Ends.{perMetre, powerOfTwo, shareEnds, spacingSum, spacingFactor, stepLength, drivenEnds, stepVoltageEnds};
 use case::Case;
-use current::drive;
+use conductors::half_power;
 use enclosure::pi;
 use interval::Interval;
 use lengths::conductor_length;
 use lengths::rod_length;
-
-// 2^(n−2), of which 0.5^(n−2) is the inverse.
-fn half_power(c: Case) -> u64
-    requires { ⌜ Bounds c ⌝ }
-    ensures { λ r. ⌜ r ≡ halfPowerOf c ⌝ }
-{
-    1u64 << (c.lines - 2)
-}
 
 // a / d per millimetre, in 10^-9 per metre.
 fn per_metre(a: u64, d: u64) -> Interval
@@ -27,24 +20,48 @@ fn per_metre(a: u64, d: u64) -> Interval
     Interval::point(a).quotient(Interval::point(d), 1000000000000)
 }
 
-// 1/(2h) + 1/(D+h) + (1 − 0.5^(n−2))/D in 10^-9 per metre.
-fn spacing_sum(c: Case) -> Interval
+// 2^(n−2) of a square, of which 0.5^(n−2) is the inverse.
+fn power_of_two(c: Case) -> u64
     requires { ⌜ Bounds c ⌝ }
+    ensures { λ r. ⌜ r ≡ powerOfTwo c ⌝ }
+{
+    1u64 << (c.across - 2)
+}
+
+// (1 − 0.5^(n−2))/D in 10^-9 per metre, for the case's n: of a square by the power of two, else by the half-power.
+fn spacing_share(c: Case, n: Interval) -> Interval
+    requires { ⌜ Bounds c ⌝ }
+    requires { ⌜ n ≡ numberOf c ⌝ }
+    ensures { λ r. ⌜ r ≡ shareEnds c ⌝ }
+{
+    let space = c.space as u64;
+    if c.across == c.along {
+        let p = power_of_two(c);
+        return per_metre(p - 1, p * space);
+    }
+    let rest = Interval::point(1000000000).difference(half_power(n));
+    rest.quotient(Interval::point(space), 1000)
+}
+
+// 1/(2h) + 1/(D+h) + (1 − 0.5^(n−2))/D in 10^-9 per metre.
+fn spacing_sum(c: Case, n: Interval) -> Interval
+    requires { ⌜ Bounds c ⌝ }
+    requires { ⌜ n ≡ numberOf c ⌝ }
     ensures { λ r. ⌜ r ≡ spacingSum c ⌝ }
 {
     let depth = c.depth as u64;
     let space = c.space as u64;
-    let p = half_power(c);
     let by_depth = per_metre(1, 2 * depth).sum(per_metre(1, space + depth));
-    by_depth.sum(per_metre(p - 1, p * space))
+    by_depth.sum(spacing_share(c, n))
 }
 
 // Ks in 10^-7 per metre.
-fn spacing_factor(c: Case) -> Interval
+fn spacing_factor(c: Case, n: Interval) -> Interval
     requires { ⌜ Bounds c ⌝ }
+    requires { ⌜ n ≡ numberOf c ⌝ }
     ensures { λ r. ⌜ r ≡ spacingFactor c ⌝ }
 {
-    spacing_sum(c).quotient(pi(), 10000000)
+    spacing_sum(c, n).quotient(pi(), 10000000)
 }
 
 // LS in twentieths of a millimetre.
@@ -56,17 +73,20 @@ fn step_length(c: Case) -> u64
 }
 
 // ρ·Ki·IG/LS in mV.
-fn drive_per_length(c: Case) -> Interval
+fn driven(c: Case, drive: Interval) -> Interval
     requires { ⌜ Bounds c ⌝ }
-    ensures { λ r. ⌜ r ≡ driveEnds c ⌝ }
+    requires { ⌜ drive ≡ driveEnds c ⌝ }
+    ensures { λ r. ⌜ r ≡ drivenEnds c ⌝ }
 {
-    Interval::point(drive(c)).quotient(Interval::point(50 * step_length(c)), 1)
+    drive.quotient(Interval::point(50 * step_length(c)), 1)
 }
 
-// Step voltage in mV.
-pub fn step_voltage(c: Case) -> Interval
+// Step voltage in mV, for the case's n in 10^-7 and its ρ·Ki·IG in 10^-9.
+pub fn step_voltage(c: Case, n: Interval, drive: Interval) -> Interval
     requires { ⌜ Bounds c ⌝ }
+    requires { ⌜ n ≡ numberOf c ⌝ }
+    requires { ⌜ drive ≡ driveEnds c ⌝ }
     ensures { λ r. ⌜ r ≡ stepVoltageEnds c ⌝ }
 {
-    drive_per_length(c).product(spacing_factor(c), 10000000)
+    driven(c, drive).product(spacing_factor(c, n), 10000000)
 }

@@ -1,12 +1,10 @@
 -- `mesh_voltage` multiplies by Km.
 -- Assumes nothing.
-use native.Mathlib.Omega.{arith}
-use native.Mathlib.Nat.{mul-le-mul}
 use lib.Dec.{lit<}
-use Rattle.interval.proofs.Span.{span-size}
+use Rattle.interval.proofs.SpanFits.{product-fits}
 use Rattle.mesh.specs.Ends.{meshEnds}
 use Rattle.mesh.proofs.FactorSpans.{factor-span}
-use Rattle.mesh.proofs.LengthSpans.{driven-span}
+use Rattle.mesh.proofs.DrivenWidths.{driven-span}
 use borrow.Author.Needs.{needs}
 use Rattle.mesh.proofs.mesh_voltage.Statement.{statement}
 use Rattle.mesh.proofs.mesh_voltage.Tie as tie
@@ -19,9 +17,8 @@ geometric-factor-requires c κs = search needs
 
 product-requires : tie.Need-product-requires
 product-requires c κs =
-    let s = c .before .before in
-    rw (c .geometric-factor .ensures, c .before .driven .ensures)
-    (lit< tt, omega (arith, mul-le-mul (span-size (driven-span (s .pre))) (span-size (factor-span (s .pre)))))
+    let b = c .before .before .pre .0 in
+    rw (c .geometric-factor .ensures, c .before .driven .ensures) (product-fits (lit< tt) (lit< tt) (driven-span b) (factor-span b))
 
 returns : tie.Need-returns
 unfolding meshEnds

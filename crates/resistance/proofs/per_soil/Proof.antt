@@ -6,7 +6,7 @@ use Rattle.interval.proofs.SpanFits.{sum-fits, quotient-fits}
 use Rattle.interval.proofs.Span.{span-point}
 use Rattle.lengths.proofs.Lengths.{total-bounds}
 use Rattle.resistance.specs.Ends.{perSoilEnds}
-use Rattle.resistance.proofs.Spans.{total-span, shape-span, width-low, width-span, first-span, second-span}
+use Rattle.resistance.proofs.Spans.{total-span, shape-span, width-span, first-span, second-span}
 use borrow.Author.Needs.{needs}
 use Rattle.resistance.proofs.per_soil.Statement.{statement}
 use Rattle.resistance.proofs.per_soil.Tie as tie
@@ -35,7 +35,7 @@ width-term-requires c κs = search needs
 quotient-requires-2 : tie.Need-quotient-requires-2
 quotient-requires-2 c κs =
     let b = c .before .before .before .before .before .before .pre in
-    rw (c .width-term .ensures, c .before .shape-term .ensures) (quotient-fits (lit< tt) (lit< tt) (width-low b) (shape-span b) (width-span b))
+    rw (c .width-term .ensures, c .before .shape-term .ensures) (quotient-fits (lit< tt) (lit< tt) (lit≤ tt) (shape-span b) (width-span b))
 
 sum-requires : tie.Need-sum-requires
 sum-requires c κs =

@@ -1,11 +1,9 @@
--- `potential_rise` keeps within 64 bits by the two parts of the current.
+-- `potential_rise` multiplies the resistance by the current; the product is wide.
 -- Assumes nothing.
 use native.Mathlib.Omega.{arith}
-use lib.Dec.{lit≤, lit<}
-use Rattle.interval.proofs.SpanFits.{sum-fits, scaled-fits, outward-fits}
+use Rattle.current.proofs.GridCurrent.{current-bounds}
 use Rattle.resistance.specs.Ends.{riseEnds}
-use Rattle.resistance.proofs.Spans.{resistance-span}
-use Rattle.resistance.proofs.RiseSpans.{amperes-high, rest-high, amperes-span, rest-span, rest-outward-span, parts-span}
+use Rattle.resistance.proofs.Rise.{rise-wide}
 use borrow.Author.Needs.{needs}
 use Rattle.resistance.proofs.potential_rise.Statement.{statement}
 use Rattle.resistance.proofs.potential_rise.Tie as tie
@@ -13,61 +11,19 @@ use Rattle.resistance.proofs.potential_rise.Tie as tie
 grid-current-requires : tie.Need-grid-current-requires
 grid-current-requires c κs = search needs
 
-resistance-requires : tie.Need-resistance-requires
-resistance-requires c κs = search needs
+point-requires : tie.Need-point-requires
+point-requires c κs = rw (c .grid-current .ensures) (omega (arith, current-bounds (c .before .pre .0) .high))
 
-mul-scaled : tie.Need-mul-scaled
-mul-scaled c = search needs
-
-scaled-requires : tie.Need-scaled-requires
-scaled-requires c κs =
-    let g = c .before in
-    let b = g .before .pre in
-    rw (c .resistance .ensures, g .grid-current .ensures) (scaled-fits 135040000 (lit< tt) (lit< tt) (amperes-high b) (resistance-span b))
-
-scaled-requires-2 : tie.Need-scaled-requires-2
-scaled-requires-2 c κs =
-    let r = c .before in
-    let b = r .before .before .pre in
-    rw (r .resistance .ensures, r .before .grid-current .ensures) (scaled-fits 1000000 (lit< tt) (lit< tt) (rest-high b) (resistance-span b))
-
-outward-requires : tie.Need-outward-requires
-outward-requires c κs =
-    let r = c .before .before in
-    let b = r .before .before .pre in
-    rw (c .scaled2 .ensures, r .resistance .ensures, r .before .grid-current .ensures) (outward-fits (lit< tt) (lit< tt) (rest-span b))
-
-sum-requires : tie.Need-sum-requires
-sum-requires c κs =
+wide-product-requires : tie.Need-wide-product-requires
+wide-product-requires c κs =
     let s = c .before .before in
-    let r = s .before in
-    let b = r .before .before .pre in
-    rw (s .scaled .ensures, c .outward .ensures, c .before .scaled2 .ensures, r .resistance .ensures, r .before .grid-current .ensures)
-    (sum-fits (lit< tt) (amperes-span b) (rest-outward-span b))
-
-outward-requires-2 : tie.Need-outward-requires-2
-outward-requires-2 c κs =
-    let o = c .before in
-    let s = o .before .before in
-    let r = s .before in
-    let b = r .before .before .pre in
-    rw (c .sum .ensures, s .scaled .ensures, o .outward .ensures, o .before .scaled2 .ensures, r .resistance .ensures, r .before .grid-current .ensures)
-    (outward-fits (lit< tt) (lit< tt) (parts-span b))
+    rw (c .point .ensures, c .before .grid-current .ensures, s .pre .1) (rise-wide (s .pre .0))
 
 returns : tie.Need-returns
 unfolding riseEnds
-returns c = cc
+returns c =
+    let g = c .before .before in
+    rw (c .wide-product .ensures, c .before .point .ensures, g .grid-current .ensures, g .before .pre .1)
 
 pub potential-rise-spec : {M : Type 1} → statement M
-potential-rise-spec =
-    tie.close
-    (tie.spec
-    grid-current-requires
-    resistance-requires
-    mul-scaled
-    scaled-requires
-    scaled-requires-2
-    outward-requires
-    sum-requires
-    outward-requires-2
-    returns)
+potential-rise-spec = tie.close (tie.spec grid-current-requires point-requires wide-product-requires returns)

@@ -1,31 +1,23 @@
--- `width_term` keeps within 64 bits by the bounds of the side.
+-- `width_term` keeps within 64 bits by the spans of its parts.
 -- Assumes nothing.
-use lib.Dec.{lit≤, lit<}
-use Rattle.interval.proofs.SpanFits.{scaled-fits, outward-fits}
-use Rattle.interval.proofs.Span.{span-scaled}
-use Rattle.lengths.proofs.Lengths.{side-bounds}
+use lib.Dec.{lit<}
+use Rattle.interval.proofs.SpanFits.{product-fits}
 use Rattle.resistance.specs.Ends.{widthEnds}
-use Rattle.resistance.proofs.Spans.{twenty-span, side-scaled}
+use Rattle.resistance.proofs.Spans.{twenty-span, side-span}
 use borrow.Author.Needs.{needs}
 use Rattle.resistance.proofs.width_term.Statement.{statement}
 use Rattle.resistance.proofs.width_term.Tie as tie
 
+side-term-requires : tie.Need-side-term-requires
+side-term-requires c κs = search needs
+
 root-twenty-requires : tie.Need-root-twenty-requires
 root-twenty-requires c κs = search needs
 
-side-length-requires : tie.Need-side-length-requires
-side-length-requires c κs = search needs
-
-scaled-requires : tie.Need-scaled-requires
-scaled-requires c κs =
-    rw (c .before .root-twenty .ensures, c .side-length .ensures)
-    (scaled-fits 720000 (lit< tt) (lit< tt) (side-bounds (c .before .before .pre) .high) twenty-span)
-
-outward-requires : tie.Need-outward-requires
-outward-requires c κs =
-    let d = c .before in
-    rw (c .scaled .ensures, d .before .root-twenty .ensures, d .side-length .ensures)
-    (outward-fits (lit< tt) (lit< tt) (side-scaled (d .before .before .pre)))
+product-requires : tie.Need-product-requires
+product-requires c κs =
+    rw (c .root-twenty .ensures, c .before .side-term .ensures)
+    (product-fits (lit< tt) (lit< tt) (side-span (c .before .before .pre)) twenty-span)
 
 returns : tie.Need-returns
 unfolding widthEnds
@@ -33,5 +25,4 @@ returns c = cc
 
 pub width-term-spec : {M : Type 1} → statement M
 width-term-spec =
-    tie.close
-    (tie.spec root-twenty-requires side-length-requires scaled-requires outward-requires returns)
+    tie.close (tie.spec side-term-requires root-twenty-requires product-requires returns)

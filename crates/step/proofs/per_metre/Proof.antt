@@ -1,10 +1,10 @@
 -- `per_metre` is a quotient of two whole numbers.
 -- Assumes nothing.
 use native.Mathlib.Omega.{arith}
-use lib.Dec.{lit<}
-use Rattle.interval.proofs.Sizes.{size-point}
+use lib.Dec.{lit≤, lit<}
+use Rattle.interval.proofs.Span.{span-point}
+use Rattle.interval.proofs.SpanFits.{quotient-fits}
 use Rattle.step.specs.Ends.{perMetre}
-use Rattle.step.proofs.Spans.{point-divisor}
 use borrow.Author.Needs.{needs}
 use Rattle.step.proofs.per_metre.Statement.{statement}
 use Rattle.step.proofs.per_metre.Tie as tie
@@ -18,8 +18,9 @@ point-requires-2 c κs = search needs
 quotient-requires : tie.Need-quotient-requires
 quotient-requires c κs =
     let s = c .before .before in
-    rw (c .point2 .ensures, c .before .point .ensures, size-point (s .args .a))
-    (point-divisor (s .args .d) (omega arith), (lit< tt, omega arith))
+    rw (c .point2 .ensures, c .before .point .ensures)
+    (quotient-fits (lit< tt) (lit< tt) (lit≤ tt) (span-point (s .args .a) {l = 0} {h = 8388607} (omega arith) (omega arith))
+    (span-point (s .args .d) {l = 1} {h = s .args .d} (omega arith) (omega arith)))
 
 returns : tie.Need-returns
 unfolding perMetre

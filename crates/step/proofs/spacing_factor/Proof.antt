@@ -1,11 +1,10 @@
 -- `spacing_factor` divides by π.
 -- Assumes nothing.
-use native.Mathlib.Omega.{arith}
 use lib.Dec.{lit≤, lit<}
-use Rattle.interval.proofs.Span.{span-size, span-divisor}
+use Rattle.interval.proofs.SpanFits.{quotient-fits}
 use Rattle.enclosure.proofs.Constants.{π-span}
 use Rattle.step.specs.Ends.{spacingFactor}
-use Rattle.step.proofs.Spans.{sum-span}
+use Rattle.step.proofs.FactorSpans.{sum-span}
 use borrow.Author.Needs.{needs}
 use Rattle.step.proofs.spacing_factor.Statement.{statement}
 use Rattle.step.proofs.spacing_factor.Tie as tie
@@ -19,7 +18,7 @@ pi-requires c κs = search needs
 quotient-requires : tie.Need-quotient-requires
 quotient-requires c κs =
     rw (c .pi .ensures, c .before .spacing-sum .ensures)
-    (span-divisor (lit≤ tt) π-span, (lit< tt, omega (arith, span-size (sum-span (c .before .before .pre)))))
+    (quotient-fits (lit< tt) (lit< tt) (lit≤ tt) (sum-span (c .before .before .pre .0)) π-span)
 
 returns : tie.Need-returns
 unfolding spacingFactor

@@ -1,12 +1,10 @@
 -- `spacing_sum` keeps within 64 bits by the spans of its three parts.
 -- Assumes nothing.
-use native.Mathlib.Omega.{arith}
 use lib.Dec.{lit<}
-use Rattle.interval.proofs.Fits.{fits-below}
-use Rattle.interval.proofs.Span.{span-size, span-sum}
+use Rattle.interval.proofs.Span.{span-sum}
+use Rattle.interval.proofs.SpanFits.{sum-fits}
 use Rattle.step.specs.Ends.{reach, spacingSum}
-use Rattle.step.proofs.Spans.{depth-span, reach-span, lines-bounds, lines-span}
-use Rattle.step.proofs.HalfPowers.{power-bounds}
+use Rattle.step.proofs.FactorSpans.{depth-span, reach-span, share-span}
 use borrow.Author.Needs.{needs}
 use Rattle.step.proofs.spacing_sum.Statement.{statement}
 use Rattle.step.proofs.spacing_sum.Tie as tie
@@ -16,9 +14,6 @@ cast-depth c = search needs
 
 cast-space : tie.Need-cast-space
 cast-space c = search needs
-
-half-power-requires : tie.Need-half-power-requires
-half-power-requires c κs = search needs
 
 mul-per-metre : tie.Need-mul-per-metre
 mul-per-metre c = search needs
@@ -35,36 +30,21 @@ per-metre-requires-2 c κs = search needs
 sum-requires : tie.Need-sum-requires
 unfolding reach
 sum-requires c κs =
-    let h = c .before .before in
-    let b = h .before .before .before .pre in
-    rw (c .per-metre2 .ensures, c .before .per-metre .ensures)
-    (omega (arith, span-size (depth-span b), span-size (reach-span b)))
+    let p = c .before in
+    let b = p .before .before .before .pre .0 in
+    rw (c .per-metre2 .ensures, p .per-metre .ensures) (sum-fits (lit< tt) (depth-span b) (reach-span b))
 
-sub-per-metre : tie.Need-sub-per-metre
-sub-per-metre c =
-    let h = c .before .before .before in
-    rw (h .half-power .ensures) (power-bounds (h .before .before .before .pre) .low)
-
-mul-per-metre-2 : tie.Need-mul-per-metre-2
-mul-per-metre-2 c =
-    let h = c .before .before .before in
-    rw (h .half-power .ensures) (fits-below (lines-bounds (h .before .before .before .pre) .high) (lit< tt))
-
-per-metre-requires-3 : tie.Need-per-metre-requires-3
-per-metre-requires-3 c κs =
-    let h = c .before .before .before in
-    let b = h .before .before .before .pre in
-    let d = lines-bounds b in
-    rw (h .half-power .ensures) (omega (arith, power-bounds b .low, power-bounds b .high), (omega (arith, d .low), omega (arith, d .high)))
+spacing-share-requires : tie.Need-spacing-share-requires
+spacing-share-requires c κs = search needs
 
 sum-requires-2 : tie.Need-sum-requires-2
 unfolding reach
 sum-requires-2 c κs =
-    let p = c .before .before in
-    let h = p .before .before in
-    let b = h .before .before .before .pre in
-    rw (c .per-metre3 .ensures, c .before .sum .ensures, p .per-metre2 .ensures, p .before .per-metre .ensures, h .half-power .ensures)
-    (omega (arith, span-size (span-sum (depth-span b) (reach-span b)), span-size (lines-span b)))
+    let q = c .before .before in
+    let p = q .before in
+    let b = p .before .before .before .pre .0 in
+    rw (c .spacing-share .ensures, c .before .sum .ensures, q .per-metre2 .ensures, p .per-metre .ensures)
+    (sum-fits (lit< tt) (span-sum (depth-span b) (reach-span b)) (share-span b))
 
 returns : tie.Need-returns
 unfolding reach spacingSum
@@ -76,14 +56,11 @@ spacing-sum-spec =
     (tie.spec
     cast-depth
     cast-space
-    half-power-requires
     mul-per-metre
     per-metre-requires
     add-per-metre
     per-metre-requires-2
     sum-requires
-    sub-per-metre
-    mul-per-metre-2
-    per-metre-requires-3
+    spacing-share-requires
     sum-requires-2
     returns)

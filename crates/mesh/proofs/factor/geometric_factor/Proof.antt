@@ -26,14 +26,14 @@ inner-term-requires c κs = search needs
 sum-requires : tie.Need-sum-requires
 sum-requires c κs =
     let s = c .before .before .before .before in
-    rw (c .inner-term .ensures, c .before .argument-log .ensures) (omega (arith, span-size (argument-span (s .pre)), term-size (s .pre)))
+    rw (c .inner-term .ensures, c .before .argument-log .ensures) (omega (arith, span-size (argument-span (s .pre .0)), term-size (s .pre .0)))
 
 quotient-requires : tie.Need-quotient-requires
 quotient-requires c κs =
     let l = c .before .before in
     let s = l .before .before .before in
     rw (c .sum .ensures, c .before .inner-term .ensures, l .argument-log .ensures, l .before .scaled .ensures, l .before .before .pi .ensures)
-    (span-divisor (lit≤ tt) turn-span, (lit< tt, omega (arith, span-size (total-span (s .pre)))))
+    (span-divisor (lit≤ tt) turn-span, (lit< tt, omega (arith, span-size (total-span (s .pre .0)))))
 
 returns : tie.Need-returns
 unfolding geometricFactor

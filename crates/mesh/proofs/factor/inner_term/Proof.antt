@@ -3,9 +3,12 @@
 use native.Mathlib.Omega.{arith}
 use native.Mathlib.Nat.{mul-le-mul}
 use lib.Dec.{lit≤, lit<}
-use Rattle.interval.proofs.Span.{span-size, span-divisor}
+use Rattle.interval.proofs.Span.{span-size}
+use Rattle.interval.proofs.SpanFits.{quotient-fits}
+use Rattle.conductors.proofs.NumberSpans.{n-span}
+use Rattle.conductors.proofs.NumberEnclosed.{counts}
 use Rattle.mesh.specs.Factor.{innerTerm}
-use Rattle.mesh.proofs.FactorSpans.{depth-span, inner-span, ratio-span, spread-size}
+use Rattle.mesh.proofs.FactorSpans.{depth-span, inner-factor-span, ratio-span, spread-size}
 use borrow.Author.Needs.{needs}
 use Rattle.mesh.proofs.factor.inner_term.Statement.{statement}
 use Rattle.mesh.proofs.factor.inner_term.Tie as tie
@@ -20,21 +23,23 @@ quotient-requires : tie.Need-quotient-requires
 quotient-requires c κs =
     let s = c .before .before in
     rw (c .depth-factor .ensures, c .before .inner-factor .ensures)
-    (span-divisor (lit≤ tt) (depth-span (s .pre)), (lit< tt, omega (arith, span-size (inner-span (s .pre)))))
+    (quotient-fits (lit< tt) (lit< tt) (lit≤ tt) (inner-factor-span (s .pre .0)) (depth-span (s .pre .0)))
 
 spread-requires : tie.Need-spread-requires
-spread-requires c κs = search needs
+spread-requires c κs =
+    let s = c .before .before .before in
+    rw (s .pre .1) (n-span (counts (s .pre .0)))
 
 product-requires : tie.Need-product-requires
 product-requires c κs =
     let q = c .before in
     let s = q .before .before .before in
-    rw (c .spread .ensures, q .quotient .ensures, q .before .depth-factor .ensures, q .before .before .inner-factor .ensures)
-    (lit< tt, omega (arith, mul-le-mul (span-size (ratio-span (s .pre))) (spread-size (s .pre))))
+    rw (c .spread .ensures, q .quotient .ensures, q .before .depth-factor .ensures, q .before .before .inner-factor .ensures, s .pre .1)
+    (lit< tt, omega (arith, mul-le-mul (span-size (ratio-span (s .pre .0))) (spread-size (s .pre .0))))
 
 returns : tie.Need-returns
 unfolding innerTerm
-returns c = cc
+returns c = let s = c .before .before .before .before .before in cc (s .pre .1)
 
 pub inner-term-spec : {M : Type 1} → statement M
 inner-term-spec =

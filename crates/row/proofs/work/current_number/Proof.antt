@@ -1,8 +1,7 @@
 -- `current_number` is the number as a signed one; it fits.
 -- Assumes nothing.
-use Rattle.current.proofs.DrivingProduct.{current-bounds}
-use Prim.Native.Nat.{_<_, _^_}
-use mathlib.Core.Path.{_≡_, ap}
+use Rattle.current.proofs.GridCurrent.{current-bounds}
+use mathlib.Core.Path.{ap}
 use native.Mathlib.Omega.{arith}
 use lib.IntN.{pos}
 use mir.Syntax.{w64}

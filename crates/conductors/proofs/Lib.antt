@@ -1,0 +1,9 @@
+pub mod Rules
+pub mod Table
+pub mod NumberSpans
+pub mod WeightSpans
+pub mod LineRoots
+pub mod CodeBounds
+pub mod WeightWidths
+pub mod NumberEnclosed
+pub mod WeightsEnclosed

@@ -1,0 +1,264 @@
+-- What depends on the two counts alone, at all 576 pairs of counts: one computed test of n, Ki, ln(8/(π(2n−1))) and the exponent of the inner weight.
+-- Assumes nothing.
+use Prim.Native.Nat.{ℕ, zero, suc, _+_, _-_, _*_, _/_, _^_, min, _≤_, _<_}
+use mathlib.Core.Path.{_≡_}
+use mathlib.Core.Bool.{false, cond}
+use mathlib.Core.List.{List, [], _∷_}
+use native.Mathlib.Omega.{arith}
+use native.Mathlib.Decide.{decLe}
+use lib.Dec.{eqb}
+use Rattle.interval.specs.Root.{IsRoot}
+use Rattle.interval.specs.Whole.{ceilDiv}
+use Rattle.exact.specs.Fraction.{choose}
+use Rattle.exact.specs.Exponential.{leastFrom}
+use Rattle.enclosure.specs.Pi.{πBelow, πAbove}
+use Rattle.logarithm.specs.Series.{squareOf, powerOf, termOf, termsOf}
+use Rattle.logarithm.specs.Ends.{doublings, nearOf, endOf}
+use Rattle.logarithm.proofs.KnownHalvings.{lowBy, highBy}
+use Rattle.conductors.specs.Counts.{Counts, spacings, halfPerimeter, meshes}
+use Rattle.conductors.specs.Number.{ratioLow, ratioHigh}
+use Rattle.conductors.specs.Weights.{eight}
+use Rattle.conductors.proofs.Rules.{Rule, _≼_, Kept, at-counts}
+
+-- ---- what is computed
+
+-- a square root by Newton's steps from above; the test shows that it is one
+newton : ℕ → ℕ → ℕ → ℕ
+newton x zero y = y
+newton x (suc steps) y = newton x steps (min y ((y + x / y) / 2))
+
+root : ℕ → ℕ
+root x = newton x 14 4000000000
+
+-- m with q 2^m ≤ p < q 2^(m+1), counted up
+pub halved : ℕ → ℕ → ℕ
+halved p q = leastFrom (λ m. 2 * (q * 2 ^ m)) (p + 1) 6 0
+
+-- the lower and the upper end of ln(p/q)
+unfoldable pub lnLow : ℕ → ℕ → ℕ
+lnLow p q = lowBy (halved p q) p q
+
+unfoldable pub lnHigh : ℕ → ℕ → ℕ
+lnHigh p q = highBy (halved p q) p q
+
+module _ (a b : ℕ) where
+  -- √meshes in 10^−8
+  pub rootAt : ℕ
+  rootAt = root (meshes a b * 10 ^ 16)
+
+  -- nb in 10^−9, from below, and from above less one
+  pub nbLow : ℕ
+  nbLow = root (ratioLow (halfPerimeter a b) rootAt * 10 ^ 9)
+
+  pub nbHigh : ℕ
+  nbHigh = root (ratioHigh (halfPerimeter a b) rootAt * 10 ^ 9)
+
+  -- n in 10^−7
+  unfoldable pub nLow : ℕ
+  nLow = cond (eqb a b) (a * 10 ^ 7) (nbLow * spacings a b / (100 * halfPerimeter a b))
+
+  unfoldable pub nHigh : ℕ
+  nHigh = cond (eqb a b) (a * 10 ^ 7) (ceilDiv ((nbHigh + 1) * spacings a b) (100 * halfPerimeter a b))
+
+-- π(2n−1) in 10^−12
+abbrev pub oddLow : ℕ → ℕ
+oddLow n = πBelow * (n * 2 - 10000000) / 10000
+
+abbrev pub oddHigh : ℕ → ℕ
+oddHigh n = ceilDiv (πAbove * (n * 2 - 10000000)) 10000
+
+-- (2/n)·ln(2n) in 10^−9, from the ends l and h of n and of ln(2n)
+abbrev pub exponentLow : ℕ → ℕ → ℕ
+exponentLow h log = 20000000 * 1000000000 / h * log / 1000000000
+
+abbrev pub exponentHigh : ℕ → ℕ → ℕ
+exponentHigh l log = ceilDiv (ceilDiv (20000000 * 1000000000) l * log) 1000000000
+
+-- ---- the rules
+
+-- r is the root of x
+abbrev isRoot : ℕ → ℕ → List Rule → List Rule
+isRoot x r more = (r * r ≼ x) ∷ (x + 1 ≼ (r + 1) * (r + 1)) ∷ more
+
+-- of the roots r of the meshes, x and y of the ratio's ends
+rootRules : (half mesh r x y : ℕ) → List Rule
+rootRules half mesh r x y =
+    isRoot (mesh * 10 ^ 16) r
+    (isRoot (ratioLow half r * 10 ^ 9) x
+    (isRoot (ratioHigh half r * 10 ^ 9) y
+    ((1 ≼ r) ∷ (r ≼ 2400000000) ∷ (x ≼ y) ∷ (y ≼ 1600000000) ∷ [])))
+
+-- of n from l to h: its size and width; Ki against the conductors, and against Ki of na
+numberRules : (least spacing half l h : ℕ) → List Rule
+numberRules least spacing half l h =
+    (least ≼ l)
+    ∷ (l ≼ h)
+    ∷ (h ≼ l + 2)
+    ∷ (h ≼ 250000000)
+    ∷ (6440000000 + 148 * h ≼ 2350000000 * spacing)
+    ∷ (100 * half * (6440000000 + 148 * l) ≼ 1240000000 * (644 * half + 148 * spacing))
+    ∷ []
+
+-- q 2^m is t, the greatest that is not above p
+abbrev isHalved : ℕ → ℕ → List Rule → List Rule
+isHalved p t more = (t ≼ p) ∷ (p + 1 ≼ 2 * t) ∷ more
+
+-- of π(2n−1) from p to q, with 8 2^m for each, and of the logarithm from e to f
+spreadRules : (p s q t e f : ℕ) → List Rule
+spreadRules p s q t e f =
+    isHalved p s (isHalved q t ((eight + 1 ≼ p) ∷ (q ≼ 1000000000000000) ∷ (e ≼ f) ∷ (f ≼ e + 60) ∷ (f ≼ 2960000000) ∷ []))
+
+-- of 2n from p to q in 10^−7, with 10^7 2^m for each, of its logarithm from g to k, and of the exponent from e to f
+exponentRules : (p s q t g k e f : ℕ) → List Rule
+exponentRules p s q t g k e f =
+    isHalved p s (isHalved q t ((g ≼ k) ∷ (65536 ≼ e) ∷ (e ≼ f) ∷ (f ≼ e + 95) ∷ (f ≼ 1400000000) ∷ []))
+
+-- ---- at each two counts
+
+rootRulesAt : ℕ → ℕ → List Rule
+rootRulesAt a b = rootRules (halfPerimeter a b) (meshes a b) (rootAt a b) (nbLow a b) (nbHigh a b)
+
+numberRulesAt : ℕ → ℕ → List Rule
+numberRulesAt a b = numberRules (cond (eqb a b) 20000000 24000000) (spacings a b) (halfPerimeter a b) (nLow a b) (nHigh a b)
+
+-- by the ends of π(2n−1)
+spreadRulesOf : ℕ → ℕ → List Rule
+spreadRulesOf p q = spreadRules p (eight * 2 ^ halved p eight) q (eight * 2 ^ halved q eight) (lnLow p eight) (lnHigh q eight)
+
+spreadRulesAt : ℕ → ℕ → List Rule
+spreadRulesAt a b = spreadRulesOf (oddLow (nLow a b)) (oddHigh (nHigh a b))
+
+-- by the ends of n and of ln(2n)
+exponentRulesBy : (l h g k : ℕ) → List Rule
+exponentRulesBy l h g k =
+    exponentRules (l * 2) (10000000 * 2 ^ halved (l * 2) 10000000) (h * 2) (10000000 * 2 ^ halved (h * 2) 10000000) g k (exponentLow h g)
+    (exponentHigh l k)
+
+exponentRulesOf : ℕ → ℕ → List Rule
+exponentRulesOf l h = exponentRulesBy l h (lnLow (l * 2) 10000000) (lnHigh (h * 2) 10000000)
+
+exponentRulesAt : ℕ → ℕ → List Rule
+exponentRulesAt a b = cond (eqb a b) [] (exponentRulesOf (nLow a b) (nHigh a b))
+
+-- what the test computes with, opened by name
+computed : ℕ
+unfolding newton root halved lnLow lnHigh rootAt nbLow nbHigh nLow nHigh spacings halfPerimeter meshes ceilDiv choose decLe leastFrom squareOf powerOf termOf termsOf doublings nearOf endOf rootRules numberRules spreadRules spreadRulesOf exponentRules exponentRulesBy exponentRulesOf
+computed = 0
+
+-- ---- what the test shows
+
+pub record Roots (a b : ℕ) : Type 0 where
+  pub mesh : IsRoot (meshes a b * 10 ^ 16) (rootAt a b)
+  pub low : IsRoot (ratioLow (halfPerimeter a b) (rootAt a b) * 10 ^ 9) (nbLow a b)
+  pub high : IsRoot (ratioHigh (halfPerimeter a b) (rootAt a b) * 10 ^ 9) (nbHigh a b)
+  pub some : 1 ≤ rootAt a b
+  pub few : rootAt a b ≤ 2400000000
+  pub order : nbLow a b ≤ nbHigh a b
+  pub most : nbHigh a b ≤ 1600000000
+
+pub record Number (a b : ℕ) : Type 0 where
+  pub least : cond (eqb a b) 20000000 24000000 ≤ nLow a b
+  pub order : nLow a b ≤ nHigh a b
+  pub near : nHigh a b ≤ nLow a b + 2
+  pub most : nHigh a b ≤ 250000000
+  -- Ki is at most 0.235 of the conductors in spacings
+  pub by-length : 6440000000 + 148 * nHigh a b ≤ 2350000000 * spacings a b
+  -- Ki is at most 1.24 times Ki of na
+  pub by-na : 100 * halfPerimeter a b * (6440000000 + 148 * nLow a b) ≤ 1240000000 * (644 * halfPerimeter a b + 148 * spacings a b)
+
+-- p over q lies from 2^m to 2^(m+1), for the m that is counted up
+pub record Halved (p q : ℕ) : Type 0 where
+  pub low : q * 2 ^ halved p q ≤ p
+  pub high : p < 2 * (q * 2 ^ halved p q)
+
+-- of π(2n−1) over 8, for π(2n−1) from p to q
+pub record Spread (p q : ℕ) : Type 0 where
+  pub low : Halved p eight
+  pub high : Halved q eight
+  pub above : eight < p
+  pub inside : q ≤ 1000000000000000
+  pub order : lnLow p eight ≤ lnHigh q eight
+  pub near : lnHigh q eight ≤ lnLow p eight + 60
+  pub most : lnHigh q eight ≤ 2960000000
+
+-- of the inner weight's exponent, for n from l to h
+pub record Exponent (l h : ℕ) : Type 0 where
+  pub low : Halved (l * 2) 10000000
+  pub high : Halved (h * 2) 10000000
+  pub log-order : lnLow (l * 2) 10000000 ≤ lnHigh (h * 2) 10000000
+  pub least : 65536 ≤ exponentLow h (lnLow (l * 2) 10000000)
+  pub order : exponentLow h (lnLow (l * 2) 10000000) ≤ exponentHigh l (lnHigh (h * 2) 10000000)
+  pub near : exponentHigh l (lnHigh (h * 2) 10000000) ≤ exponentLow h (lnLow (l * 2) 10000000) + 95
+  pub most : exponentHigh l (lnHigh (h * 2) 10000000) ≤ 1400000000
+
+module _ {a b : ℕ} (h : Counts a b) where
+  kept-roots : Kept (rootRulesAt a b)
+  unfolding computed rootRulesAt
+  kept-roots = at-counts rootRulesAt tt h
+
+  pub roots-known : Roots a b
+  unfolding rootRulesAt rootRules
+  roots-known =
+      let k = kept-roots in
+      record {
+        mesh = record { low = k .0; high = omega (arith, k .1 .0) };
+        low = record { low = k .1 .1 .0; high = omega (arith, k .1 .1 .1 .0) };
+        high = record { low = k .1 .1 .1 .1 .0; high = omega (arith, k .1 .1 .1 .1 .1 .0) };
+        some = k .1 .1 .1 .1 .1 .1 .0;
+        few = k .1 .1 .1 .1 .1 .1 .1 .0;
+        order = k .1 .1 .1 .1 .1 .1 .1 .1 .0;
+        most = k .1 .1 .1 .1 .1 .1 .1 .1 .1 .0;
+      }
+
+  kept-number : Kept (numberRulesAt a b)
+  unfolding computed numberRulesAt
+  kept-number = at-counts numberRulesAt tt h
+
+  pub number-known : Number a b
+  unfolding numberRulesAt numberRules
+  number-known =
+      let k = kept-number in
+      record {
+        least = k .0;
+        order = k .1 .0;
+        near = k .1 .1 .0;
+        most = k .1 .1 .1 .0;
+        by-length = k .1 .1 .1 .1 .0;
+        by-na = k .1 .1 .1 .1 .1 .0;
+      }
+
+  kept-spread : Kept (spreadRulesAt a b)
+  unfolding computed spreadRulesAt
+  kept-spread = at-counts spreadRulesAt tt h
+
+  pub spread-known : Spread (oddLow (nLow a b)) (oddHigh (nHigh a b))
+  unfolding spreadRulesAt spreadRulesOf spreadRules
+  spread-known =
+      let k = kept-spread in
+      record {
+        low = record { low = k .0; high = omega (arith, k .1 .0) };
+        high = record { low = k .1 .1 .0; high = omega (arith, k .1 .1 .1 .0) };
+        above = omega (arith, k .1 .1 .1 .1 .0);
+        inside = k .1 .1 .1 .1 .1 .0;
+        order = k .1 .1 .1 .1 .1 .1 .0;
+        near = k .1 .1 .1 .1 .1 .1 .1 .0;
+        most = k .1 .1 .1 .1 .1 .1 .1 .1 .0;
+      }
+
+  kept-exponent : Kept (exponentRulesAt a b)
+  unfolding computed exponentRulesAt
+  kept-exponent = at-counts exponentRulesAt tt h
+
+  pub exponent-known : eqb a b ≡ false → Exponent (nLow a b) (nHigh a b)
+  unfolding exponentRulesAt exponentRulesOf exponentRulesBy exponentRules
+  exponent-known e =
+      let k : Kept (exponentRulesOf (nLow a b) (nHigh a b)) = rw e at kept-exponent in
+      record {
+        low = record { low = k .0; high = omega (arith, k .1 .0) };
+        high = record { low = k .1 .1 .0; high = omega (arith, k .1 .1 .1 .0) };
+        log-order = k .1 .1 .1 .1 .0;
+        least = k .1 .1 .1 .1 .1 .0;
+        order = k .1 .1 .1 .1 .1 .1 .0;
+        near = k .1 .1 .1 .1 .1 .1 .1 .0;
+        most = k .1 .1 .1 .1 .1 .1 .1 .1 .0;
+      }

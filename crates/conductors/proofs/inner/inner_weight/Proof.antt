@@ -1,0 +1,67 @@
+-- `inner_weight` is one over the root of a square, else the exponential of an exponent inside its range.
+-- Assumes nothing.
+use native.Mathlib.Omega.{arith}
+use lib.Dec.{lit≤, lit<}
+use borrow.Author.Tests.{eq-eqb, ne-eqb}
+use Rattle.interval.proofs.Span.{span-point, span-wider}
+use Rattle.interval.proofs.SpanFits.{quotient-fits}
+use Rattle.conductors.specs.Weights.{innerEnds}
+use Rattle.conductors.proofs.WeightSpans.{exponent-span}
+use Rattle.conductors.proofs.LineRoots.{root-known, line-root-span}
+use borrow.Author.Needs.{needs}
+use Rattle.conductors.proofs.inner.inner_weight.Statement.{statement}
+use Rattle.conductors.proofs.inner.inner_weight.Tie as tie
+
+lines-root-requires : tie.Need-lines-root-requires
+lines-root-requires c κs = c .before .pre .0 .across
+
+point-requires : tie.Need-point-requires
+point-requires c κs = search needs
+
+add-natural : tie.Need-add-natural
+add-natural c =
+    let r = c .before in
+    rw (r .lines-root .ensures) (record { fits = omega (arith, root-known (r .before .before .pre .0 .across) .to) })
+
+natural-requires : tie.Need-natural-requires
+natural-requires c κs =
+    let r = c .before in
+    let k = root-known (r .before .before .pre .0 .across) .to in
+    rw (r .lines-root .ensures) (omega (arith, k), omega (arith, k))
+
+quotient-requires : tie.Need-quotient-requires
+quotient-requires c κs =
+    let p = c .before in
+    let r = p .before in
+    rw (c .natural .ensures, p .point .ensures, r .lines-root .ensures)
+    (quotient-fits (lit< tt) (lit< tt) (lit≤ tt) (span-point 1000000000 {l = 0} {h = 1000000000} (lit≤ tt) (lit≤ tt))
+    (line-root-span (r .before .before .pre .0 .across)))
+
+returns : tie.Need-returns
+unfolding innerEnds
+returns c = rw (eq-eqb _ _ (c .before .before .before .before .if1 .taken)) (cc)
+
+exponent-requires : tie.Need-exponent-requires
+exponent-requires c κs = search needs
+
+exp-pair-requires : tie.Need-exp-pair-requires
+exp-pair-requires c κs =
+    rw (c .exponent .ensures) (span-wider (exponent-span (c .before .before .pre .1)) (lit≤ tt) (lit≤ tt) (lit≤ tt))
+
+returns-2 : tie.Need-returns-2
+unfolding innerEnds
+returns-2 c = rw (ne-eqb _ _ (c .before .before .if1 .left)) (cc)
+
+pub inner-weight-spec : {M : Type 1} → statement M
+inner-weight-spec =
+    tie.close
+    (tie.spec
+    lines-root-requires
+    point-requires
+    add-natural
+    natural-requires
+    quotient-requires
+    returns
+    exponent-requires
+    exp-pair-requires
+    returns-2)

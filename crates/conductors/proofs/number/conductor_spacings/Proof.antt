@@ -1,0 +1,40 @@
+-- `conductor_spacings` fits by the bounds of its sum.
+-- Assumes nothing.
+use mathlib.Core.Path.{refl}
+use native.Mathlib.Omega.{arith}
+use Rattle.conductors.specs.Counts.{spacings}
+use Rattle.conductors.proofs.NumberSpans.{spacings-bounds}
+use borrow.Author.Needs.{needs}
+use Rattle.conductors.proofs.number.conductor_spacings.Statement.{statement}
+use Rattle.conductors.proofs.number.conductor_spacings.Tie as tie
+
+sub-result : tie.Need-sub-result
+sub-result c = search needs
+
+mul-result : tie.Need-mul-result
+unfolding spacings
+mul-result c = record { fits = omega (arith, spacings-bounds (c .pre) .high) }
+
+sub-result-2 : tie.Need-sub-result-2
+sub-result-2 c = search needs
+
+mul-result-2 : tie.Need-mul-result-2
+unfolding spacings
+mul-result-2 c = record { fits = omega (arith, spacings-bounds (c .pre) .high) }
+
+add-result : tie.Need-add-result
+unfolding spacings
+add-result c = record { fits = omega (arith, spacings-bounds (c .pre) .high) }
+
+cast-result : tie.Need-cast-result
+unfolding spacings
+cast-result c = record { fits = omega (arith, spacings-bounds (c .pre) .high) }
+
+returns : tie.Need-returns
+unfolding spacings
+returns c = refl
+
+pub conductor-spacings-spec : {M : Type 1} → statement M
+conductor-spacings-spec =
+    tie.close
+    (tie.spec sub-result mul-result sub-result-2 mul-result-2 add-result cast-result returns)

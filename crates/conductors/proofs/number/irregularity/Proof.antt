@@ -1,0 +1,28 @@
+-- `irregularity` keeps within 64 bits by the span of n.
+-- Assumes nothing.
+use lib.Dec.{lit≤, lit<}
+use Rattle.interval.proofs.Span.{span-point, span-scaled}
+use Rattle.interval.proofs.SpanFits.{sum-fits, scaled-fits}
+use Rattle.conductors.specs.Number.{KiEnds}
+use borrow.Author.Needs.{needs}
+use Rattle.conductors.proofs.number.irregularity.Statement.{statement}
+use Rattle.conductors.proofs.number.irregularity.Tie as tie
+
+point-requires : tie.Need-point-requires
+point-requires c κs = search needs
+
+scaled-requires : tie.Need-scaled-requires
+scaled-requires c κs = scaled-fits 148 (lit< tt) (lit< tt) (lit≤ tt) (c .before .pre)
+
+sum-requires : tie.Need-sum-requires
+sum-requires c κs =
+    let p = c .before in
+    rw (c .scaled .ensures, p .point .ensures)
+    (sum-fits (lit< tt) (span-point 6440000000 {l = 0} {h = 6440000000} (lit≤ tt) (lit≤ tt)) (span-scaled 148 (p .before .pre)))
+
+returns : tie.Need-returns
+unfolding KiEnds
+returns c = cc
+
+pub irregularity-spec : {M : Type 1} → statement M
+irregularity-spec = tie.close (tie.spec point-requires scaled-requires sum-requires returns)

@@ -1,0 +1,55 @@
+-- `product` keeps within 64 bits by the spans of nb and of its multiple.
+-- Assumes nothing.
+use native.Mathlib.Omega.{arith}
+use lib.Dec.{lit<}
+use Rattle.interval.proofs.SpanFits.{scaled-fits, outward-fits}
+use Rattle.conductors.specs.Number.{productEnds}
+use Rattle.conductors.proofs.NumberSpans.{spacings-bounds, half-bounds, nb-span, scaled-span}
+use borrow.Author.Needs.{needs}
+use Rattle.conductors.proofs.number.product.Statement.{statement}
+use Rattle.conductors.proofs.number.product.Tie as tie
+
+conductor-spacings-requires : tie.Need-conductor-spacings-requires
+conductor-spacings-requires c κs = search needs
+
+half-perimeter-requires : tie.Need-half-perimeter-requires
+half-perimeter-requires c κs = search needs
+
+side-factor-requires : tie.Need-side-factor-requires
+side-factor-requires c κs = search needs
+
+scaled-requires : tie.Need-scaled-requires
+scaled-requires c κs =
+    let p = c .before .before in
+    let h = p .before .pre in
+    rw (c .side-factor .ensures, p .conductor-spacings .ensures)
+    (scaled-fits 1200 (lit< tt) (lit< tt) (spacings-bounds h .high) (nb-span h))
+
+mul-outward : tie.Need-mul-outward
+mul-outward c =
+    let f = c .before .before in
+    rw (f .half-perimeter .ensures) (record { fits = omega (arith, half-bounds (f .before .before .pre) .high) })
+
+outward-requires : tie.Need-outward-requires
+outward-requires c κs =
+    let f = c .before .before in
+    let p = f .before in
+    let h = p .before .pre in
+    rw (c .scaled .ensures, c .before .side-factor .ensures, f .half-perimeter .ensures, p .conductor-spacings .ensures)
+    (outward-fits (omega (arith, half-bounds h .low)) (lit< tt) (scaled-span h))
+
+returns : tie.Need-returns
+unfolding productEnds
+returns c = cc
+
+pub product-spec : {M : Type 1} → statement M
+product-spec =
+    tie.close
+    (tie.spec
+    conductor-spacings-requires
+    half-perimeter-requires
+    side-factor-requires
+    scaled-requires
+    mul-outward
+    outward-requires
+    returns)

@@ -1,0 +1,30 @@
+-- `spread` is minus a logarithm: π(2n−1) is above 8, and both are inside its range.
+-- Assumes nothing.
+use native.Mathlib.Omega.{arith}
+use lib.Dec.{lit≤}
+use Rattle.interval.proofs.Span.{span-size, span-wider}
+use Rattle.conductors.specs.Weights.{spreadEnds}
+use Rattle.conductors.proofs.WeightSpans.{odd-span, odd-log-span}
+use borrow.Author.Needs.{needs}
+use Rattle.conductors.proofs.weights.spread.Statement.{statement}
+use Rattle.conductors.proofs.weights.spread.Tie as tie
+
+odd-requires : tie.Need-odd-requires
+odd-requires c κs = search needs
+
+ln-pair-requires : tie.Need-ln-pair-requires
+ln-pair-requires c κs =
+    rw (c .odd .ensures)
+    (record { low = lit≤ tt; high = lit≤ tt }, span-wider (odd-span (c .before .pre)) (lit≤ tt) (lit≤ tt) (lit≤ tt))
+
+minus-requires : tie.Need-minus-requires
+minus-requires c κs =
+    let o = c .before in
+    rw (c .ln-pair .ensures, o .odd .ensures) (omega (arith, span-size (odd-log-span (o .before .pre))))
+
+returns : tie.Need-returns
+unfolding spreadEnds
+returns c = cc
+
+pub spread-spec : {M : Type 1} → statement M
+spread-spec = tie.close (tie.spec odd-requires ln-pair-requires minus-requires returns)

@@ -1,0 +1,21 @@
+-- The ends of ρ·Ki·IG, which mesh and step voltage share, by whole-number intervals. Names for the free part: callers use their laws.
+-- Assumes nothing.
+use Prim.Native.Nat.{_^_}
+use lib.IntN.{pos}
+use Rattle.interval.specs.declared.Interval.{Interval}
+use Rattle.interval.specs.Operations.{point, scaledOf, productOf}
+use Rattle.case.specs.declared.Case.{Case}
+use Rattle.formulas.specs.Current.{gridCurrent}
+use Rattle.conductors.specs.Number.{nEnds, KiEnds}
+
+-- n of a case, in 10^−7
+abbrev pub numberOf : Case → Interval
+numberOf c = nEnds (c .across) (c .along)
+
+-- ρ·IG in 10^−6
+unfoldable pub soilCurrent : Case → Interval
+soilCurrent c = scaledOf (point (pos (gridCurrent c))) (c .soil)
+
+-- ρ·Ki·IG in 10^−9
+unfoldable pub driveEnds : Case → Interval
+driveEnds c = productOf (KiEnds (numberOf c)) (soilCurrent c) (10 ^ 7)

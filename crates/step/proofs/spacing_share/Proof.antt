@@ -1,0 +1,85 @@
+-- `spacing_share` is by the power of two of a square, else by the half-power.
+-- Assumes nothing.
+use native.Mathlib.Omega.{arith}
+use lib.Dec.{lit≤, lit<}
+use borrow.Author.Tests.{eq-eqb, ne-eqb}
+use Rattle.interval.proofs.Fits.{fits-below}
+use Rattle.interval.proofs.SpanFits.{sum-fits, quotient-fits}
+use Rattle.conductors.proofs.NumberSpans.{n-span}
+use Rattle.conductors.proofs.NumberEnclosed.{counts}
+use Rattle.conductors.proofs.WeightWidths.{half-span}
+use Rattle.step.specs.Ends.{shareEnds}
+use Rattle.step.proofs.FactorSpans.{power-bounds, divisor-bounds, one-span, rest-span, space-span}
+use borrow.Author.Needs.{needs}
+use Rattle.step.proofs.spacing_share.Statement.{statement}
+use Rattle.step.proofs.spacing_share.Tie as tie
+
+cast-space : tie.Need-cast-space
+cast-space c = search needs
+
+power-of-two-requires : tie.Need-power-of-two-requires
+power-of-two-requires c κs = search needs
+
+sub-per-metre : tie.Need-sub-per-metre
+sub-per-metre c = rw (c .power-of-two .ensures) (power-bounds (c .before .before .before .before .pre .0) .low)
+
+mul-per-metre : tie.Need-mul-per-metre
+mul-per-metre c =
+    rw (c .power-of-two .ensures) (fits-below (divisor-bounds (c .before .before .before .before .pre .0) .high) (lit< tt))
+
+per-metre-requires : tie.Need-per-metre-requires
+per-metre-requires c κs =
+    let b = c .before .before .before .before .pre .0 in
+    let d = divisor-bounds b in
+    rw (c .power-of-two .ensures) (omega (arith, power-bounds b .low, power-bounds b .high), (omega (arith, d .low), omega (arith, d .high)))
+
+returns : tie.Need-returns
+unfolding shareEnds
+returns c = rw (eq-eqb _ _ (c .before .before .if1 .taken)) (cc)
+
+point-requires : tie.Need-point-requires
+point-requires c κs = search needs
+
+half-power-requires : tie.Need-half-power-requires
+half-power-requires c κs =
+    let s = c .before .before .before .before in
+    rw (s .pre .1) (n-span (counts (s .pre .0)))
+
+difference-requires : tie.Need-difference-requires
+difference-requires c κs =
+    let p = c .before in
+    let s = p .before .before .before .before in
+    rw (c .half-power .ensures, p .point .ensures, s .pre .1)
+    (sum-fits (lit< tt) one-span (half-span (counts (s .pre .0)) (ne-eqb _ _ (p .before .if1 .left))))
+
+point-requires-2 : tie.Need-point-requires-2
+point-requires-2 c κs = search needs
+
+quotient-requires : tie.Need-quotient-requires
+quotient-requires c κs =
+    let d = c .before in
+    let p = d .before .before in
+    let s = p .before .before .before .before in
+    rw (c .point2 .ensures, d .difference .ensures, d .before .half-power .ensures, p .point .ensures, s .pre .1)
+    (quotient-fits (lit< tt) (lit< tt) (lit≤ tt) (rest-span (s .pre .0) (ne-eqb _ _ (p .before .if1 .left))) (space-span (s .pre .0)))
+
+returns-2 : tie.Need-returns-2
+unfolding shareEnds
+returns-2 c = rw (ne-eqb _ _ (c .before .before .before .before .before .if1 .left)) (cc)
+
+pub spacing-share-spec : {M : Type 1} → statement M
+spacing-share-spec =
+    tie.close
+    (tie.spec
+    cast-space
+    power-of-two-requires
+    sub-per-metre
+    mul-per-metre
+    per-metre-requires
+    returns
+    point-requires
+    half-power-requires
+    difference-requires
+    point-requires-2
+    quotient-requires
+    returns-2)
