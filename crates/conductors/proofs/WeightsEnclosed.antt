@@ -31,8 +31,7 @@ use Rattle.enclosure.proofs.Roots.{encloses-root-of}
 use Rattle.enclosure.proofs.Constants.{π-encloses}
 use Rattle.logarithm.specs.Ends.{Inside, lnPair}
 use Rattle.logarithm.proofs.Pairs.{ln-pair-encloses, ln-over-encloses}
-use Rattle.exponential.specs.Ends.{expPair}
-use Rattle.exponential.proofs.Encloses.{exp-encloses}
+use Rattle.exponential.proofs.Encloses.{power-encloses}
 use Rattle.case.specs.declared.Case.{Case}
 use Rattle.case.specs.Bounds.{Bounds}
 use Rattle.formulas.specs.Lengths.{n}
@@ -55,11 +54,6 @@ squares-top m = omega arith
 squares-den : (m : ℕ) → (whole 4 ·f whole m ·f whole m) .den ≡ 1
 unfolding whole _·f_
 squares-den m = refl
-
--- e^−x by a pair of exponents
-power-encloses : {x : Exact} {i : Interval} {l h w : ℕ} → 1 ≤ l → Consistent x → Span i l h w → Encloses x (ten 9) i → Encloses (exp (minus x)) (ten 9) (expPair i)
-unfolding expPair natural
-power-encloses p c s e = rw (s .is) (exp-encloses (s .a) (s .b) (le-trans p (s .from)) c (rw (s .is) at e))
 
 -- a count of 2n in 10^−7 may have its logarithm asked
 inside : {m : ℕ} → 40000000 ≤ m → m ≤ 500000000 → Inside m

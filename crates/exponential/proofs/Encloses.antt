@@ -3,9 +3,11 @@
 use Prim.Native.Nat.{ℕ, _+_, _/_, _^_, _≤_, _<_}
 use mathlib.Core.Path.{refl}
 use native.Mathlib.Omega.{arith}
-use native.Mathlib.Nat.{add-zero, le-refl}
+use native.Mathlib.Nat.{add-zero, le-refl, le-trans}
 use lib.Dec.{lit<, lit≤}
+use Rattle.interval.specs.declared.Interval.{Interval}
 use Rattle.interval.specs.Operations.{natural}
+use Rattle.interval.specs.Span.{Span}
 use Rattle.exact.specs.Fraction.{Fraction, _≤f_, _<f_, whole, _+f_, _·f_, inv, _÷f_, powf, sumOf}
 use Rattle.exact.specs.Exact.{Exact, minus}
 use Rattle.exact.specs.Exponential.{factorial, expTerm, expTerms, small, exp}
@@ -22,7 +24,7 @@ use Rattle.exact.proofs.ExpUp.{slack, slack-positive, half-nonneg, terms-positi
 use Rattle.exact.proofs.Exponential.{inverse-high, exp-minus-within}
 use Rattle.exact.proofs.Rounding.{from-below, from-above, units-nonneg, units-sum}
 use Rattle.enclosure.specs.Enclosure.{Encloses}
-use Rattle.exponential.specs.Ends.{levels, halvingsOf, argumentOf, nestedOf, seriesOf, endOf, expEnds}
+use Rattle.exponential.specs.Ends.{levels, halvingsOf, argumentOf, nestedOf, seriesOf, endOf, expEnds, expPair}
 use Rattle.exponential.proofs.Rounded.{parts, parts≤, argument-toward, terms-toward, inverse-below, inverse-above, squared-toward}
 
 parts-pos : {s : ℕ} → 0 < s → whole 0 <f parts s
@@ -101,3 +103,8 @@ exp-encloses {x} a b h c e =
           (exp-minus-within {A = reported (ten 9) (natural a b)} j (record { positive = parts-pos h }) c (lit≤ tt) (e .within) (le-refl j))
           (record { low = end-below j b (small-high (parts b)); high = end-above j a });
     }
+
+-- the same by a pair of exponents
+pub power-encloses : {x : Exact} {i : Interval} {l h w : ℕ} → 1 ≤ l → Consistent x → Span i l h w → Encloses x (ten 9) i → Encloses (exp (minus x)) (ten 9) (expPair i)
+unfolding expPair natural
+power-encloses p c s e = rw (s .is) (exp-encloses (s .a) (s .b) (le-trans p (s .from)) c (rw (s .is) at e))

@@ -1,0 +1,215 @@
+-- The ends of the decrement factor include the exact value's ends. Each line follows its formula's line; of 2tf/Ta and Ta/tf first the two
+-- divisions are made one.
+-- Assumes nothing.
+use Prim.Native.Nat.{ℕ, _+_, _*_, _/_, _^_, _≤_, _<_}
+use mathlib.Core.Path.{refl, ap}
+use native.Mathlib.Omega.{arith}
+use native.Mathlib.Nat.{le-trans}
+use lib.Dec.{lit≤}
+use lib.IntN.{pos, natAbs}
+use Rattle.interval.specs.declared.Interval.{Interval}
+use Rattle.interval.specs.Whole.{ceilDiv}
+use Rattle.interval.specs.Operations.{natural, outwardOf, scaledOf, productOf}
+use Rattle.interval.specs.Span.{Span}
+use Rattle.interval.proofs.Natural.{natural-scaled, natural-outward}
+use Rattle.interval.proofs.Rounding.{floorDiv-below, ceilDiv-above}
+use Rattle.interval.proofs.Span.{span-divisor}
+use Rattle.exact.specs.Fraction.{Fraction, _≤f_, _<f_, _≈f_, whole, decimal, _·f_, inv, _÷f_}
+use Rattle.exact.specs.Exact.{Exact, exactly, _·x_, _÷x_, minus}
+use Rattle.exact.specs.Pi.{π}
+use Rattle.exact.specs.Root.{root}
+use Rattle.exact.specs.Exponential.{exp}
+use Rattle.exact.specs.Depth.{workDepth, Consistent, Proper, SameEnds}
+use Rattle.exact.specs.Reported.{ten, over}
+use Rattle.exact.proofs.Order.{le-of-lt, refl≈, sym≈, trans≈, nonneg}
+use Rattle.exact.proofs.Powers.{square}
+use Rattle.exact.proofs.Products.{mul-comm, mul-assoc, mul-one, mul-nonneg, mul-pos, cong·}
+use Rattle.exact.proofs.Quotients.{clamped, inv-pos, inv-nonneg, mul-inv, split-inv}
+use Rattle.exact.proofs.Divisors.{inv-cong, cong÷, expand}
+use Rattle.exact.proofs.Consistency.{proper-at, consistent-exactly}
+use Rattle.exact.proofs.Positive.{positive-upper}
+use Rattle.exact.proofs.KnownEnds.{same-refl, same-sym, same-trans, quotient-ends, scaled-ends}
+use Rattle.exact.proofs.Fractions.{exactly-same, exactly-product}
+use Rattle.exact.proofs.Alike.{product-same, quotient-product}
+use Rattle.exact.proofs.Factors.{product-turned, product-grouped, factors-exchanged}
+use Rattle.exact.proofs.Quantity.{Quantity, quantity-exactly, quantity-quotient, quantity-π}
+use Rattle.enclosure.specs.Enclosure.{Encloses}
+use Rattle.enclosure.specs.SquareRoot.{squareRoot}
+use Rattle.enclosure.specs.Pi.{πBelow, πAbove, πEnds}
+use Rattle.enclosure.proofs.SquareRoot.{square-root}
+use Rattle.enclosure.proofs.Basics.{encloses-same, encloses-whole}
+use Rattle.enclosure.proofs.Sums.{encloses-sum, encloses-difference}
+use Rattle.enclosure.proofs.Products.{encloses-product}
+use Rattle.enclosure.proofs.Quotients.{encloses-quotient}
+use Rattle.enclosure.proofs.Multiples.{encloses-rounded}
+use Rattle.enclosure.proofs.Roots.{encloses-root}
+use Rattle.enclosure.proofs.Constants.{π-encloses}
+use Rattle.exponential.proofs.Encloses.{power-encloses}
+use Rattle.decrement.specs.Factor.{Ta, tf, Df}
+use Rattle.decrement.specs.Ends.{Asked, exponentEnds, ratioEnds, restEnds, squareEnds, factorEnds}
+use Rattle.decrement.proofs.Consistent.{exponent, ratio, rest, offset, underRoot, one, two-pos, xr-pos, tf-pos, twice-pos, quantity-turns, quantity-Ta, quantity-ratio, quantity-exponent, consistent-power, consistent-rest, consistent-offset}
+
+-- ---- a divisor that is itself a quotient
+
+divide-pos : {p : Fraction} (q : Fraction) → whole 0 <f p → whole 0 <f p ÷f q
+unfolding _÷f_
+divide-pos q h = mul-pos h (inv-pos q)
+
+-- q/y times y
+undone : (q : Fraction) {y : Fraction} → whole 0 <f y → q ÷f y ·f y ≈f q
+unfolding _÷f_
+undone q {y} h =
+    trans≈ (mul-assoc q (inv y) y) (trans≈ (cong· (refl≈ q) (trans≈ (mul-comm (inv y) y) (mul-inv h))) (mul-one q))
+
+-- p/(q/y) is (p/q) y
+double-divided : (p : Fraction) {q y : Fraction} → whole 0 <f q → whole 0 <f y → p ÷f (q ÷f y) ≈f (p ÷f q) ·f y
+unfolding _÷f_
+double-divided p {q} {y} hq hy =
+    trans≈ (expand p (divide-pos y hq) hy (undone q hy))
+    (trans≈ (mul-assoc p y (inv q)) (trans≈ (cong· (refl≈ p) (mul-comm y (inv q))) (sym≈ (mul-assoc p (inv q) y))))
+
+module _ {p q : Fraction} {y : Exact} (hp : whole 0 <f p) (hq : whole 0 <f q) (Y : Quantity y) {k : ℕ} (d : 3 ≤ k) where
+  double-divided-ends : SameEnds ((exactly p ÷x (exactly q ÷x y)) k) ((exactly (p ÷f q) ·x y) k)
+  unfolding _÷x_ _·x_ exactly
+  double-divided-ends =
+      let P = quantity-exactly hp in
+      let Q = quantity-exactly hq in
+      let G = quantity-quotient Q Y in
+      let proper = proper-at (Y .consistent) d in
+      let positive = Y .positive .at k d in
+      let pg = proper-at (G .consistent) d in
+      let gp = G .positive .at k d in
+      let outer = quotient-ends (proper-at (P .consistent) d) pg (le-of-lt hp) gp in
+      let inner = quotient-ends (proper-at (Q .consistent) d) proper (le-of-lt hq) positive in
+      same-trans outer
+      (same-trans
+      (record {
+        lowers = trans≈ (cong÷ (positive-upper pg gp) (refl≈ p) (inner .uppers)) (double-divided p hq (positive .positive));
+        uppers = trans≈ (cong÷ (gp .positive) (refl≈ p) (inner .lowers)) (double-divided p hq (positive-upper proper positive));
+      })
+      (same-sym (scaled-ends k (le-of-lt (divide-pos q hp)) proper)))
+
+-- ---- p/q of π
+
+proper-exactly : (q : Fraction) → Proper (exactly q workDepth)
+proper-exactly q = proper-at (consistent-exactly q) (lit≤ tt)
+
+proper-π : Proper (π workDepth)
+proper-π = proper-at (quantity-π .consistent) (lit≤ tt)
+
+-- p/q of x against X and Y, in billionths
+module _ (p q x : ℕ) (h : 0 < q) where
+  share-low : (X : ℕ) → X * q ≤ x * p → over (pos X) (ten 9) ≤f (whole p ÷f whole q) ·f over (pos x) (ten 9)
+  unfolding whole over ten inv _÷f_ _·f_
+  share-low X k = record { le = omega (arith, ap (λ t. X * t) (clamped h), k) }
+
+  share-high : (Y : ℕ) → x * p ≤ Y * q → (whole p ÷f whole q) ·f over (pos x) (ten 9) ≤f over (pos Y) (ten 9)
+  unfolding whole over ten inv _÷f_ _·f_
+  share-high Y k = record { le = omega (arith, ap (λ t. Y * t) (clamped h), k) }
+
+share-nonneg : (p q : ℕ) → whole 0 ≤f whole p ÷f whole q
+unfolding _÷f_
+share-nonneg p q = mul-nonneg (nonneg p) (inv-nonneg (whole q))
+
+share-encloses : (p q : ℕ) → 0 < q → Encloses (exactly (whole p ÷f whole q) ·x π) (ten 9) (outwardOf (scaledOf πEnds p) q)
+unfolding πEnds natural
+share-encloses p q h =
+    rw (natural-scaled πBelow πAbove p, natural-outward (πBelow * p) (πAbove * p) h)
+    (encloses-rounded (whole p ÷f whole q) (share-nonneg p q)
+    (share-low p q πBelow h (πBelow * p / q) (floorDiv-below (πBelow * p) q))
+    (share-high p q πAbove h (ceilDiv (πAbove * p) q) (ceilDiv-above (πAbove * p) h))
+    (quantity-π .consistent) π-encloses)
+
+-- ---- a root by a pair
+
+root-encloses : {x : Exact} {i : Interval} {l h w : ℕ} → Span i l h w → Encloses x (ten 9) i
+    → Encloses (root 2 x) (ten 9) (natural (squareRoot (natAbs (i .lower) * 10 ^ 9)) (squareRoot (natAbs (i .upper) * 10 ^ 9) + 1))
+unfolding natural ten
+root-encloses s e =
+    let x = s .a in
+    let y = s .b in
+    rw (s .is)
+    (encloses-root 2 (ten 9) {v = ten 9} x y (squareRoot (x * 10 ^ 9)) (squareRoot (y * 10 ^ 9) + 1) 1000 (lit≤ tt) refl
+    (rw (square (squareRoot (x * 10 ^ 9)), square (10 ^ 9)) (omega (arith, square-root (x * 10 ^ 9) .low)))
+    (rw (square (squareRoot (y * 10 ^ 9) + 1), square (10 ^ 9)) (omega (arith, square-root (y * 10 ^ 9) .high)))
+    (rw (s .is) at e))
+
+module _ {clear xr hz : ℕ} (a : Asked clear xr hz) where
+  -- ---- 2tf/Ta is (4·hz·clear/(1000·xr))·π
+
+  over-pos : 0 < 1000 * xr
+  over-pos = omega (arith, a .xr .low)
+
+  factor-is : (whole 2 ·f tf clear xr hz) ÷f whole xr ·f (whole 2 ·f whole hz) ≈f whole (4 * hz * clear) ÷f whole (1000 * xr)
+  unfolding tf decimal whole inv _÷f_ _·f_
+  factor-is =
+      let e = ap (λ t. hz * clear * t) (clamped (a .xr .low)) in
+      let f = ap (λ t. hz * clear * t) (clamped over-pos) in
+      record { to = record { le = omega (arith, e, f) }; fro = record { le = omega (arith, e, f) } }
+
+  turns-same : SameEnds ((exactly (whole 2) ·x π ·x exactly (whole hz)) workDepth) ((exactly (whole 2 ·f whole hz) ·x π) workDepth)
+  unfolding _·x_
+  turns-same =
+      same-trans (factors-exchanged (proper-exactly (whole 2)) proper-π (proper-exactly (whole hz)))
+      (product-same (exactly-product (whole 2) (whole hz) workDepth) (same-refl (π workDepth)))
+
+  exponent-same : SameEnds (exponent clear xr hz workDepth) ((exactly (whole (4 * hz * clear) ÷f whole (1000 * xr)) ·x π) workDepth)
+  unfolding Ta _·x_
+  exponent-same =
+      let c = (whole 2 ·f tf clear xr hz) ÷f whole xr in
+      let d = whole 2 ·f whole hz in
+      same-trans (double-divided-ends (twice-pos a) (xr-pos a) (quantity-turns a) (lit≤ tt))
+      (same-trans (product-same (same-refl (exactly c workDepth)) turns-same)
+      (same-trans (same-sym (product-grouped (proper-exactly c) (proper-exactly d) proper-π))
+      (product-same (same-trans (exactly-product c d workDepth) (exactly-same factor-is workDepth)) (same-refl (π workDepth)))))
+
+  pub exponent-encloses : Encloses (exponent clear xr hz) (ten 9) (exponentEnds clear xr hz)
+  unfolding exponentEnds
+  exponent-encloses = encloses-same exponent-same (share-encloses (4 * hz * clear) (1000 * xr) over-pos)
+
+  -- ---- Ta/tf is 2/(2tf/Ta)
+
+  inverse-is : inv (tf clear xr hz) ≈f whole 2 ÷f (whole 2 ·f tf clear xr hz)
+  unfolding _÷f_
+  inverse-is =
+      let t = tf clear xr hz in
+      trans≈ (sym≈ (split-inv (tf-pos a) two-pos)) (cong· (refl≈ (whole 2)) (inv-cong (mul-pos (tf-pos a) two-pos) (mul-comm t (whole 2))))
+
+  ratio-same : SameEnds (ratio clear xr hz workDepth) ((exactly (whole 2) ÷x exponent clear xr hz) workDepth)
+  unfolding _÷x_ _·x_ exactly
+  ratio-same =
+      let t = Ta clear xr hz workDepth in
+      same-trans (quotient-product t (exactly (tf clear xr hz) workDepth))
+      (same-trans (product-turned t (exactly (inv (tf clear xr hz)) workDepth))
+      (same-trans (product-same (exactly-same inverse-is workDepth) (same-refl t))
+      (same-sym (double-divided-ends two-pos (twice-pos a) (quantity-Ta a) (lit≤ tt)))))
+
+  -- ---- the rest of the line, where the span of 2tf/Ta is known
+
+  module _ {l h w : ℕ} (p : 1 ≤ l) (s : Span (exponentEnds clear xr hz) l h w) where
+    pub ratio-encloses : Encloses (ratio clear xr hz) (ten 9) (ratioEnds clear xr hz)
+    unfolding ratioEnds ten
+    ratio-encloses =
+        encloses-same ratio-same
+        (encloses-quotient {u = ten 0} (ten 9) (10 ^ 18) refl (span-divisor p s .0) (consistent-exactly (whole 2)) (quantity-exponent a .consistent)
+        (encloses-whole 2 (ten 0) refl) exponent-encloses)
+
+    pub rest-encloses : Encloses (rest clear xr hz) (ten 9) (restEnds clear xr hz)
+    unfolding restEnds ten
+    rest-encloses =
+        encloses-difference (one .consistent) (consistent-power a) (encloses-whole 1 (ten 9) refl)
+        (power-encloses p (quantity-exponent a .consistent) s exponent-encloses)
+
+    offset-encloses : Encloses (offset clear xr hz) (ten 9) (productOf (restEnds clear xr hz) (ratioEnds clear xr hz) (10 ^ 9))
+    unfolding _·x_ ten
+    offset-encloses =
+        encloses-same (product-turned _ _)
+        (encloses-product (ten 9) (10 ^ 9) refl (consistent-rest a) (quantity-ratio a .consistent) rest-encloses ratio-encloses)
+
+    pub square-encloses : Encloses (underRoot clear xr hz) (ten 9) (squareEnds clear xr hz)
+    unfolding squareEnds ten
+    square-encloses = encloses-sum (one .consistent) (consistent-offset a) (encloses-whole 1 (ten 9) refl) offset-encloses
+
+    pub factor-encloses : {l′ h′ w′ : ℕ} → Span (squareEnds clear xr hz) l′ h′ w′ → Encloses (Df clear xr hz) (ten 9) (factorEnds clear xr hz)
+    unfolding Df factorEnds
+    factor-encloses t = root-encloses t square-encloses

@@ -1,0 +1,5 @@
+pub mod Consistent
+pub mod Spans
+pub mod Widths
+pub mod Enclosed
+pub mod Right

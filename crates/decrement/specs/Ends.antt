@@ -1,0 +1,37 @@
+-- The ends of the decrement factor in billionths, by whole-number intervals. Names for the free part: callers use their laws.
+-- Assumes nothing.
+use Prim.Native.Nat.{ℕ, _+_, _*_, _^_}
+use lib.IntN.{pos, natAbs}
+use Rattle.interval.specs.declared.Interval.{Interval}
+use Rattle.interval.specs.Operations.{natural, point, sumOf, differenceOf, outwardOf, scaledOf, productOf, quotientOf}
+use Rattle.enclosure.specs.SquareRoot.{squareRoot}
+use Rattle.enclosure.specs.Pi.{πEnds}
+use Rattle.exponential.specs.Ends.{expPair}
+use Rattle.case.specs.Bounds.{Between}
+
+-- "clear 9..3000", "xr 1..40", "hz, 50 or 60"
+pub record Asked (t r f : ℕ) : Type 0 where
+  pub clear : Between 9 t 3000
+  pub xr : Between 1 r 40
+  pub hz : Between 50 f 60
+
+module _ (clear xr hz : ℕ) where
+  -- 2tf/Ta = 4π·hz·tf/xr in 10^−9
+  unfoldable pub exponentEnds : Interval
+  exponentEnds = outwardOf (scaledOf πEnds (4 * hz * clear)) (1000 * xr)
+
+  -- Ta/tf, 2 over that, in 10^−9
+  unfoldable pub ratioEnds : Interval
+  ratioEnds = quotientOf (point (pos 2)) exponentEnds (10 ^ 18)
+
+  -- 1 − e^(−2tf/Ta) in 10^−9
+  unfoldable pub restEnds : Interval
+  restEnds = differenceOf (point (pos (10 ^ 9))) (expPair exponentEnds)
+
+  -- 1 + (Ta/tf)(1 − e^(−2tf/Ta)) in 10^−9
+  unfoldable pub squareEnds : Interval
+  squareEnds = sumOf (point (pos (10 ^ 9))) (productOf restEnds ratioEnds (10 ^ 9))
+
+  -- Df in 10^−9
+  unfoldable pub factorEnds : Interval
+  factorEnds = natural (squareRoot (natAbs (squareEnds .lower) * 10 ^ 9)) (squareRoot (natAbs (squareEnds .upper) * 10 ^ 9) + 1)
