@@ -4,11 +4,11 @@ It follows document 01 (Square Ground Grids: Seasonal Sheets and Voltage Ends),
 as the requests of document 02 that have landed change it, sentence by sentence,
 in exact fractions, and judges reported rows against it.
 
-For unequal counts the fractions of the exponentials and of the logarithm with n
-would grow without use: there ends are rounded outward to multiples of 10^-50.
-The ends at a depth are then wider than the document's by far less than a row can
-show, so that whatever is found wrong is wrong.  All else, and every square, is
-without rounding.
+The fractions of the exponentials, and for unequal counts of the logarithm with n,
+would grow without use: there ends are rounded outward to multiples of 10^-50, an
+exponential's after each squaring.  The ends at a depth are then wider than the
+document's by far less than a row can show, so that whatever is found wrong is
+wrong.  All else is without rounding.
 
     python3 tests/calculator.py [--depth K] [--table N] < sheet
 """
@@ -30,7 +30,7 @@ FIELD_END = b","
 MAX_BYTES = 65536  # this and the next as changed by request (h) of document 02
 MAX_VALUE_LINES = 256
 MAX_DIGITS = 6
-ROW_LENGTH = 17
+ROW_LENGTH = 20
 
 # The names in document order, each with the spans its value may lie in.
 COLUMNS = (
@@ -55,6 +55,7 @@ COLUMNS = (
     ("rodlen", ((0, 0), (1000, 10000))),
     ("place", ((0, 2),)),
     ("metal", ((1, 11),)),
+    ("hz", ((50, 50), (60, 60))),
 )
 NAMES = tuple(name for name, _ in COLUMNS)
 NAME_BYTES = tuple(name.encode("ascii") for name in NAMES)
@@ -71,19 +72,6 @@ COUNTS = ("across", "along")
 # and the first group comes before the second.
 ZERO_GROUPS = (("layer", "thick"), ("rods", "rodlen", "place"))
 
-# Table 10, in thousandths: (from ms, one entry for each X/R column).
-DECREMENT_XR = (10, 20, 30, 40)
-DECREMENT_ROWS = (
-    (9, (1576, 1648, 1675, 1688)),
-    (50, (1232, 1378, 1462, 1515)),
-    (100, (1125, 1232, 1316, 1378)),
-    (200, (1064, 1125, 1181, 1232)),
-    (300, (1043, 1085, 1125, 1163)),
-    (400, (1033, 1064, 1095, 1125)),
-)
-DECREMENT_ONE_FROM_MS = 500
-DECREMENT_ONE = 1000
-
 # Kf of each metal, in hundredths.
 METAL_KF = {
     1: 700, 2: 706, 3: 1178, 4: 1045, 5: 1206, 6: 1464,
@@ -97,13 +85,18 @@ PERIMETER = 1  # the place at which Kii is 1 and LM weighs the rods
 
 SAFE, UNSAFE, UNDECIDED = 1, 2, 3
 
-# The six pairs in the order of the row: name, table units in one volt or ohm,
-# and the allowed width: a share of its base, plus some table units.  The base
-# is the reported lower end, or the named length under rho * Ki * IG, with Ki
-# "worked with na in place of n".
+# The eight pairs in the order of the row: name, table units in one ampere, a factor
+# of one, one volt or ohm, and the allowed width: a share of its base, plus some
+# table units.  The base is the reported lower end, or the named length under
+# rho * Ki * IG, with Ki "worked with na in place of n" and IG the reported upper
+# grid current.
 Quantity = namedtuple("Quantity", "name units share base plus")
 LOWER, OVER_LT, OVER_LS = "lower end", "rho*Ki*IG/LT", "rho*Ki*IG/LS"
+CURRENT_UNITS, FACTOR_UNITS = 10**6, 10**9
+FACTOR_WIDTH = 1000
 QUANTITIES = (
+    Quantity("current", CURRENT_UNITS, Fraction(1, 500000), LOWER, 2),
+    Quantity("factor", FACTOR_UNITS, 0, LOWER, FACTOR_WIDTH),
     Quantity("tolerable_touch", 1000, Fraction(1, 10000), LOWER, 10),
     Quantity("tolerable_step", 1000, Fraction(1, 10000), LOWER, 10),
     Quantity("mesh", 1000, Fraction(1, 100000), OVER_LT, 10),
@@ -111,7 +104,7 @@ QUANTITIES = (
     Quantity("resistance", 10**6, Fraction(1, 10000), LOWER, 2),
     Quantity("rise", 1000, Fraction(1, 2000), LOWER, 10),
 )
-FIRST_PAIR = 5  # place in the row of the first pair's lower end
+FIRST_PAIR = 4  # place in the row of the first pair's lower end
 
 LN_UNITS = 10**9  # the logarithm is told in billionths
 LN_WIDTH = 200
@@ -344,39 +337,38 @@ def exp_small(y, k):
     """e^y for y up to 1/2: "the first k terms of 1 + y + y^2/2 + y^3/6 + ..
     from below, and that plus 2*y^k/k! from above".
     """
-    lower = sum(y**i / math.factorial(i) for i in range(k))
+    numerator = denominator = 1
+    for i in reversed(range(1, k)):  # 1 + y/i times what stands so far
+        denominator *= i * y.denominator
+        numerator = denominator + y.numerator * numerator
+    lower = Fraction(numerator, denominator)
     return Pair(lower, lower + 2 * y**k / math.factorial(k))
 
 
-@lru_cache(maxsize=4096)
-def exp_fraction(q, k):
+def exp_minus_fraction(q, k):
     """"e^q is its 2^j-th power.  e^-q is one over e^q."
 
-    Document 02 speaks of q above 0; by the same words e^0 is 1.
+    One over e^y is squared j times, which gives the same ends; each square is
+    rounded outward.  Document 02 speaks of q above 0; by the same words e^0 is 1.
     """
     check_depth(k)
-    if q < 0:
-        return 1 / exp_fraction(-q, k)
     j = exp_halvings(q)
-    small = exp_small(q / 2**j, k)
-    return Pair(small.lower ** 2**j, small.upper ** 2**j)
-
-
-def exp_pair(pair, k):
-    """"An exponential of a pair runs from the lower end's lower to the upper
-    end's upper."
-    """
-    return Pair(exp_fraction(pair.lower, k).lower, exp_fraction(pair.upper, k).upper)
+    ends = outward(1 / exp_small(q / 2**j, k))
+    for _ in range(j):
+        ends = outward(Pair(ends.lower**2, ends.upper**2))
+    return ends
 
 
 def exp_minus(pair, k):
-    """e to the power minus a pair, rounded outward before and after.
+    """e to the power minus a pair: "an exponential of a pair runs from the lower
+    end's lower to the upper end's upper".  The pair is rounded outward first.
 
-    Upper ends fall where j changes, just above 1/2, 1, 2, ..; these are
+    Upper ends of e^q fall where j changes, just above 1/2, 1, 2, ..; these are
     multiples of the step, so that no upper end is rounded up past one, and a
     lower end rounded down to one falls too.
     """
-    return outward(exp_pair(-outward(pair), k))
+    q = outward(pair)
+    return Pair(exp_minus_fraction(q.upper, k).lower, exp_minus_fraction(q.lower, k).upper)
 
 
 # --------------------------------------------------------------------------
@@ -493,44 +485,8 @@ def check_record(numbers):
 
 
 def is_short(table_length, rows):
-    """Refusal 8: "table shorter than 17 numbers a line"."""
+    """Refusal 8: "the short-table check reads 20"."""
     return table_length is not None and table_length < ROW_LENGTH * rows
-
-
-# --------------------------------------------------------------------------
-# The settled numbers.
-# --------------------------------------------------------------------------
-
-def decrement_thousandths(case):
-    """Df: "the row is the longest duration not above t, the column the
-    smallest X/R not below xr; from 500 ms on Df is 1.000"; t is the clear time.
-    """
-    if case.clear >= DECREMENT_ONE_FROM_MS:
-        return DECREMENT_ONE
-    entries = max(row for row in DECREMENT_ROWS if row[0] <= case.clear)[1]
-    return entries[next(i for i, xr in enumerate(DECREMENT_XR) if xr >= case.xr)]
-
-
-def grid_current_microamperes(case):
-    """IG = fault * split * Df, with split and Df in thousandths."""
-    return case.fault * case.split * decrement_thousandths(case)
-
-
-def size_squared(case):
-    """The square of I * Kf * sqrt(t), with I = fault * Df in kA.
-
-    "conductor size uses wire with the factor from clear".
-    """
-    kiloamperes = Fraction(case.fault * decrement_thousandths(case), 10**6)
-    factor = Fraction(METAL_KF[case.metal], 100)
-    return (kiloamperes * factor) ** 2 * seconds(case.wire)
-
-
-def conductor_kcmil(case):
-    """"the smallest whole kcmil not below I * Kf * sqrt(t)"."""
-    wanted = math.ceil(size_squared(case))
-    root = math.isqrt(wanted)
-    return root if root * root >= wanted else root + 1
 
 
 # --------------------------------------------------------------------------
@@ -545,9 +501,43 @@ def seconds(milliseconds):
     return Fraction(milliseconds, 1000)
 
 
-def grid_current(case):
-    """IG in amperes."""
-    return Fraction(grid_current_microamperes(case), 10**6)
+def time_constant(xr, hz, k):
+    """Ta = xr / (2 * pi * hz)."""
+    return xr / (2 * pi_ends(k) * hz)
+
+
+def factor_exponent(clear, xr, hz, k):
+    """2 * tf / Ta."""
+    return 2 * seconds(clear) / time_constant(xr, hz, k)
+
+
+@lru_cache(maxsize=65536)
+def factor_ends(clear, xr, hz, k):
+    """Df = sqrt(1 + (Ta/tf) * (1 - e^(-2 tf/Ta))), with tf the clear time."""
+    share = time_constant(xr, hz, k) / seconds(clear)
+    return root_pair(1 + share * (1 - exp_minus(factor_exponent(clear, xr, hz, k), k)), 2, k)
+
+
+def current_ends(case, k):
+    """IG = fault * split * Df, with split per mille."""
+    return Fraction(case.fault * case.split, 1000) * factor_ends(case.clear, case.xr, case.hz, k)
+
+
+def size_squared(case, upper):
+    """The square of I * Kf * sqrt(t), with I = fault * Df in kA and Df the factor's
+    reported upper end in billionths.
+
+    "conductor size uses wire with the factor from clear".
+    """
+    kiloamperes = Fraction(case.fault, 1000) * Fraction(upper, FACTOR_UNITS)
+    return (kiloamperes * Fraction(METAL_KF[case.metal], 100)) ** 2 * seconds(case.wire)
+
+
+def conductor_kcmil(case, upper):
+    """"the smallest whole kcmil not below the product with the factor's upper end"."""
+    wanted = math.ceil(size_squared(case, upper))
+    root = math.isqrt(wanted)
+    return root if root * root >= wanted else root + 1
 
 
 def is_square(grid):
@@ -717,19 +707,23 @@ def ks_ends(case, k):
     return (1 / (2 * depth) + 1 / (space + depth) + rest) / pi_ends(k)
 
 
-def driving(case, n):
-    """rho * Ki * IG: with n for mesh and step voltage, with na for their widths."""
-    return case.soil * ki(n) * grid_current(case)
+def driving(case, n, current):
+    """rho * Ki * IG: with n and the exact current for mesh and step voltage, with na
+    and the reported upper current for their widths.
+    """
+    return case.soil * ki(n) * current
+
+
+def driving_ends(case, k):
+    return driving(case, n_ends(grid_of(case), k), current_ends(case, k))
 
 
 def mesh_ends(case, k):
-    n = n_ends(grid_of(case), k)
-    return driving(case, n) * km_ends(case, k) / mesh_length(case, k)
+    return driving_ends(case, k) * km_ends(case, k) / mesh_length(case, k)
 
 
 def step_ends(case, k):
-    n = n_ends(grid_of(case), k)
-    return driving(case, n) * ks_ends(case, k) / step_length(case)
+    return driving_ends(case, k) * ks_ends(case, k) / step_length(case)
 
 
 def resistance_ends(case, k):
@@ -741,17 +735,19 @@ def resistance_ends(case, k):
 
 @lru_cache(maxsize=4096)
 def exact_ends(case, k):
-    """The six pairs of a case at depth k, in volts and ohms."""
+    """The eight pairs of a case at depth k, in amperes, volts and ohms."""
     check_depth(k)
     effect = surface_effect(case)
-    resistance = resistance_ends(case, k)
+    current, resistance = current_ends(case, k), resistance_ends(case, k)
     return Ends(
+        current,
+        factor_ends(case.clear, case.xr, case.hz, k),
         tolerable_ends(TOUCH_WEIGHT, effect, case.body, case.shock, k),
         tolerable_ends(STEP_WEIGHT, effect, case.body, case.shock, k),
         mesh_ends(case, k),
         step_ends(case, k),
         resistance,
-        grid_current(case) * resistance,
+        current * resistance,
     )
 
 
@@ -760,8 +756,18 @@ def exact_ends(case, k):
 # --------------------------------------------------------------------------
 
 def row_pairs(row):
-    """The six reported pairs of a row, in table units."""
+    """The eight reported pairs of a row, in table units."""
     return Ends(*(tuple(row[i : i + 2]) for i in range(FIRST_PAIR, ROW_LENGTH, 2)))
+
+
+def pair_place(name):
+    """The place in a row of a pair's lower end."""
+    return FIRST_PAIR + 2 * Ends._fields.index(name)
+
+
+def upper_current(row):
+    """The reported upper grid current, in amperes."""
+    return Fraction(row_pairs(row).current[1], CURRENT_UNITS)
 
 
 def holds(lower, upper, ends, units):
@@ -773,8 +779,8 @@ def holds(lower, upper, ends, units):
 
 
 def allowed_widths(case, row):
-    """The greatest width of each of the six pairs, in table units."""
-    per_metre = driving(case, na(case))
+    """The greatest width of each of the eight pairs, in table units."""
+    per_metre = driving(case, na(case), upper_current(row))
     bases = {
         OVER_LT: per_metre / total_length(case),
         OVER_LS: per_metre / step_length(case),
@@ -799,7 +805,7 @@ def verdict_of(row):
 
 
 def judge_row(case, row, depths):
-    """What is wrong with a reported row of 17 numbers; empty when right."""
+    """What is wrong with a reported row of 20 numbers; empty when right."""
     case, row = Case(*case), list(row)
     if len(row) != ROW_LENGTH:
         return [f"the row has {len(row)} numbers, not {ROW_LENGTH}"]
@@ -811,12 +817,13 @@ def judge_row(case, row, depths):
 
 
 def judge_settled(case, row):
-    """Station, season, conductor size and grid current are equations."""
+    """Station and season are equations, and so is the conductor size with the
+    reported upper end of the factor.
+    """
     wanted = {
         0: ("station", case.station),
         1: ("season", case.season),
-        3: ("kcmil", conductor_kcmil(case)),
-        4: ("current", grid_current_microamperes(case)),
+        3: ("kcmil", conductor_kcmil(case, row_pairs(row).factor[1])),
     }
     return [
         f"{name} is {row[place]}, not {number}"
@@ -826,7 +833,7 @@ def judge_settled(case, row):
 
 
 def judge_pairs(case, row, depths):
-    """Order, exactness at each depth, and width of the six pairs."""
+    """Order, exactness at each depth, and width of the eight pairs."""
     complaints = []
     widths = allowed_widths(case, row)
     for i, (quantity, pair) in enumerate(zip(QUANTITIES, row_pairs(row))):
@@ -877,12 +884,21 @@ def judge_ln(p, q, lower, upper, depths):
     return judge_pair(f"ln {p}/{q}", (lower, upper), ends_at, LN_UNITS, LN_WIDTH)
 
 
+def judge_factor(clear, xr, hz, lower, upper, depths):
+    """What is wrong with a decrement factor told in billionths."""
+    ends_at = {k: factor_ends(clear, xr, hz, k) for k in depths}
+    name = f"factor of {clear} ms, X/R {xr}, {hz} Hz"
+    return judge_pair(name, (lower, upper), ends_at, FACTOR_UNITS, FACTOR_WIDTH)
+
+
 def row_at(case, k):
     """A row of this calculator's own: the ends of depth k, rounded outward."""
-    row = [case.station, case.season, 0, conductor_kcmil(case), grid_current_microamperes(case)]
-    for quantity, ends in zip(QUANTITIES, exact_ends(case, k)):
-        row.append(math.floor(ends.lower * quantity.units))
-        row.append(math.ceil(ends.upper * quantity.units))
+    pairs = Ends(*(
+        (math.floor(ends.lower * quantity.units), math.ceil(ends.upper * quantity.units))
+        for quantity, ends in zip(QUANTITIES, exact_ends(case, k))
+    ))
+    row = [case.station, case.season, 0, conductor_kcmil(case, pairs.factor[1])]
+    row += [end for pair in pairs for end in pair]
     row[2] = verdict_of(row)
     return row
 
@@ -904,17 +920,15 @@ def shown_ends(ends, units):
 
 
 def header_line():
-    fields = ["station", "season", "df_thousandths", "kcmil", "current_microamperes"]
+    fields = ["station", "season", "kcmil"]
     for quantity in QUANTITIES:
         fields += [f"{quantity.name}_lower", f"{quantity.name}_upper"]
     return ",".join(fields) + "\n"
 
 
 def case_line(case, k):
-    fields = [
-        case.station, case.season, decrement_thousandths(case),
-        conductor_kcmil(case), grid_current_microamperes(case),
-    ]
+    """The conductor size is that of the factor's upper end in whole billionths."""
+    fields = [case.station, case.season, row_at(case, k)[3]]
     for quantity, ends in zip(QUANTITIES, exact_ends(case, k)):
         fields += shown_ends(ends, quantity.units)
     return ",".join(str(field) for field in fields) + "\n"

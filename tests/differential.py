@@ -29,11 +29,12 @@ HEADER_NAMES = list(calc.NAMES)
 LIMIT_DEPTH = 9
 EQUAL_COUNTS = 0.1  # of the cases, beside those whose counts are equal by chance
 
-# Names of document 01, each with those that have its place.
+# Names of document 01, each with those that have its place, and the frequency of sheets without one.
 OLD_NAMES = {"ms": calc.CLOCKS, "lines": calc.COUNTS}
+FREQUENCIES, OLD_FREQUENCY = (50, 60), 60
 
 # The stored batch.
-BATCH_SEED, BATCH_COUNT = 56, 185
+BATCH_SEED, BATCH_COUNT = 145, 185
 BATCH_END = b"\0"
 BATCH_SHORT = 2000
 PORTFOLIO, SEASONS = 61, 4  # the stations of request (h), and the seasons of each
@@ -51,11 +52,18 @@ def number_in(rng, spans):
     return rng.choice((low, high, rng.randint(low, high), rng.randint(low, high)))
 
 
+def clear_time(rng):
+    """A clear time, short ones as often as long ones."""
+    low, high = span_of("clear")
+    return round(low * (high / low) ** rng.random())
+
+
 def rodded_case(rng):
     """A case with rods, their place not yet settled."""
     case = Case(*(number_in(rng, spans) for spans in calc.RANGES))
     case = case._replace(station=rng.randint(1, 65535), season=rng.randint(1, 4),
-                         body=rng.choice((50, 70)), rods=max(1, case.rods))
+                         body=rng.choice((50, 70)), rods=max(1, case.rods),
+                         clear=rng.choice((case.clear, clear_time(rng))), hz=rng.choice(FREQUENCIES))
     if rng.random() < EQUAL_COUNTS:
         case = case._replace(along=case.across)
     return case._replace(layer=0, thick=0) if rng.random() < 0.4 else case
@@ -148,6 +156,11 @@ class Sheet:
     def set(self, line, name, value):
         line[self.names.index(name)] = str(value)
 
+    def drop(self, name):
+        at = self.names.index(name)
+        for fields in (self.names, *self.lines):
+            del fields[at]
+
     def bytes(self):
         lines = [",".join(fields) + "\n" for fields in (self.names, *self.lines)]
         return "".join(lines).encode("latin-1")
@@ -208,14 +221,20 @@ def fewer_names(sheet, rng):
 
 
 def old_names(sheet, rng):
-    """A sheet with a name of document 01 where two or three are now, or with each of its names."""
+    """A sheet with a name of document 01 where two or three are now, or with each of its names; at
+    times without a frequency, as then.
+    """
     for old in rng.choice((("ms",), ("lines",), ("ms", "lines"))):
         kept, *dropped = rng.sample(OLD_NAMES[old], len(OLD_NAMES[old]))
         for name in dropped:
-            at = sheet.names.index(name)
-            for fields in (sheet.names, *sheet.lines):
-                del fields[at]
+            sheet.drop(name)
         sheet.names[sheet.names.index(kept)] = old
+    if rng.random() < 0.5:
+        sheet.drop("hz")
+
+
+def no_frequency(sheet, rng):
+    sheet.drop("hz")
 
 
 def carried_over(text, old):
@@ -227,6 +246,15 @@ def carried_over(text, old):
         for line in lines[:-1]:  # after the last line end stands nothing
             line[at : at + 1] *= len(new)
     return calc.LINE_END.join(map(calc.FIELD_END.join, (names, *lines)))
+
+
+def with_frequency(text):
+    """A sheet with document 01's frequency in a last column, if it has no column for it."""
+    names, *lines = text.split(calc.LINE_END)
+    if b"hz" in names.split(calc.FIELD_END):
+        return text
+    lines = [names + b",hz", *(line + b",%d" % OLD_FREQUENCY for line in lines[:-1]), b""]
+    return calc.LINE_END.join(lines)
 
 
 def surplus_name(sheet, rng):
@@ -274,11 +302,15 @@ def out_of_range(sheet, rng):
     sheet.set(sheet.line(), name, rng.choice(values))
 
 
+def other_frequency(sheet, rng):
+    sheet.set(sheet.line(), "hz", rng.choice((0, 16, 49, 51, 55, 59, 61, 110, 400)))
+
+
 def disagreement(sheet, rng):
     line = sheet.line()
     for name in rng.sample(("layer", "thick", "rods", "rodlen", "place"), rng.randint(1, 3)):
-        spans = calc.RANGES[calc.NAMES.index(name)]
-        sheet.set(line, name, rng.choice((0, max(1, spans[-1][0]), spans[-1][1])))
+        low, high = span_of(name)
+        sheet.set(line, name, rng.choice((0, max(1, low), high)))
 
 
 def repeated_key(sheet, rng):
@@ -300,9 +332,9 @@ def several(sheet, rng):
 
 
 FIELD_DAMAGES = (
-    nothing, at_the_limit, unknown_name, repeated_name, fewer_names, old_names, surplus_name,
-    wrong_form, too_few_values, too_many_values, empty_line, no_value_line, many_lines, out_of_range,
-    disagreement, repeated_key, several,
+    nothing, at_the_limit, unknown_name, repeated_name, fewer_names, old_names, no_frequency,
+    surplus_name, wrong_form, too_few_values, too_many_values, empty_line, no_value_line, many_lines,
+    out_of_range, other_frequency, disagreement, repeated_key, several,
 )
 
 
@@ -384,7 +416,8 @@ BYTE_DAMAGES = (
 # A third of the sheets is sound, and the rarer refusals come more often.
 CHOICES = (
     FIELD_DAMAGES + BYTE_DAMAGES + (nothing,) * 16
-    + (many_lines, out_of_range, disagreement, repeated_key, at_the_limit, old_names) * 3
+    + (many_lines, out_of_range, other_frequency, disagreement, repeated_key, at_the_limit, old_names,
+       no_frequency) * 3
 )
 
 

@@ -17,7 +17,7 @@ import differential
 DEPTH = 9
 NEAR = Fraction(1, 1000)
 OLD_SHARE = Fraction(1, 10000)
-MESH, STEP = (calc.FIRST_PAIR + 2 * calc.Ends._fields.index(name) for name in ("mesh", "step"))
+MESH, STEP = map(calc.pair_place, ("mesh", "step"))
 
 
 def at_limit(rng):
@@ -54,7 +54,7 @@ def widened(row, at, reference):
 
 
 def was_undecided(case, row):
-    driving = calc.driving(case, calc.na(case))
+    driving = calc.driving(case, calc.na(case), calc.upper_current(row))
     row = widened(row, MESH, driving / calc.total_length(case))
     row = widened(row, STEP, driving / calc.step_length(case))
     return calc.verdict_of(row) == calc.UNDECIDED

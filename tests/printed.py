@@ -3,9 +3,11 @@
 import calculator as calc
 from calculator import Refusal
 
-# The columns of the program `rows`, in the order of document 01's result table.
+# The columns of the program `rows`, in the order of document 01's result table with request (d)'s.
 ROW_NAMES = (
-    "station", "season", "verdict", "size_kcmil", "grid_current_uA",
+    "station", "season", "verdict", "size_kcmil",
+    "grid_current_lower_uA", "grid_current_upper_uA",
+    "factor_lower_billionths", "factor_upper_billionths",
     "tolerable_touch_lower_mV", "tolerable_touch_upper_mV",
     "tolerable_step_lower_mV", "tolerable_step_upper_mV",
     "mesh_lower_mV", "mesh_upper_mV", "step_lower_mV", "step_upper_mV",
@@ -54,6 +56,14 @@ def read_row(fields):
 def read_rows(text):
     """What the program `rows` printed: a refusal, or the rows, each a list of its numbers."""
     return read_answer(text, ROW_NAMES, read_row)
+
+
+def read_asked(text):
+    """An answer of the program `asked`: a refusal, or a tuple of numbers."""
+    fields = text.split(",")
+    if fields[0] == "refused":
+        return Refusal(*(whole(field) for field in fields[1:]))
+    return tuple(whole(field) for field in fields)
 
 
 def read_verdict(fields):

@@ -7,74 +7,103 @@ needs a value in YARD and nothing else here.
 """
 
 import argparse
+import math
 import random
 from itertools import product
 from pathlib import Path
 
 import calculator as calc
 from calculator import Case
-from differential import case_at_limit, random_case
+from differential import FREQUENCIES, case_at_limit, clear_time, random_case, span_of
 
 FILE = Path(__file__).parents[1] / "crates" / "asked" / "stdin"
 MOST_BYTES = 262144  # what the program reads
 SEED, RANDOM_RECORDS = 1, 50
 
 RECORD_KINDS = ("factor", "size", "tolerable", "resistance", "row")
+SIZE_KINDS = ("size", "factor", "row")  # asked of the same records, for they have one factor
 
 # A square yard with a layer and with rods at its perimeter.
 YARD = Case(
     station=7, season=1, soil=400, layer=2500, thick=102, shock=500, clear=500, wire=500,
     body=70, fault=3180, split=600, xr=10, across=11, along=11, space=7000, depth=500, dia=100,
-    rods=20, rodlen=7500, place=1, metal=1)
+    rods=20, rodlen=7500, place=1, metal=1, hz=60)
 
-# Both sides of each edge of Table 10.
-FACTOR_CLEAR = (8, 9, 49, 50, 99, 100, 199, 200, 299, 300, 399, 400, 499, 500, 3000, 3001)
-FACTOR_XR = (0, 1, 10, 11, 20, 21, 30, 31, 40, 41)
+# Times and X/R at which the factor is asked at each frequency, and numbers that are refused.
+FACTOR_CLEAR = (9, 10, 49, 50, 99, 100, 500, 2999, 3000)
+FACTOR_XR = (1, 2, 10, 20, 39, 40)
+FACTOR_REFUSED = {"clear": (8, 3001), "xr": (0, 41)}
+OTHER_HZ = (0, 49, 51, 55, 59, 61)
+RANDOM_FACTORS = 300
 
-# A metal, its one time and X/R, and the current above which the conductor is one kcmil larger.
+# Table 10 of IEEE Std 80-2013 without its first row, which is for 8.33 ms: the time in ms, and Df at
+# 60 Hz for each X/R.
+TABLE_10_XR = (10, 20, 30, 40)
+TABLE_10 = (
+    (50, ("1.232", "1.378", "1.462", "1.515")),
+    (100, ("1.125", "1.232", "1.316", "1.378")),
+    (200, ("1.064", "1.125", "1.181", "1.232")),
+    (300, ("1.043", "1.085", "1.125", "1.163")),
+    (400, ("1.033", "1.064", "1.095", "1.125")),
+    (500, ("1.026", "1.052", "1.077", "1.101")),
+    (750, ("1.018", "1.035", "1.052", "1.068")),
+    (1000, ("1.013", "1.026", "1.039", "1.052")),
+)
+
+# A metal, its clear and wire time, X/R, frequency, and the current above which the conductor is one kcmil
+# larger, whatever right ends the factor has.
 SIZE_EDGES = (
-    (1, 1000, 10, 1000), (1, 2560, 10, 79375), (1, 50, 20, 60735), (1, 99, 40, 8690),
-    (2, 2560, 10, 31250), (2, 2560, 10, 62500), (2, 50, 10, 66841), (2, 99, 20, 67296),
-    (3, 2560, 10, 31250), (3, 2560, 10, 62500), (3, 400, 20, 36457), (3, 499, 10, 348),
-    (4, 2560, 10, 12500), (4, 2560, 10, 75000), (4, 49, 40, 47635), (4, 50, 20, 56832),
-    (5, 2560, 10, 31250), (5, 2560, 10, 62500), (5, 333, 10, 61582), (5, 128, 20, 17118),
-    (6, 1000, 10, 12500), (6, 2560, 10, 78125), (6, 3000, 10, 22045), (6, 99, 30, 6681),
-    (7, 2560, 10, 31250), (7, 2560, 10, 62500), (7, 9, 20, 7041), (7, 49, 40, 69154),
-    (8, 2560, 10, 62500), (8, 333, 40, 79323), (8, 499, 40, 64866),
-    (9, 1000, 10, 3125), (9, 2560, 10, 78125), (9, 499, 10, 16106), (9, 360, 10, 10529),
-    (10, 1000, 10, 6250), (10, 2560, 10, 78125), (10, 499, 30, 27008), (10, 50, 30, 23131),
-    (11, 2560, 10, 12500), (11, 2560, 10, 75000), (11, 250, 40, 40787), (11, 99, 40, 58431),
+    (1, 161, 9, 13, 50, 59099), (1, 130, 309, 34, 60, 57734), (1, 136, 524, 3, 50, 78977),
+    (1, 3000, 12, 35, 60, 68072), (2, 3000, 1755, 29, 50, 78457), (2, 1508, 494, 3, 60, 57485),
+    (2, 1870, 748, 21, 50, 72898), (2, 1634, 10, 17, 60, 60083), (3, 9, 3000, 30, 50, 13127),
+    (3, 446, 15, 21, 60, 33329), (3, 18, 16, 37, 50, 76049), (3, 40, 38, 5, 60, 61909),
+    (4, 9, 3000, 1, 50, 77390), (4, 1565, 35, 6, 60, 78883), (4, 778, 15, 35, 50, 67961),
+    (4, 203, 42, 29, 60, 75206), (5, 3000, 841, 21, 50, 42299), (5, 218, 9, 23, 60, 29361),
+    (5, 20, 2502, 3, 50, 62861), (5, 1460, 309, 31, 60, 71552), (6, 2775, 168, 19, 50, 21597),
+    (6, 3000, 9, 27, 60, 27751), (6, 898, 255, 31, 50, 73057), (6, 1543, 1917, 6, 60, 2405),
+    (7, 2393, 142, 37, 50, 31371), (7, 1278, 3000, 15, 60, 16273), (7, 464, 12, 35, 50, 68393),
+    (7, 9, 1291, 37, 60, 72751), (8, 81, 3000, 40, 50, 8494), (8, 509, 2999, 23, 60, 75367),
+    (8, 9, 282, 16, 50, 26810), (8, 636, 10, 22, 60, 9888), (9, 674, 3000, 6, 50, 78787),
+    (9, 1134, 2805, 3, 60, 28901), (9, 12, 9, 32, 50, 76423), (9, 1587, 133, 9, 60, 78765),
+    (10, 292, 142, 15, 50, 71784), (10, 3000, 1739, 27, 60, 71604), (10, 1562, 9, 8, 50, 78348),
+    (10, 817, 264, 19, 60, 9653), (11, 2668, 9, 40, 50, 63399), (11, 843, 1212, 39, 60, 55886),
+    (11, 3000, 179, 32, 50, 76657), (11, 2644, 597, 31, 60, 69942),
 )
 
-# The same with a clear and a wire time that differ.
-SIZE_EDGES_APART = (
-    (1, 9, 2560, 40, 78125), (1, 50, 1000, 10, 62500), (2, 9, 90, 40, 4755),
-    (2, 50, 9, 20, 53091), (3, 300, 1000, 20, 49369), (3, 100, 999, 10, 71041),
-    (4, 300, 2250, 20, 71322), (4, 9, 40, 10, 20341), (5, 400, 999, 10, 8031),
-    (5, 300, 90, 20, 78206), (6, 100, 2560, 10, 62500), (6, 400, 1000, 30, 45974),
-    (7, 300, 250, 20, 7369), (7, 400, 999, 30, 75224), (8, 400, 3000, 30, 50203),
-    (8, 9, 90, 30, 64820), (9, 9, 1000, 30, 62500), (9, 100, 40, 10, 62500),
-    (10, 100, 1000, 10, 50000), (10, 200, 2560, 20, 31250), (11, 50, 40, 10, 40787),
-    (11, 100, 90, 20, 40787),
+# The same with a current at which one billionth more of the factor, from the last below it to the first
+# above, takes one kcmil more.
+SIZE_BILLIONTHS = (
+    (1, 70, 19, 14, 60, 58036), (1, 244, 1298, 24, 50, 59977), (2, 9, 50, 32, 60, 65465),
+    (2, 2228, 125, 38, 50, 64379), (3, 1390, 93, 22, 60, 56994), (3, 345, 82, 19, 50, 64807),
+    (4, 1380, 22, 22, 60, 78993), (4, 21, 2396, 12, 50, 72598), (5, 2432, 1726, 17, 60, 76859),
+    (5, 66, 2964, 2, 50, 64900), (6, 53, 1465, 12, 60, 64894), (6, 1085, 1742, 8, 50, 49161),
+    (7, 2835, 1569, 22, 60, 41527), (7, 635, 2378, 7, 50, 16581), (8, 1615, 2383, 36, 60, 55689),
+    (8, 1774, 2562, 23, 50, 54167), (9, 2972, 2455, 40, 60, 41624), (9, 106, 2170, 32, 50, 58494),
+    (10, 793, 2720, 13, 60, 51589), (10, 67, 1871, 3, 50, 34009), (11, 89, 1704, 13, 60, 53262),
+    (11, 206, 1028, 5, 50, 52968),
 )
-SIZE_MS = (9, 50, 250, 499, 1000, 3000)
 
-# Document 01's yards, with one time: size by metal, current and time; factor by time and X/R.
+# The same with a current at which one billionth more than the upper end that the program reports takes one
+# kcmil more.
+SIZE_ABOVE = (
+    (1, 2324, 2216, 4, 60, 50076), (2, 69, 610, 36, 50, 41189), (3, 493, 2951, 9, 60, 17712),
+    (4, 199, 898, 22, 50, 72900), (5, 69, 2594, 35, 60, 73764), (6, 25, 966, 30, 50, 49981),
+    (7, 1309, 514, 30, 60, 59710), (8, 71, 2428, 40, 50, 60839), (9, 59, 293, 37, 60, 26621),
+    (10, 96, 107, 40, 50, 64934), (11, 14, 99, 29, 60, 74540),
+)
+
+# Document 01's yards, with one time: size by metal, current and time, and the edge that was at 1000 A;
+# factor by time and X/R.
 WORKED_SIZES = (
     (1, 20000, 3000), (4, 20000, 3000), (8, 20000, 3000), (1, 1000, 1000), (1, 1001, 1000),
-    (5, 1000, 1000),
+    (5, 1000, 1000), (1, 986, 1000), (1, 987, 1000),
 )
 WORKED_FACTORS = ((99, 11), (100, 11), (499, 40), (500, 40))
 WORKED_VOLTAGES = ((50, 1000), (50, 250), (70, 1000))  # body and time, over bare soil of 100
 
-# Three clocks at both ends of their range, and the clear time at both sides of two edges of Table 10.
+# Three clocks at both ends of their range, and between.
 CLOCK_KINDS = ("factor", "size", "tolerable", "row")
-CLOCK_ENDS = (9, 3000)
-CLOCK_TIMES = (
-    *product(CLOCK_ENDS, CLOCK_ENDS, CLOCK_ENDS),
-    *((shock, clear, wire) for clear in (49, 50, 499, 500) for shock, wire in ((9, 3000), (3000, 9))),
-    (250, 100, 1000), (1000, 250, 100), (100, 1000, 250),
-)
+CLOCK_TIMES = (*product((9, 3000), repeat=3), (250, 100, 1000), (1000, 250, 100), (100, 1000, 250))
 
 # Soil, layer and thickness: bare soil; a layer more resistive, as resistive, less resistive.
 SURFACES = (
@@ -96,7 +125,7 @@ BROKEN = (
     {"thick": 0}, {"layer": 0}, {"rodlen": 0}, {"rods": 0}, {"place": 0},
     {"thick": 0, "rods": 0}, {"thick": 0, "metal": 12}, {"layer": 0, "place": 3},
     {"soil": 9, "metal": 0}, {"metal": 12, "rods": 201}, {"across": 26, "along": 1},
-    {"along": 26, "layer": 0},
+    {"along": 26, "layer": 0}, {"metal": 12, "hz": 0}, {"rods": 0, "hz": 55},
 )
 
 # Upper and lower number: one, the ends, beside one, and refused ones.
@@ -116,26 +145,59 @@ def line(kind, numbers):
     return ",".join((kind, *map(str, numbers)))
 
 
+def triples_at_halvings():
+    """By frequency the clear time and X/R whose 2tf/Ta is nearest below, and nearest above, each of 1/2,
+    1, 2, 4, .., where the exponential takes one halving more.
+    """
+    (least, most), (least_xr, most_xr) = span_of("clear"), span_of("xr")
+    for hz, power in product(FREQUENCIES, range(-1, 12)):
+        below, above = [], []
+        for xr in range(least_xr, most_xr + 1):
+            at = 2**power * 1000 * xr / (4 * math.pi * hz)  # the time at which 2tf/Ta is the power
+            if least <= at < most:
+                below.append(((at - math.floor(at)) / at, math.floor(at), xr, hz))
+                above.append(((math.ceil(at) - at) / at, math.ceil(at), xr, hz))
+        yield from (min(side)[1:] for side in (below, above) if side)
+
+
+def triples():
+    """Clear time, X/R and frequency: the ends and others, those of Table 10, those at which the
+    halvings change, and random ones.
+    """
+    yield from product(FACTOR_CLEAR, FACTOR_XR, FREQUENCIES)
+    yield from ((clear, xr, 60) for clear, _ in TABLE_10 for xr in TABLE_10_XR)
+    yield from triples_at_halvings()
+    rng = random.Random(f"{SEED},factors")
+    for _ in range(RANDOM_FACTORS):
+        yield clear_time(rng), rng.randint(*span_of("xr")), rng.choice(FREQUENCIES)
+
+
 def factors():
-    for clear, xr in product(FACTOR_CLEAR, FACTOR_XR):
-        yield line("factor", YARD._replace(clear=clear, xr=xr))
+    for clear, xr, hz in triples():
+        yield line("factor", YARD._replace(clear=clear, xr=xr, hz=hz))
+    for name, numbers in FACTOR_REFUSED.items():
+        yield from (line("factor", YARD._replace(**{name: number})) for number in numbers)
+    for kind, hz in product(RECORD_KINDS, OTHER_HZ):
+        yield line(kind, YARD._replace(hz=hz))
+
+
+def with_size(case):
+    """The size of a record, and its factor and its row, which have the factor of the size."""
+    return (line(kind, case) for kind in SIZE_KINDS)
 
 
 def sizes():
-    for metal, ms, xr, fault in SIZE_EDGES:
+    for metal, clear, wire, xr, hz, fault in SIZE_EDGES:
         for current in (fault, fault + 1):
-            case = YARD._replace(metal=metal, xr=xr, fault=current)
-            yield line("size", calc.with_one_time(case, ms))
-    for metal, clear, wire, xr, fault in SIZE_EDGES_APART:
-        for current in (fault, fault + 1):
-            yield line("size", YARD._replace(
-                metal=metal, clear=clear, wire=wire, xr=xr, fault=current))
-    for metal in range(0, 13):
-        for fault in (99, 100, 1000, 20000, 80000, 80001):
-            yield line("size", YARD._replace(metal=metal, wire=3000, fault=fault))
-        for ms in SIZE_MS:
-            yield line("size", YARD._replace(metal=metal, clear=100, wire=ms))
-            yield line("size", YARD._replace(metal=metal, clear=ms, wire=1000))
+            yield from with_size(YARD._replace(
+                metal=metal, clear=clear, wire=wire, xr=xr, hz=hz, fault=current))
+    for metal, clear, wire, xr, hz, fault in SIZE_BILLIONTHS + SIZE_ABOVE:
+        yield from with_size(YARD._replace(
+            metal=metal, clear=clear, wire=wire, xr=xr, hz=hz, fault=fault))
+    for metal, fault in product(range(1, 12), (100, 80000)):
+        yield from with_size(YARD._replace(metal=metal, wire=3000, fault=fault))
+    for metal, fault in ((0, 1000), (12, 1000), (1, 99), (1, 80001), (0, 99), (12, 80001)):
+        yield line("size", YARD._replace(metal=metal, fault=fault))
 
 
 def tolerable():
@@ -147,7 +209,7 @@ def tolerable():
 
 def worked():
     for metal, fault, ms in WORKED_SIZES:
-        yield line("size", calc.with_one_time(YARD._replace(metal=metal, fault=fault), ms))
+        yield from with_size(calc.with_one_time(YARD._replace(metal=metal, fault=fault), ms))
     for ms, xr in WORKED_FACTORS:
         yield line("factor", calc.with_one_time(YARD._replace(xr=xr), ms))
     for kind, (body, ms) in product(("tolerable", "row"), WORKED_VOLTAGES):
@@ -207,7 +269,8 @@ def random_records():
         rng = random.Random(f"{SEED},{kind}")
         for make in (random_case, unsound_case):
             for _ in range(RANDOM_RECORDS):
-                yield line(kind, make(rng))
+                case = make(rng)
+                yield from with_size(case) if kind == "size" else (line(kind, case),)
     rng = random.Random(SEED)
     for _ in range(5):
         yield line("row", case_at_limit(rng))
@@ -231,18 +294,22 @@ def logarithms():
 
 
 def earlier_records(case):
-    """Records of names sold earlier: with one time, with one count of lines, with both."""
+    """Records of names sold earlier, without a frequency: with all else, with one time, with one count
+    of lines, with both.
+    """
     clocks, counts = calc.CLOCKS[1:], calc.COUNTS[1:]
-    for dropped in (clocks, counts, clocks + counts):
-        yield [number for name, number in zip(calc.NAMES, case) if name not in dropped]
+    for dropped in ((), clocks, counts, clocks + counts):
+        yield [number for name, number in zip(calc.NAMES, case) if name not in ("hz", *dropped)]
 
 
 def no_questions():
     """Lines that are broken: a kind that is none, too few or too many numbers, no number."""
     sound = line("factor", YARD)
+    short = sound.rpartition(",")[0]
     yield from ("", ",", "factor", "ln", "ln,", "ln,1", "ln,1,", "ln,1,2,3", "ln,1,2,", "ln,,1")
-    yield from (line(kind, YARD) for kind in ("", "ln", "factors", "facto", "Factor", "row ", "17", "touch", "step"))
-    yield from (sound + ",1", sound + ",", sound[:-2], sound[:-1], "tolerable,1,2")
+    yield from (line(kind, YARD) for kind in (
+        "", "ln", "factors", "facto", "Factor", "row ", "20", "touch", "step"))
+    yield from (sound + ",1", sound + ",", short, short + ",", "tolerable,1,2")
     yield from (line(kind, record) for kind in RECORD_KINDS for record in earlier_records(YARD))
     yield from (f"ln,{number},1" for number in (2**64, 10**19 * 2, 10**40, "-1", "+1", "1.0", "x"))
 

@@ -12,18 +12,18 @@ from itertools import combinations, permutations, product
 import calculator as calc
 import questions
 from calculator import Case, Refusal
-from printed import lines_of, whole
-from questions import FACTOR_CLEAR, FACTOR_XR, RECORD_KINDS
+from printed import lines_of, read_asked, whole
+from questions import RECORD_KINDS, SIZE_KINDS, TABLE_10, TABLE_10_XR
 
 STDOUT = questions.FILE.with_name("stdout")
 DEPTHS = (3, 6, 9, 12)
 
-SETTLED = {"factor": calc.decrement_thousandths, "size": calc.conductor_kcmil}
-PAIRS = {"tolerable": ("tolerable_touch", "tolerable_step"), "resistance": ("resistance",)}
+PAIRS = {"factor": ("factor",), "tolerable": ("tolerable_touch", "tolerable_step"),
+         "resistance": ("resistance",)}
 COUNTS = {"ln": 2, **{kind: calc.COLUMN_COUNT for kind in RECORD_KINDS}}
 MOST_NUMBER = 2**64 - 1
 # The least count of different questions of each kind.
-LEAST = {"factor": 270, "size": 450, "tolerable": 220, "resistance": 480, "row": 600,
+LEAST = {"factor": 750, "size": 270, "tolerable": 220, "resistance": 480, "row": 800,
          "ln": 400}
 # Which clocks each number of an answer hangs on.
 NUMBERS_BY_CLOCK = {
@@ -31,10 +31,14 @@ NUMBERS_BY_CLOCK = {
     "size": {"size": ("clear", "wire")},
     "tolerable": {"tolerable_touch": ("shock",), "tolerable_step": ("shock",)},
     "row": {
-        "size": ("clear", "wire"), "current": ("clear",), "tolerable_touch": ("shock",),
-        "tolerable_step": ("shock",), "mesh": ("clear",), "step": ("clear",), "rise": ("clear",),
+        "size": ("clear", "wire"), "current": ("clear",), "factor": ("clear",),
+        "tolerable_touch": ("shock",), "tolerable_step": ("shock",), "mesh": ("clear",),
+        "step": ("clear",), "rise": ("clear",),
     },
 }
+# Which numbers hang on the frequency.
+NUMBERS_BY_HZ = {"factor": ("factor",), "size": ("size",),
+                 "row": ("size", "current", "factor", "mesh", "step", "rise")}
 # Which numbers hang on the two counts.
 NUMBERS_BY_COUNT = {"resistance": ("resistance",), "row": ("mesh", "step", "resistance", "rise")}
 TELL_DEPTH = 6
@@ -52,51 +56,69 @@ def read_question(line):
     return kind, Case(*numbers) if kind in RECORD_KINDS else tuple(numbers)
 
 
-def read_answer(text):
-    """A refusal or a tuple of numbers."""
-    fields = text.split(",")
-    if fields[0] == "refused":
-        return Refusal(*(whole(field) for field in fields[1:]))
-    return tuple(whole(field) for field in fields)
+def judge(kind, asked, answer, factors):
+    """What is wrong with one answer; empty when right.
 
-
-def judge(kind, asked, answer):
-    """What is wrong with one answer; empty when right."""
+    The factor that is answered for a record is that of its size and of its row.
+    """
     wanted = calc.check_ln(*asked) if kind == "ln" else calc.check_record(asked)
-    if wanted or isinstance(answer, Refusal):
+    if wanted or is_refused(answer):
         return [] if answer == wanted else [f"{answer}, not {wanted}"]
-    if kind in SETTLED:
-        number = SETTLED[kind](asked)
-        return [] if answer == (number,) else [f"{answer}, not {number}"]
+    if kind == "size":
+        return judge_size(asked, answer, factors.get(asked, ()))
     if kind == "row":
-        return calc.judge_row(asked, answer, DEPTHS)
+        return calc.judge_row(asked, answer, DEPTHS) + judge_row_factor(answer, factors.get(asked))
     names = PAIRS.get(kind, (kind,))
     if len(answer) != 2 * len(names):
         return [f"{answer} is not {len(names)} pairs"]
     if kind == "ln":
         return calc.judge_ln(*asked, *answer, DEPTHS)
+    if kind == "factor":
+        return calc.judge_factor(asked.clear, asked.xr, asked.hz, *answer, DEPTHS)
     pairs = zip(answer[::2], answer[1::2])
     return [wrong for name, pair in zip(names, pairs) for wrong in judge_ends(name, asked, pair)]
 
 
+def judge_size(case, answer, factor):
+    """The size is settled by the factor's upper end."""
+    if len(factor) != 2:
+        return [f"{factor} is not the factor's pair"]
+    number = calc.conductor_kcmil(case, factor[1])
+    return [] if answer == (number,) else [f"{answer}, not {number}"]
+
+
+def judge_row_factor(row, factor):
+    """A row of the right length has the factor that is asked alone."""
+    if len(row) != calc.ROW_LENGTH or factor in (None, calc.row_pairs(row).factor):
+        return []
+    return [f"factor: {calc.row_pairs(row).factor}, and asked alone {factor}"]
+
+
 def judge_ends(name, case, pair):
     """Order, exactness at each depth, and width, which hangs on the lower end."""
-    quantity = next(quantity for quantity in calc.QUANTITIES if quantity.name == name)
+    quantity = quantity_of(name)
     ends_at = {k: getattr(calc.exact_ends(case, k), name) for k in DEPTHS}
     allowed = quantity.share * pair[0] + quantity.plus
     return calc.judge_pair(name, pair, ends_at, quantity.units, allowed)
+
+
+def quantity_of(name):
+    return next(quantity for quantity in calc.QUANTITIES if quantity.name == name)
 
 
 def is_refused(answer):
     return isinstance(answer, Refusal)
 
 
-def is_told(right, wrong):
-    """Whether two numbers differ, or two pairs by more than any width: a hundredth and 0.1 V."""
-    if isinstance(right, int):
-        return right != wrong
+def is_told(name, right, wrong):
+    """Whether two sizes differ by more than right ends of one factor make them, or two pairs by more than
+    any width: a hundredth, and ten times what is allowed beside a share.
+    """
+    if name == "size":
+        return abs(right - wrong) > 1
+    quantity = quantity_of(name)
     apart = max(right.lower - wrong.upper, wrong.lower - right.upper)
-    return apart > max(map(abs, (*right, *wrong))) / 100 + Fraction(1, 10)
+    return apart > max(map(abs, (*right, *wrong))) / 100 + Fraction(10 * quantity.plus, quantity.units)
 
 
 def has_one_time(case):
@@ -114,9 +136,13 @@ class Asked(unittest.TestCase):
             question, answer = read_question(line), printed[len(line) + 1 :]
             if question:
                 kind, asked = question
-                cls.questions[kind][asked] = read_answer(answer)
+                cls.questions[kind][asked] = read_asked(answer)
             else:
                 cls.broken[line] = answer
+
+    def judge(self, kind, asked, answer):
+        """With the factors as they are answered."""
+        return judge(kind, asked, answer, self.questions["factor"])
 
     def answered(self, kind):
         """What is asked and answered, without the refused ones."""
@@ -144,12 +170,21 @@ class Answers(Asked):
         wrong = [
             f"{kind} {asked}: {complaint}"
             for kind, answers in self.questions.items() for asked, answer in answers.items()
-            for complaint in judge(kind, asked, answer)
+            for complaint in self.judge(kind, asked, answer)
         ]
         self.assertEqual([], wrong)
 
     def test_broken_lines_are_unknown(self):
         self.assertEqual(set(self.broken.values()), {"unknown"})
+
+    def test_the_factor_is_one_in_the_size_and_in_the_row(self):
+        """Each size is asked with the factor and the row of its record, and its own is the row's."""
+        sizes, factors, rows = (self.answered(kind) for kind in SIZE_KINDS)
+        self.assertEqual([], [case for case in sizes if case not in factors or case not in rows])
+        for case, size in sizes.items():
+            row = rows[case]
+            self.assertEqual((row[3],), size)
+            self.assertEqual(calc.row_pairs(row).factor, factors[case])
 
     def test_exchanged_counts_have_one_answer(self):
         for kind in questions.COUNT_KINDS:
@@ -164,12 +199,39 @@ class Answers(Asked):
 class Judging(Asked):
     """Lines changed by a little are told from right ones."""
 
-    def test_a_changed_number_is_wrong(self):
-        for kind in SETTLED:
-            for case, (number,) in self.answered(kind).items():
-                self.assertTrue(judge(kind, case, (number + 1,)))
-                self.assertTrue(judge(kind, case, (number - 1,)))
-                self.assertTrue(judge(kind, case, Refusal(5, 0, 1)))
+    def test_a_changed_size_is_wrong(self):
+        for case, (number,) in self.answered("size").items():
+            for changed in ((number + 1,), (number - 1,), (number, number), Refusal(5, 0, 1)):
+                self.assertTrue(self.judge("size", case, changed))
+
+    def test_a_size_by_the_lower_end_is_wrong(self):
+        """In the cases at which a billionth more of the factor takes one kcmil more; and there a size
+        with another upper end than that of the factor asked alone.
+        """
+        told = defaultdict(int)
+        for case, size in self.answered("size").items():
+            lower, _ = self.questions["factor"][case]
+            by_lower = (calc.conductor_kcmil(case, lower),)
+            if by_lower != size:
+                self.assertTrue(self.judge("size", case, by_lower))
+                self.assertTrue(judge("size", case, size, {case: (lower, lower)}))
+                told[case.metal] += 1
+        self.assertTrue(all(told[metal] >= 2 for metal in range(1, 12)), told)
+
+    def test_a_size_without_its_factor_is_not_judged(self):
+        for case, size in self.answered("size").items():
+            self.assertTrue(judge("size", case, size, {}))
+            self.assertTrue(judge("size", case, size, {case: Refusal(5, 0, 22)}))
+
+    def test_a_row_with_another_factor_than_the_one_asked_alone_is_wrong(self):
+        """Wider by a billionth, which the row's own rules allow."""
+        at, factors = calc.pair_place("factor"), self.answered("factor")
+        rows = [(case, row) for case, row in self.answered("row").items() if case in factors]
+        self.assertGreaterEqual(len(rows), 200)
+        for case, row in rows[::7]:
+            wider = row[:at] + (row[at] - 1,) + row[at + 1 :]
+            self.assertEqual(calc.judge_row(case, wider, DEPTHS[:1]), [])
+            self.assertTrue(self.judge("row", case, wider))
 
     def test_a_changed_refusal_is_wrong(self):
         for kind in LEAST:
@@ -177,7 +239,7 @@ class Judging(Asked):
                 for changed in (refusal._replace(column=refusal.column + 1),
                                 refusal._replace(number=11 - refusal.number),
                                 refusal._replace(line=1), (0,), (0, 0)):
-                    self.assertTrue(judge(kind, asked, changed))
+                    self.assertTrue(self.judge(kind, asked, changed))
 
     def test_a_changed_pair_is_wrong(self):
         for kind in (*PAIRS, "ln"):
@@ -190,43 +252,60 @@ class Judging(Asked):
                                  (upper + 1, lower), (lower - 10**6, upper + 10**6),
                                  (lower,), (lower, upper, upper)):
                         changed = answer[:at] + pair + answer[at + 2 :]
-                        self.assertTrue(judge(kind, asked, changed), f"{kind} {asked} {changed}")
+                        self.assertTrue(self.judge(kind, asked, changed), f"{kind} {asked} {changed}")
 
     def test_touch_and_step_exchanged_are_wrong(self):
         for asked, answer in list(self.answered("tolerable").items())[::7]:
-            self.assertTrue(judge("tolerable", asked, answer[2:] + answer[:2]))
+            self.assertTrue(self.judge("tolerable", asked, answer[2:] + answer[:2]))
 
     def test_a_changed_row_is_wrong(self):
         for case, row in list(self.answered("row").items())[::7]:
             for place in range(calc.ROW_LENGTH):
                 off = 1 if place < calc.FIRST_PAIR else 10**8
                 changed = row[:place] + (row[place] + off,) + row[place + 1 :]
-                self.assertTrue(judge("row", case, changed), f"{case} {place}")
-            self.assertTrue(judge("row", case, row[:-1]))
-            self.assertTrue(judge("row", case, row + (0,)))
+                self.assertTrue(self.judge("row", case, changed), f"{case} {place}")
+            self.assertTrue(self.judge("row", case, row[:-1]))
+            self.assertTrue(self.judge("row", case, row + (0,)))
 
 
 class Yards(Asked):
-    """The yards of document 01 that its author worked by hand."""
+    """The yards of document 01, those of factor, current and size worked anew for request (d): at 60 Hz,
+    with X/R 10 where none is named.
+    """
 
     def test_sizes(self):
         sizes = {
             (case.metal, case.fault, case.wire): answer
-            for case, answer in self.answered("size").items() if has_one_time(case)
+            for case, answer in self.answered("size").items()
+            if has_one_time(case) and (case.xr, case.hz) == (10, 60)
         }
         wanted = {
-            (1, 20000, 3000): (243,), (4, 20000, 3000): (362,), (8, 20000, 3000): (638,),
-            (1, 1000, 1000): (7,), (1, 1001, 1000): (8,), (5, 1000, 1000): (13,),
+            (1, 20000, 3000): (244,), (4, 20000, 3000): (364,), (8, 20000, 3000): (640,),
+            (1, 1000, 1000): (8,), (1, 1001, 1000): (8,), (5, 1000, 1000): (13,),
+            (1, 986, 1000): (7,), (1, 987, 1000): (8,),
         }
         self.assertEqual(wanted, {place: sizes.get(place) for place in wanted})
 
     def test_factors(self):
+        """Df in billionths lies above the number here and below the next."""
         factors = {
             (case.clear, case.xr): answer
-            for case, answer in self.answered("factor").items() if has_one_time(case)
+            for case, answer in self.answered("factor").items() if has_one_time(case) and case.hz == 60
         }
-        wanted = {(99, 11): (1378,), (100, 11): (1232,), (499, 40): (1125,), (500, 40): (1000,)}
-        self.assertEqual(wanted, {place: factors.get(place) for place in wanted})
+        for place, billionths in {
+            (99, 11): 1137716322, (100, 11): 1136431380, (499, 40): 1101187708, (500, 40): 1100994761,
+        }.items():
+            lower, upper = factors[place]
+            self.assertTrue(lower <= billionths < billionths + 1 <= upper <= lower + 1000)
+
+    def test_current(self):
+        """3180 A, split 600, 500 ms."""
+        rows = [row for case, row in self.answered("row").items()
+                if (case.fault, case.split, case.clear, case.xr, case.hz) == (3180, 600, 500, 10, 60)]
+        self.assertGreater(len(rows), 100)
+        for row in rows:
+            lower, upper = calc.row_pairs(row).current
+            self.assertTrue(lower <= 1957957255 < 1957957256 <= upper <= lower + 3917)
 
     def test_voltages_over_bare_soil(self):
         wanted = {
@@ -250,7 +329,8 @@ class Yards(Asked):
                 if case in rows]
         self.assertGreaterEqual(len(both), 100)
         for answer, row in both:
-            self.assertEqual(answer, row[calc.FIRST_PAIR : calc.FIRST_PAIR + 4])
+            pairs = calc.row_pairs(row)
+            self.assertEqual(answer, pairs.tolerable_touch + pairs.tolerable_step)
 
 
 class Coverage(Asked):
@@ -265,7 +345,8 @@ class Coverage(Asked):
         self.assertTrue(kinds - set(LEAST))
         counts = {line.count(",") for line in self.broken}
         self.assertLessEqual({0, 1, 2, calc.COLUMN_COUNT, calc.COLUMN_COUNT + 1}, counts)
-        for numbers in (18, 19, 20):  # of document 01's names, with two counts, with three clocks
+        # of document 01's names, with two counts, with three clocks, with both
+        for numbers in (18, 19, 20, 21):
             kinds = {line.split(",")[0] for line in self.broken if line.count(",") == numbers}
             self.assertLessEqual(set(RECORD_KINDS), kinds)
 
@@ -278,17 +359,44 @@ class Coverage(Asked):
         self.assertEqual({row[2] for row in self.answered("row").values()},
                          {calc.SAFE, calc.UNSAFE, calc.UNDECIDED})
 
-    def test_table_10_with_its_edges(self):
-        asked = {(case.clear, case.xr) for case in self.questions["factor"]}
-        self.assertLessEqual(set(product(FACTOR_CLEAR, FACTOR_XR)), asked)
-        answers = {(case.clear, case.xr): answer for case, answer in self.answered("factor").items()}
-        entries = {
-            (from_ms, xr): (entry,)
-            for from_ms, row in calc.DECREMENT_ROWS
-            for xr, entry in zip(calc.DECREMENT_XR, row)
-        }
-        self.assertEqual(len(entries), 24)
-        self.assertEqual(entries, {place: answers[place] for place in entries})
+    def triples(self):
+        """Clear time, X/R and frequency of each factor that is answered, with its pair."""
+        return {(case.clear, case.xr, case.hz): answer for case, answer in self.answered("factor").items()}
+
+    def test_table_10(self):
+        """At 60 Hz both ends are the printed entry to the nearest thousandth."""
+        triples, entries = self.triples(), 0
+        for (clear, row), (at, xr) in product(TABLE_10, enumerate(TABLE_10_XR)):
+            for end in triples[clear, xr, 60]:
+                apart = Fraction(end, calc.FACTOR_UNITS) - Fraction(row[at])
+                self.assertLessEqual(abs(apart), Fraction(1, 2000), (clear, xr))
+            entries += 1
+        self.assertEqual(entries, 32)
+
+    def test_factors_at_the_ends(self):
+        corners = product((9, 10, 49, 50, 99, 100, 500, 2999, 3000), (1, 2, 10, 20, 39, 40), (50, 60))
+        self.assertLessEqual(set(corners), set(self.triples()))
+        self.assertGreaterEqual(len(self.triples()), 600)
+
+    def test_factors_where_the_halvings_change(self):
+        """2tf/Ta within a hundredth below and above 1/2, 1, 2, .. at each frequency."""
+        for hz, most in ((50, 1024), (60, 2048)):
+            exponents = [calc.factor_exponent(*triple, DEPTHS[0]).lower
+                         for triple in self.triples() if triple[2] == hz]
+            limit = calc.EXP_SMALL
+            while limit <= most:
+                near = [q / limit for q in exponents if abs(q / limit - 1) < Fraction(1, 100)]
+                self.assertTrue(min(near) < 1 < max(near), (hz, limit))
+                limit *= 2
+            halvings = {calc.exp_halvings(q) for q in exponents}
+            self.assertEqual(halvings, set(range(calc.exp_halvings(most) + 2)))
+
+    def test_other_frequencies_are_refused(self):
+        for kind in RECORD_KINDS:
+            refused = self.refused(kind)
+            for hz in (0, 49, 51, 55, 59, 61):
+                self.assertEqual(refused[questions.YARD._replace(hz=hz)], (5, 0, 22))
+            self.assertEqual({case.hz for case in self.answered(kind)}, {50, 60})
 
     def test_metals(self):
         metals = {case.metal for case in self.answered("size")}
@@ -298,18 +406,27 @@ class Coverage(Asked):
             cases = [case for case in self.answered("size") if case.metal == metal]
             self.assertGreaterEqual(len({case.clear for case in cases}), 6)
             self.assertGreaterEqual(len({case.wire for case in cases}), 6)
+            self.assertEqual({50, 60}, {case.hz for case in cases})
             self.assertLessEqual({100, 80000}, {case.fault for case in cases})
 
     def test_sizes_where_one_ampere_more_takes_one_kcmil_more(self):
+        """With two times, and within a millionth of a whole kcmil for any right upper end."""
         sizes = self.answered("size")
-        edges, apart = defaultdict(int), defaultdict(int)
+        edges = defaultdict(int)
         for case, (size,) in sizes.items():
-            if sizes.get(case._replace(fault=case.fault + 1)) == (size + 1,):
-                edges[case.metal] += 1
-                apart[case.metal] += case.clear != case.wire
+            if sizes.get(case._replace(fault=case.fault + 1)) == (size + 1,) and case.clear != case.wire:
+                most = self.questions["factor"][case][0] + calc.FACTOR_WIDTH
+                near = calc.size_squared(case, most) * (1 + Fraction(1, 10**6)) ** 2
+                edges[case.metal] += calc.size_squared(case, most) <= size**2 < near
         for metal in range(1, 12):
-            self.assertGreaterEqual(edges[metal], 3, f"metal {metal}")
-            self.assertGreaterEqual(apart[metal], 2, f"metal {metal}, two times")
+            self.assertGreaterEqual(edges[metal], 4, f"metal {metal}")
+
+    def test_sizes_that_tell_one_billionth_of_the_upper_end(self):
+        """So that the factor of a size is the one that is asked alone, and no other."""
+        for by in (-1, 1):
+            told = [case for case, size in self.answered("size").items()
+                    if (calc.conductor_kcmil(case, self.questions["factor"][case][1] + by),) != size]
+            self.assertGreaterEqual(len(told), 10, by)
 
     def test_surfaces(self):
         layers = {
@@ -413,15 +530,11 @@ class Coverage(Asked):
 
 
 def numbers_by(kind, case):
-    """The numbers that the calculator answers, by name: those that the rules settle, and pairs."""
-    ends = calc.exact_ends(case, TELL_DEPTH)._asdict()
-    settled = {"factor": calc.decrement_thousandths(case), "size": calc.conductor_kcmil(case),
-               "current": calc.grid_current_microamperes(case)}
-    if kind in SETTLED:
-        return {kind: settled[kind]}
-    if kind in PAIRS:
-        return {name: ends[name] for name in PAIRS[kind]}
-    return {"size": settled["size"], "current": settled["current"], **ends}
+    """The size and the pairs that the calculator answers, by name."""
+    numbers = {**calc.exact_ends(case, TELL_DEPTH)._asdict(), "size": calc.row_at(case, TELL_DEPTH)[3]}
+    if kind == "row":
+        return numbers
+    return {name: numbers[name] for name in PAIRS.get(kind, (kind,))}
 
 
 class Told(unittest.TestCase):
@@ -442,7 +555,7 @@ class Told(unittest.TestCase):
             if not untold:
                 return
             right, wrong = numbers_by(kind, case), numbers_by(kind, change(case))
-            untold = {name for name in untold if not is_told(right[name], wrong[name])}
+            untold = {name for name in untold if not is_told(name, right[name], wrong[name])}
         self.assertEqual(set(), untold, kind)
 
 
@@ -470,11 +583,13 @@ class Clocks(Told):
             ends = [calc.RANGES[calc.NAMES.index(clock)][0] for clock in calc.CLOCKS]
             self.assertLessEqual(set(product(*ends)), times, kind)
 
-    def test_the_clear_time_at_edges_with_other_times_far(self):
-        for kind in questions.CLOCK_KINDS:
-            clear = {case.clear for case in self.sound[kind]
-                     if {case.shock, case.wire} == set(questions.CLOCK_ENDS)}
-            self.assertLessEqual({49, 50, 499, 500}, clear, kind)
+
+class Frequencies(Told):
+    """A program that works one frequency for both is told, in any one number."""
+
+    def test_one_frequency_for_both(self):
+        for (kind, names), hz in product(NUMBERS_BY_HZ.items(), (50, 60)):
+            self.assert_told(kind, names, lambda case: case._replace(hz=hz))
 
 
 class Counts(Told):

@@ -46,14 +46,24 @@ def kept_after(wanted):
     return TABLE - (0 if isinstance(wanted, Refusal) else calc.ROW_LENGTH * len(wanted))
 
 
+def names_of(sheet):
+    return sheet.split(calc.LINE_END)[0].split(calc.FIELD_END)
+
+
+def is_sound(sheet):
+    return not isinstance(calc.read_sheet(sheet), Refusal)
+
+
 def old_columns(sheet):
-    """The names of document 01 in a sheet that is otherwise sound, each with its column."""
-    names = sheet.split(calc.LINE_END)[0].split(calc.FIELD_END)
+    """The names of document 01 in a sheet that is otherwise sound, each with its column; it may have no
+    column for the frequency.
+    """
+    names = names_of(sheet)
     found = {old: names.index(old.encode("ascii")) + 1
              for old in differential.OLD_NAMES if old.encode("ascii") in names}
     for old in found:
         sheet = differential.carried_over(sheet, old)
-    return {} if isinstance(calc.read_sheet(sheet), Refusal) else found
+    return found if is_sound(differential.with_frequency(sheet)) else {}
 
 
 class Batch(unittest.TestCase):
@@ -147,6 +157,45 @@ class Coverage(Batch):
         for names, column in OLD_COLUMNS.items():
             self.assertIn(column, columns[names], names)
             self.assertGreaterEqual(len(columns[names]), 2, names)
+
+    def test_sheets_without_a_frequency_are_refused_after_the_last_name(self):
+        """Sheets of 21 names that are sound with a frequency; others have names of document 01."""
+        found, older = 0, 0
+        for (sheet, _), rows, verdicts in zip(self.asked, self.rows, self.verdicts):
+            if b"hz" in names_of(sheet):
+                continue
+            older += bool(old_columns(sheet))
+            if is_sound(differential.with_frequency(sheet)):
+                self.assertEqual((rows, verdicts), (Refusal(2, 1, 22),) * 2)
+                found += 1
+        self.assertGreaterEqual(min(found, older), LEAST_OF_EACH)
+
+    def test_other_frequencies_are_refused_at_their_column(self):
+        columns = set()
+        for (sheet, _), rows, verdicts in zip(self.asked, self.rows, self.verdicts):
+            names = names_of(sheet)
+            column = names.index(b"hz") + 1 if b"hz" in names else 0
+            if isinstance(rows, Refusal) and (rows.number, rows.column) == (5, column):
+                self.assertEqual(rows, verdicts)
+                columns.add(column)
+        self.assertIn(22, columns)
+        self.assertGreaterEqual(len(columns), LEAST_OF_EACH)
+
+    def test_accepted_sheets_have_the_frequency_anywhere(self):
+        columns = {names_of(sheet).index(b"hz") + 1
+                   for (sheet, _), rows in zip(self.asked, self.rows) if not isinstance(rows, Refusal)}
+        self.assertIn(22, columns)
+        self.assertGreaterEqual(len(columns), 10)
+
+    def test_factors_of_both_frequencies(self):
+        """The least and the greatest 2tf/Ta, and from none to eleven halvings of it."""
+        faults = {(case.clear, case.xr, case.hz) for wanted in self.wanted
+                  if not isinstance(wanted, Refusal) for case in wanted}
+        for hz in (50, 60):
+            self.assertLessEqual({(9, 40, hz), (3000, 1, hz)}, faults)
+            halvings = {calc.exp_halvings(calc.factor_exponent(*fault, 3).lower)
+                        for fault in faults if fault[2] == hz}
+            self.assertLessEqual(set(range(12)), halvings)
 
     def test_pairs_of_counts_at_each_place(self):
         """Both ends of spacing and depth with each place, and equal counts among them."""

@@ -16,19 +16,20 @@ from unittest import mock
 
 import calculator as calc
 from calculator import Case, Pair, Refusal
+from questions import SIZE_BILLIONTHS, TABLE_10, TABLE_10_XR
 
 DEPTHS = range(3, 13)
 COMMAND = Path(__file__).with_name("calculator.py")
 
 HEADER = (
     "station,season,soil,layer,thick,shock,clear,wire,body,fault,split,xr,across,along,"
-    "space,depth,dia,rods,rodlen,place,metal"
+    "space,depth,dia,rods,rodlen,place,metal,hz"
 )
 SAMPLE_LINES = (
-    "7,1,400,2500,102,500,500,500,70,3180,600,10,11,11,7000,500,100,0,0,0,1",
-    "7,2,100,2500,102,500,500,500,70,3180,600,10,11,11,7000,500,100,0,0,0,1",
+    "7,1,400,2500,102,500,500,500,70,3180,600,10,11,11,7000,500,100,0,0,0,1,60",
+    "7,2,100,2500,102,500,500,500,70,3180,600,10,11,11,7000,500,100,0,0,0,1,60",
 )
-# Document 01's own names and first line, which have one time and one count of lines.
+# Document 01's own names and first line, which have one time, one count of lines and no frequency.
 OLD_HEADER = (
     "station,season,soil,layer,thick,ms,body,fault,split,xr,lines,"
     "space,depth,dia,rods,rodlen,place,metal"
@@ -39,7 +40,7 @@ BARE = calc.with_one_time(YARD._replace(soil=100, layer=0, thick=0, body=50), 10
 RODDED = YARD._replace(rods=20, rodlen=7500, place=1)
 # Mesh voltage well within the tolerable touch, step voltage above its limit.
 STEP_ONLY = Case(
-    1, 1, 10, 0, 0, 500, 500, 500, 50, 20000, 1000, 10, 25, 25, 2500, 250, 300, 200, 1000, 1, 1)
+    1, 1, 10, 0, 0, 500, 500, 500, 50, 20000, 1000, 10, 25, 25, 2500, 250, 300, 200, 1000, 1, 1, 60)
 # Sides of 10 m and 40 m, so that the root of the area is 20 m.
 LONG = YARD._replace(across=2, along=5, space=10000)
 # The squares and the rectangles with the least and greatest counts, and others between.
@@ -77,6 +78,28 @@ def random_case(rng):
     )
 
 
+def exact_exp(q, k):
+    """e^q without rounding: k terms of y = q/2^j and the rest, each to the power 2^j."""
+    j = next(j for j in itertools.count() if q / 2**j <= Fraction(1, 2))
+    y = q / 2**j
+    lower = sum(y**i / math.factorial(i) for i in range(k))
+    return Pair(lower ** 2**j, (lower + 2 * y**k / math.factorial(k)) ** 2**j)
+
+
+def exact_exp_minus(pair, k):
+    """e to the power minus a pair, without rounding."""
+    return Pair(1 / exact_exp(pair.upper, k).upper, 1 / exact_exp(pair.lower, k).lower)
+
+
+ROUNDED = Fraction(12, calc.OUTWARD)  # the most that outward rounding adds to an exponential's end
+
+
+def is_wider(pair, ends, most=ROUNDED):
+    """Whether a pair has these ends, or is wider by outward rounding."""
+    lower, upper = ends
+    return 0 <= lower - pair.lower <= most and 0 <= pair.upper - upper <= most
+
+
 def clear_caches():
     """So that a replaced function of the calculator, or its own again, is asked anew."""
     for function in vars(calc).values():
@@ -106,22 +129,29 @@ class StarredYards(unittest.TestCase):
     def test_bare_soil_with_70_kg(self):
         self.assert_tolerable(BARE._replace(body=70), 180550, 251200)
 
+    def row_at_one_time(self, ms, **changes):
+        return calc.row_at(calc.with_one_time(YARD._replace(**changes), ms), 12)
+
     def test_conductor_sizes(self):
+        """Worked anew for request (d); document 01's edge at 1000 A is now at 986 A."""
         for fault, ms, metal, kcmil in (
-            (20000, 3000, 1, 243), (20000, 3000, 4, 362), (20000, 3000, 8, 638),
-            (1000, 1000, 1, 7), (1001, 1000, 1, 8), (1000, 1000, 5, 13),
+            (20000, 3000, 1, 244), (20000, 3000, 4, 364), (20000, 3000, 8, 640),
+            (1000, 1000, 1, 8), (1001, 1000, 1, 8), (1000, 1000, 5, 13),
+            (986, 1000, 1, 7), (987, 1000, 1, 8),
         ):
-            case = calc.with_one_time(YARD._replace(fault=fault, metal=metal), ms)
-            self.assertEqual(calc.conductor_kcmil(case), kcmil, case)
+            self.assertEqual(self.row_at_one_time(ms, fault=fault, metal=metal)[3], kcmil)
 
     def test_decrement(self):
-        for ms, xr, entry in ((99, 11, 1378), (100, 11, 1232), (499, 40, 1125), (500, 40, 1000)):
-            case = calc.with_one_time(YARD._replace(xr=xr), ms)
-            self.assertEqual(calc.decrement_thousandths(case), entry)
+        """Worked anew for request (d): the ends in billionths."""
+        for ms, xr, lower in ((99, 11, 1137716322), (100, 11, 1136431380), (499, 40, 1101187708),
+                              (500, 40, 1100994761)):
+            row = self.row_at_one_time(ms, xr=xr)
+            self.assertEqual(calc.row_pairs(row).factor, (lower, lower + 1))
 
     def test_grid_current(self):
-        case = calc.with_one_time(YARD._replace(fault=3180, split=600), 500)
-        self.assertEqual(calc.grid_current_microamperes(case), 1908000000)
+        """Worked anew for request (d): 1908 A times 1.026183047851.."""
+        row = self.row_at_one_time(500, fault=3180, split=600)
+        self.assertEqual(calc.row_pairs(row).current, (1957957255, 1957957256))
 
     def test_mesh_argument(self):
         case = YARD._replace(space=7000, depth=500, dia=100)
@@ -146,30 +176,37 @@ class UnstarredYards(unittest.TestCase):
 
 class SampleSheet(unittest.TestCase):
     def test_cases_and_verdicts(self):
-        cases = calc.read_sheet(sheet_of(*SAMPLE_LINES), 34)
+        cases = calc.read_sheet(sheet_of(*SAMPLE_LINES), 40)
         self.assertEqual(cases, [YARD, YARD._replace(season=2, soil=100)])
         rows = [calc.row_at(case, 12) for case in cases]
-        self.assertEqual([row[:5] for row in rows],
-                         [[7, 1, 2, 16, 1908000000], [7, 2, 1, 16, 1908000000]])
+        self.assertEqual([row[:4] for row in rows], [[7, 1, 2, 17], [7, 2, 1, 17]])
 
     def test_season_1_row(self):
         """The numbers as doubles give them, rounded outward."""
-        row = [7, 1, 2, 16, 1908000000, 840547, 840548, 2696097, 2696098, 1001614, 1001615,
-               609726, 609727, 2775693, 2775694, 5296023, 5296024]
+        row = [7, 1, 2, 17, 1957957255, 1957957256, 1026183047, 1026183048, 840547, 840548,
+               2696097, 2696098, 1027839, 1027840, 625691, 625692, 2775693, 2775694, 5434689, 5434690]
         self.assertEqual(calc.row_at(YARD, 12), row)
         self.assertEqual(calc.judge_row(YARD, row, DEPTHS), [])
 
     def test_row_at_a_shallow_depth_takes_both_ends(self):
         # (1000 + 1.5 * 13000/7) * 0.157 V over 0.708 and over 0.707
-        self.assertEqual(calc.row_at(YARD, 3)[5:7], [839487, 840675])
+        pairs = calc.row_pairs(calc.row_at(YARD, 3))
+        self.assertEqual(pairs.tolerable_touch, (839487, 840675))
+        # Df from 1.026 to 1.027, times 1908 A
+        self.assertEqual(pairs.factor, (1026 * 10**6, 1027 * 10**6))
+        self.assertEqual(pairs.current, (1957608 * 10**3, 1959516 * 10**3))
 
     def test_season_1_voltages(self):
-        """"mesh near 1001.6 V against 840.5 V": within half a last digit."""
+        """Mesh near 1027.8 V against 840.5 V, which document 01's 1001.6 V is at Df 1.026: within half
+        a last digit.
+        """
         for k in (6, 12):
             ends = calc.exact_ends(YARD, k)
-            for pair, volts in ((ends.mesh, "1001.6"), (ends.tolerable_touch, "840.5")):
+            for pair, volts in ((ends.mesh, "1027.8"), (ends.tolerable_touch, "840.5")):
                 for end in pair:
                     self.assertLessEqual(abs(end - Fraction(volts)), Fraction("0.05"))
+            self.assertLessEqual(abs(ends.mesh.upper / ends.factor.upper - Fraction("1001.6")),
+                                 Fraction("0.05"))
 
 
 class Refusals(unittest.TestCase):
@@ -209,13 +246,22 @@ class Refusals(unittest.TestCase):
 
     def test_2_surplus_name(self):
         for more in ("station", "other", ""):
-            self.assert_refused(sheet_of(header=HEADER + "," + more), 2, 1, 22)
+            self.assert_refused(sheet_of(header=HEADER + "," + more), 2, 1, 23)
+
+    def test_2_no_frequency(self):
+        """Sheets of the 21 names before request (d) lack the last column."""
+        names, values = HEADER.split(","), SAMPLE_LINES[0].split(",")
+        self.assertEqual((names.pop(), values.pop()), ("hz", "60"))
+        for at in range(len(names)):
+            turned = ",".join(names[at:] + names[:at]), ",".join(values[at:] + values[:at])
+            self.assert_refused(sheet_of(turned[1], header=turned[0]), 2, 1, 22)
+            self.assertEqual(calc.read_sheet(text(turned[0] + ",hz", turned[1] + ",60")), [YARD])
 
     def test_2_names_of_document_01(self):
         """One time, one count of lines, or both: told at the leftmost of them."""
         one_count = OLD_HEADER.replace("ms", "shock,clear,wire")
         one_time = OLD_HEADER.replace("lines", "across,along")
-        self.assertEqual(one_count.replace("lines", "across,along"), HEADER)
+        self.assertEqual(one_count.replace("lines", "across,along") + ",hz", HEADER)
         self.assert_refused(sheet_of(OLD_LINE, header=OLD_HEADER), 2, 1, 6)
         for header, column in ((OLD_HEADER, 6), (one_time, 6), (one_count, 13)):
             self.assert_refused(sheet_of(header=header), 2, 1, column)
@@ -228,7 +274,7 @@ class Refusals(unittest.TestCase):
 
     def test_2_a_name_of_document_01_beside_the_new_ones(self):
         for old, new in (("ms", calc.CLOCKS), ("lines", calc.COUNTS)):
-            self.assert_refused(sheet_of(SAMPLE_LINES[0] + ",11", header=HEADER + "," + old), 2, 1, 22)
+            self.assert_refused(sheet_of(SAMPLE_LINES[0] + ",11", header=HEADER + "," + old), 2, 1, 23)
             self.assert_refused(sheet_of("11," + SAMPLE_LINES[0], header=old + "," + HEADER), 2, 1, 1)
             for name in new:
                 header = HEADER.replace(name, old)
@@ -254,9 +300,10 @@ class Refusals(unittest.TestCase):
         for count in range(1, calc.COLUMN_COUNT):
             self.assert_refused(sheet_of(",".join(values[:count])), 3, 2, count + 1)
         self.assert_refused(sheet_of(OLD_LINE), 3, 2, 19)
-        self.assert_refused(sheet_of(",".join(values + ["1"])), 3, 2, 22)
-        self.assert_refused(sheet_of(",".join(values + ["x", "1"])), 3, 2, 22)
-        self.assert_refused(sheet_of(SAMPLE_LINES[0] + ","), 3, 2, 22)
+        self.assert_refused(sheet_of(",".join(values[:-1])), 3, 2, 22)
+        self.assert_refused(sheet_of(",".join(values + ["1"])), 3, 2, 23)
+        self.assert_refused(sheet_of(",".join(values + ["x", "1"])), 3, 2, 23)
+        self.assert_refused(sheet_of(SAMPLE_LINES[0] + ","), 3, 2, 23)
         self.assert_refused(sheet_of(",".join(values[:-1] + ["x", "1"])), 3, 2, calc.COLUMN_COUNT)
         self.assert_refused(sheet_of(",".join(values[:4] + ["x"])), 3, 2, 5)
 
@@ -280,6 +327,7 @@ class Refusals(unittest.TestCase):
             "xr": (0, 41), "across": (1, 26), "along": (1, 26), "space": (2499, 30001),
             "depth": (249, 2501), "dia": (49, 301), "rods": (201,),
             "rodlen": (1, 999, 10001), "place": (3,), "metal": (0, 12),
+            "hz": (0, 49, 51, 55, 59, 61, 6, 600),
         }
         self.assertEqual(tuple(outside), calc.NAMES)
         for column, (name, values) in enumerate(outside.items(), start=1):
@@ -294,7 +342,7 @@ class Refusals(unittest.TestCase):
             "body": (50, 70), "fault": (100, 80000), "split": (1, 1000),
             "xr": (1, 40), "across": (2, 25), "along": (2, 25), "space": (2500, 30000),
             "depth": (250, 2500), "dia": (50, 300), "rods": (1, 200),
-            "rodlen": (1000, 10000), "place": (1, 2), "metal": (1, 11),
+            "rodlen": (1000, 10000), "place": (1, 2), "metal": (1, 11), "hz": (50, 60),
         }
         self.assertEqual(tuple(inside), calc.NAMES)
         for name, values in inside.items():
@@ -320,9 +368,9 @@ class Refusals(unittest.TestCase):
 
     def test_8_short_table(self):
         sheet = sheet_of(*SAMPLE_LINES)
-        for table in (0, 17, 33):
+        for table in (0, 20, 34, 39):  # 34 was enough before request (d)
             self.assert_refused(sheet, 8, 0, 0, table=table)
-        for table in (34, 35, None):
+        for table in (40, 41, None):
             self.assertEqual(len(calc.read_sheet(sheet, table)), 2)
 
     def test_order_of_numbers(self):
@@ -347,6 +395,7 @@ class Refusals(unittest.TestCase):
     def test_leftmost_within_a_number(self):
         self.assert_refused(sheet_of(value_line(soil="x", station="y")), 3, 2, 1)
         self.assert_refused(sheet_of(value_line(metal=0, body=60, xr=0)), 5, 2, column_of("body"))
+        self.assert_refused(sheet_of(value_line(metal=0, hz=55)), 5, 2, column_of("metal"))
 
     def test_columns_follow_the_header(self):
         names = calc.NAMES[::-1]
@@ -354,9 +403,9 @@ class Refusals(unittest.TestCase):
         self.assertEqual(calc.read_sheet(sheet_of(value_line(names=names), header=header)), [YARD])
         for changes, place in (
             ({"station": "x"}, (3, 2, calc.COLUMN_COUNT)),
-            ({"station": 0, "metal": 0}, (5, 2, 1)),
+            ({"station": 0, "hz": 55}, (5, 2, 1)),
             ({"layer": 0}, (6, 2, names.index("layer") + 1)),
-            ({"rods": 1}, (6, 2, 4)),
+            ({"rods": 1}, (6, 2, names.index("rods") + 1)),
             ({"layer": 0, "rods": 1}, (6, 2, names.index("layer") + 1)),  # layer before rods
         ):
             line = value_line(names=names, **changes)
@@ -380,6 +429,9 @@ class Records(unittest.TestCase):
         for changes, number, column in (
             ({"station": 0, "metal": 0}, 5, 1),
             ({"metal": 99}, 5, 21),
+            ({"metal": 12, "hz": 0}, 5, 21),
+            ({"hz": 55}, 5, 22),
+            ({"hz": 61, "layer": 0}, 5, 22),
             ({"shock": 8, "clear": 8}, 5, 6),
             ({"clear": 3001, "wire": 3001}, 5, 7),
             ({"wire": 8, "body": 60}, 5, 8),
@@ -405,30 +457,108 @@ class Records(unittest.TestCase):
 
 
 class Decrement(unittest.TestCase):
-    TABLE_10 = (
-        ((9, 49), ("1.576", "1.648", "1.675", "1.688")),
-        ((50, 99), ("1.232", "1.378", "1.462", "1.515")),
-        ((100, 199), ("1.125", "1.232", "1.316", "1.378")),
-        ((200, 299), ("1.064", "1.125", "1.181", "1.232")),
-        ((300, 399), ("1.043", "1.085", "1.125", "1.163")),
-        ((400, 499), ("1.033", "1.064", "1.095", "1.125")),
-        ((500, 3000), ("1.000", "1.000", "1.000", "1.000")),
-    )
-    XR = ((1, 10), (11, 20), (21, 30), (31, 40))
+    """Equation 84 of IEEE Std 80, request (d) of document 02."""
 
-    def test_all_entries_and_their_edges(self):
-        for (first_ms, last_ms), entries in self.TABLE_10:
-            for xr_span, entry in zip(self.XR, entries):
-                for ms in (first_ms, (first_ms + last_ms) // 2, last_ms):
-                    for xr in xr_span:
-                        case = YARD._replace(clear=ms, xr=xr)
-                        df = Fraction(calc.decrement_thousandths(case), 1000)
-                        self.assertEqual(df, Fraction(entry), (ms, xr))
+    TRIPLES = tuple(itertools.product(
+        (9, 10, 49, 50, 99, 100, 333, 500, 2999, 3000), (1, 2, 10, 23, 39, 40), (50, 60)))
+
+    @staticmethod
+    def double(clear, xr, hz):
+        ta, tf = xr / (2 * math.pi * hz), clear / 1000
+        return math.sqrt(1 + ta / tf * -math.expm1(-2 * tf / ta))
+
+    def test_table_10(self):
+        """The eight rows from 50 ms on at 60 Hz: Df to the nearest thousandth."""
+        entries = [(clear, xr, 60, Fraction(entry)) for clear, row in TABLE_10
+                   for xr, entry in zip(TABLE_10_XR, row)]
+        self.assertEqual(len(entries), 32)
+        for clear, xr, hz, entry in entries:
+            for k in (6, 9, 12):
+                for end in calc.factor_ends(clear, xr, hz, k):
+                    self.assertLessEqual(abs(end - entry), Fraction(1, 2000), (clear, xr))
+
+    def test_the_first_row_of_table_10_is_for_half_a_cycle(self):
+        for xr, entry in zip(TABLE_10_XR, ("1.576", "1.648", "1.675", "1.688")):
+            for end in calc.factor_ends(Fraction(1000, 120), xr, 60, 12):
+                self.assertLessEqual(abs(end - Fraction(entry)), Fraction(1, 2000), xr)
+
+    def test_time_constant_and_exponent(self):
+        pi = calc.pi_ends(3)
+        self.assertEqual(calc.time_constant(10, 60, 3), (10 / (120 * pi.upper), 10 / (120 * pi.lower)))
+        # 2 * 0.1 s * 120 pi / 10
+        exponent = calc.factor_exponent(100, 10, 60, 3)
+        self.assertEqual(exponent, (Fraction("2.4") * pi.lower, Fraction("2.4") * pi.upper))
+
+    def test_at_depth_3_by_its_terms(self):
+        """100 ms, X/R 10, 60 Hz: 2tf/Ta is 7.54, four halvings."""
+        pi = calc.pi_ends(3)
+        least, greatest = Fraction("2.4") * pi.lower / 16, Fraction("2.4") * pi.upper / 16
+        self.assertTrue(Fraction(1, 4) < least < greatest < Fraction(1, 2))
+        e_lower = 1 / (1 + greatest + greatest**2 / 2 + 2 * greatest**3 / 6) ** 16
+        e_upper = 1 / (1 + least + least**2 / 2) ** 16
+        # Ta/tf is 10 / (2 pi * 60) / 0.1 s
+        lower = 1 + 100 / (120 * pi.upper) * (1 - e_upper)
+        upper = 1 + 100 / (120 * pi.lower) * (1 - e_lower)
+        wanted = (Fraction(math.isqrt(math.floor(lower * 10**6)), 1000),
+                  Fraction(math.isqrt(math.floor(upper * 10**6)) + 1, 1000))
+        self.assertEqual(calc.factor_ends(100, 10, 60, 3), wanted)
+
+    def test_against_doubles(self):
+        rng = random.Random(84)
+        triples = self.TRIPLES + tuple(
+            (rng.randint(9, 3000), rng.randint(1, 40), rng.choice((50, 60))) for _ in range(60))
+        for triple in triples:
+            value = Fraction(self.double(*triple))
+            for k in (3, 6, 12):
+                lower, upper = calc.factor_ends(*triple, k)
+                self.assertTrue(1 <= lower <= value + Fraction(1, 10**14), triple)
+                self.assertLessEqual(value - Fraction(1, 10**14), upper, triple)
+            self.assertLessEqual(upper - lower, Fraction(3, 10**12), triple)
+
+    def test_depths_nest(self):
+        for triple in self.TRIPLES:
+            pairs = [calc.factor_ends(*triple, k) for k in (3, 4, 5, 7, 9, 12)]
+            self.assertLessEqual(max(p.lower for p in pairs), min(p.upper for p in pairs))
+
+    def test_least_and_greatest(self):
+        for k, least, greatest in ((12, "1.000441999382", "1.692649214458"), (3, "1", "1.695")):
+            ends = {triple: calc.factor_ends(*triple, k) for triple in self.TRIPLES}
+            self.assertEqual(ends[3000, 1, 60].lower, Fraction(least))
+            self.assertEqual(ends[9, 40, 50].upper, Fraction(greatest))
+            self.assertEqual(min(pair.lower for pair in ends.values()), Fraction(least))
+            self.assertEqual(max(pair.upper for pair in ends.values()), Fraction(greatest))
+
+    def test_finer_rounding_gives_the_same_ends(self):
+        triples = [(*triple, k) for triple in self.TRIPLES[::3] for k in (3, 12)]
+        coarse = [calc.factor_ends(*triple) for triple in triples]
+        clear_caches()
+        with mock.patch.object(calc, "OUTWARD", 10**90):
+            fine = [calc.factor_ends(*triple) for triple in triples]
+        clear_caches()
+        self.assertEqual(coarse, fine)
+
+    def test_halvings(self):
+        found = {calc.exp_halvings(calc.factor_exponent(*triple, 3).lower) for triple in
+                 itertools.product((9, 20, 50, 100, 200, 500, 1000, 3000), (1, 2, 10, 40), (50, 60))}
+        self.assertEqual(found, set(range(14)))
+
+    def test_judged_alone(self):
+        # Df of 500 ms, X/R 40, 60 Hz is 1.10099476194..
+        triple = (500, 40, 60)
+        for lower, upper in ((1100994761, 1100994762), (1100994000, 1100995000),
+                             (1100993762, 1100994762), (1100994761, 1100995761)):
+            self.assertEqual(calc.judge_factor(*triple, lower, upper, DEPTHS), [])
+        for lower, upper in ((1100993761, 1100994762), (1100994761, 1100995762), (0, 2**63 - 1),
+                             (1100994762, 1100994763), (1100994760, 1100994761),
+                             (1100994762, 1100994761), (10**9, 10**9), (1101000000, 1101000000)):
+            self.assertTrue(calc.judge_factor(*triple, lower, upper, DEPTHS))
 
 
 class ConductorSize(unittest.TestCase):
-    # At 50,000 A, 1000 ms the size is 50 * Kf, rounded up; at 80,000 A,
-    # 3000 ms it is 138.564.. * Kf, so that each hundredth of Kf shows.
+    ONE = 10**9  # a factor of one, in billionths
+
+    # With a factor of one: at 50,000 A, 1000 ms the size is 50 * Kf, rounded up;
+    # at 80,000 A, 3000 ms it is 138.564.. * Kf, so that each hundredth of Kf shows.
     AT_50_KA_1_S = (350, 353, 589, 523, 603, 732, 863, 920, 736, 1448, 1503)
     AT_80_KA_3_S = (970, 979, 1633, 1448, 1672, 2029, 2392, 2549, 2040, 4013, 4164)
 
@@ -436,65 +566,97 @@ class ConductorSize(unittest.TestCase):
         for fault, ms, sizes in ((50000, 1000, self.AT_50_KA_1_S),
                                  (80000, 3000, self.AT_80_KA_3_S)):
             for metal, kcmil in enumerate(sizes, start=1):
-                case = calc.with_one_time(YARD._replace(fault=fault, metal=metal), ms)
-                self.assertEqual(calc.conductor_kcmil(case), kcmil, (fault, metal))
+                case = YARD._replace(fault=fault, metal=metal, wire=ms)
+                self.assertEqual(calc.conductor_kcmil(case, self.ONE), kcmil, (fault, metal))
 
-    def test_decrement_enters_and_split_does_not(self):
-        case = calc.with_one_time(YARD._replace(fault=10000, xr=40, split=1), 90)
+    def test_the_factor_enters_and_split_and_clear_do_not(self):
+        case = YARD._replace(fault=10000, split=1, clear=9, wire=90)
         # 10 kA * 1.515 * 7.00 * sqrt(0.09) = 31.815
-        self.assertEqual(calc.conductor_kcmil(case), 32)
-        self.assertEqual(calc.conductor_kcmil(case._replace(split=1000)), 32)
+        for same in (case, case._replace(split=1000), case._replace(clear=3000)):
+            self.assertEqual(calc.conductor_kcmil(same, 1515 * 10**6), 32)
+
+    def test_exactly_whole_and_a_billionth_more(self):
+        """1 kA * 7.00 * sqrt(1 s) is 7 kcmil."""
+        case = YARD._replace(fault=1000, wire=1000)
+        self.assertEqual(calc.conductor_kcmil(case, self.ONE), 7)
+        self.assertEqual(calc.conductor_kcmil(case, self.ONE + 1), 8)
+        self.assertEqual(calc.conductor_kcmil(case._replace(fault=500), 2 * self.ONE), 7)
 
     def test_smallest_not_below(self):
         rng = random.Random(5)
         for _ in range(200):
-            case = random_case(rng)
-            size, square = calc.conductor_kcmil(case), calc.size_squared(case)
+            case, upper = random_case(rng), rng.randint(self.ONE, 1692650000)
+            size, square = calc.conductor_kcmil(case, upper), calc.size_squared(case, upper)
             self.assertGreaterEqual(size**2, square)
             self.assertLess((size - 1) ** 2, square)
+
+    def test_a_row_is_judged_by_its_own_upper_end(self):
+        """4594 A, 1000 ms: 33 kcmil with the next billionth above Df, 34 with a later one."""
+        case = YARD._replace(fault=4594, wire=1000)
+        narrow = calc.row_at(case, 12)
+        upper = calc.pair_place("factor") + 1
+        wide = list(narrow)
+        wide[upper] = narrow[upper - 1] + 1000
+        self.assertEqual(narrow[3], 33)
+        for row, size, other in ((narrow, 33, 34), (wide, 34, 33)):
+            row[3] = size
+            self.assertEqual(calc.judge_row(case, row, DEPTHS), [])
+            row[3] = other
+            self.assertEqual(calc.judge_row(case, row, DEPTHS), [f"kcmil is {other}, not {size}"])
 
 
 class Clocks(unittest.TestCase):
     """Three times that differ: each number reads its own, as worked by hand."""
 
-    # Shock 1000 ms and bare soil 100 as in document 01; clear 90 ms with X/R 40: Df 1.515.
-    CASE = BARE._replace(shock=1000, clear=90, wire=250, fault=10000, split=600, xr=40)
+    # Shock 1000 ms and bare soil 100 as in document 01; clear 100 ms with X/R 40, at which Table 10
+    # has Df 1.378.
+    CASE = BARE._replace(shock=1000, clear=100, wire=250, fault=10000, split=600, xr=40)
 
     def test_the_names_in_their_place(self):
         self.assertEqual(calc.CLOCKS, ("shock", "clear", "wire"))
         self.assertEqual(calc.NAMES[5:8], calc.CLOCKS)
-        self.assertEqual(calc.COLUMN_COUNT, 21)
+        self.assertEqual(calc.COLUMN_COUNT, 22)
+        self.assertEqual(calc.NAMES[-1], "hz")
 
     def test_each_number_by_its_own_clock(self):
-        self.assertEqual(calc.decrement_thousandths(self.CASE), 1515)
-        # 10,000 A * 0.6 * 1.515 = 9090 A
-        self.assertEqual(calc.grid_current_microamperes(self.CASE), 9090 * 10**6)
-        # 10 kA * 1.515 * 7.00 * sqrt(0.25) = 53.025
-        self.assertEqual(calc.conductor_kcmil(self.CASE), 54)
         row = calc.row_at(self.CASE, 12)
-        self.assertEqual(row[3:5], [54, 9090 * 10**6])
-        self.assertTrue(row[5] <= 133400 <= row[6] and row[7] <= 185600 <= row[8])
-        self.assertLess(max(row[6] - row[5], row[8] - row[7]), 3)
+        pairs = calc.row_pairs(row)
+        self.assertEqual([round(end, -6) for end in pairs.factor], [1378 * 10**6] * 2)
+        # 10,000 A * 0.6 * Df
+        self.assertEqual([round(end, -7) for end in pairs.current], [8270 * 10**6] * 2)
+        # 10 kA * 1.378 * 7.00 * sqrt(0.25) = 48.2
+        self.assertEqual(row[3], 49)
+        for pair, volts in ((pairs.tolerable_touch, 133400), (pairs.tolerable_step, 185600)):
+            self.assertTrue(pair[0] <= volts <= pair[1] < pair[0] + 3)
 
     def test_voltages_and_rise_follow_the_clear_time_alone(self):
+        """They are in proportion to the current."""
         ends = calc.exact_ends(self.CASE, 12)
         late = calc.exact_ends(self.CASE._replace(clear=500), 12)
+        self.assertGreater(ends.current.lower, late.current.upper)
         for name in ("mesh", "step", "rise"):
-            for a, b in zip(getattr(ends, name), getattr(late, name)):
-                self.assertEqual(a, b * Fraction("1.515"), name)
+            shares = (
+                (end / current for end, current in zip(getattr(some, name), some.current))
+                for some in (ends, late))
+            self.assertEqual(*map(tuple, shares))
         for name in ("tolerable_touch", "tolerable_step", "resistance"):
             self.assertEqual(getattr(ends, name), getattr(late, name))
         other = calc.exact_ends(self.CASE._replace(shock=9, wire=3000), 12)
-        for name in ("mesh", "step", "resistance", "rise"):
+        for name in ("current", "factor", "mesh", "step", "resistance", "rise"):
             self.assertEqual(getattr(ends, name), getattr(other, name))
 
     def test_which_numbers_each_clock_changes(self):
         row = calc.row_at(self.CASE, 12)
-        for clock, places in (("shock", {5, 6, 7, 8}), ("clear", {3, 4, *range(9, 13), 15, 16}),
+        for clock, places in (("shock", {8, 9, 10, 11}), ("clear", {*range(3, 8), *range(12, 16), 18, 19}),
                               ("wire", {3})):
             changed = calc.row_at(self.CASE._replace(**{clock: 3000}), 12)
             found = {i for i, (a, b) in enumerate(zip(row, changed)) if a != b}
             self.assertEqual(found - {2}, places, clock)  # the verdict aside
+
+    def test_the_frequency_changes_what_the_clear_time_does(self):
+        changed = calc.row_at(self.CASE._replace(hz=50), 12)
+        found = {i for i, (a, b) in enumerate(zip(calc.row_at(self.CASE, 12), changed)) if a != b}
+        self.assertEqual(found - {2}, {*range(3, 8), *range(12, 16), 18, 19})
 
     def test_one_clock_read_for_another_is_found(self):
         for read, meant in itertools.permutations(calc.CLOCKS, 2):
@@ -503,10 +665,11 @@ class Clocks(unittest.TestCase):
 
     def test_widths_by_their_clocks(self):
         row = calc.row_at(self.CASE, 12)
-        widths = calc.allowed_widths(self.CASE, row)
-        self.assertEqual(widths.tolerable_touch, Fraction(row[5], 10000) + 10)
-        # rho * Ki * IG / LT with the current of the clear time, 9090 A
-        self.assertEqual(widths.mesh, Fraction(100 * 9090) * Fraction("2.272") / 1540 / 100 + 10)
+        pairs, widths = calc.row_pairs(row), calc.allowed_widths(self.CASE, row)
+        self.assertEqual(widths.tolerable_touch, Fraction(pairs.tolerable_touch[0], 10000) + 10)
+        # rho * Ki * IG / LT with the upper current of the clear time
+        upper = Fraction(pairs.current[1], 10**6)
+        self.assertEqual(widths.mesh, 100 * upper * Fraction("2.272") / 1540 / 100 + 10)
 
 
 class Exactness(unittest.TestCase):
@@ -515,7 +678,8 @@ class Exactness(unittest.TestCase):
     def test_depths_start_at_3(self):
         for ask in (lambda: calc.pi_ends(2), lambda: calc.exact_ends(YARD, 2),
                     lambda: calc.root_ends(Fraction(2), 2, 2), lambda: calc.ln_ends(3, 2, 2),
-                    lambda: calc.exp_fraction(Fraction(1), 2), lambda: calc.exp_fraction(Fraction(-1), 2)):
+                    lambda: calc.exp_minus_fraction(Fraction(1), 2),
+                    lambda: calc.factor_ends(500, 10, 60, 2)):
             self.assertRaises(ValueError, ask)
 
     def test_pairs_combine(self):
@@ -624,63 +788,64 @@ class Exactness(unittest.TestCase):
             self.assertFalse(j and 2 * q <= 2 ** (j - 1))
 
     def test_exp_at_depth_3_by_its_terms(self):
-        tenths = calc.exp_fraction(Fraction(3, 10), 3)  # 1 + 0.3 + 0.045, and 2 * 0.027 / 6 more
+        tenths = calc.exp_small(Fraction(3, 10), 3)  # 1 + 0.3 + 0.045, and 2 * 0.027 / 6 more
         self.assertEqual(tenths, (Fraction("1.345"), Fraction("1.354")))
         lower = 1 + Fraction(1, 2) + Fraction(1, 8)
         upper = lower + 2 * Fraction(1, 8) / 6
         for q, power in ((Fraction(1, 2), 1), (Fraction(1), 2), (Fraction(2), 4), (Fraction(4), 8)):
-            self.assertEqual(calc.exp_fraction(q, 3), (lower**power, upper**power))
-            self.assertEqual(calc.exp_fraction(-q, 3), (1 / upper**power, 1 / lower**power))
-        self.assertEqual(calc.exp_fraction(Fraction(0), 3), (1, 1))
+            self.assertEqual(exact_exp(q, 3), (lower**power, upper**power))
+            ends = calc.exp_minus_fraction(q, 3)
+            self.assertTrue(is_wider(ends, (1 / upper**power, 1 / lower**power)))
+        self.assertEqual(calc.exp_minus_fraction(Fraction(0), 3), (1, 1))
 
     def test_exp_at_depth_12_has_twelve_terms(self):
         y = Fraction(1, 3)
         terms = [y**i / math.prod(range(1, i + 1)) for i in range(13)]
-        self.assertEqual(calc.exp_fraction(y, 12), (sum(terms[:12]), sum(terms[:12]) + 2 * terms[12]))
+        self.assertEqual(calc.exp_small(y, 12), (sum(terms[:12]), sum(terms[:12]) + 2 * terms[12]))
 
     def test_exp_against_doubles(self):
         rng = random.Random(13)
         asked = [Fraction(1, 2), Fraction(1), Fraction(5), Fraction("0.14137"), Fraction("15.606"),
-                 Fraction(1, 10**9)]
+                 Fraction(1, 10**9), Fraction(40)]
         asked += [Fraction(rng.randint(1, 10**9), rng.choice((10**7, 10**8, 10**9, 3 * 10**8)))
                   for _ in range(20)]
-        for q in asked + [-q for q in asked]:
-            value = Fraction(math.exp(q))
+        for q in asked:
+            value = Fraction(math.exp(-q))
             for k in (3, 6, 12):
-                pair = calc.exp_fraction(q, k)
+                pair = calc.exp_minus_fraction(q, k)
                 self.assertLess(pair.lower, pair.upper)
                 self.assertLessEqual(pair.lower * (1 - 10 * self.SLACK), value)
                 self.assertLessEqual(value, pair.upper * (1 + 10 * self.SLACK))
             # the rest at depth 12 is at most 2 / (2^12 * 12!) of e^y, for each of 2^j factors
-            parts = 2 ** calc.exp_halvings(abs(q))
+            parts = 2 ** calc.exp_halvings(q)
             self.assertLess(pair.upper - pair.lower, pair.lower * parts * Fraction(11, 10**13))
 
-    def test_exp_of_a_large_number(self):
-        pair = calc.exp_fraction(Fraction(-2262), 4)
-        self.assertGreater(pair.lower, 0)
-        self.assertLess(pair.upper, Fraction(1, 10**9))
+    def test_exp_is_rounded_outward_at_each_squaring(self):
+        """Up to thirteen squarings; never narrower than without rounding."""
+        for q in (Fraction(1, 7), Fraction(3, 4), Fraction(5, 3), Fraction(10), Fraction(33),
+                  Fraction(100), Fraction(600), Fraction(2262)):
+            for k in (3, 4):
+                exact = exact_exp(q, k)
+                self.assertTrue(is_wider(calc.exp_minus_fraction(q, k), (1 / exact.upper, 1 / exact.lower)))
 
-    def test_exp_of_a_pair(self):
-        pair = calc.exp_pair(Pair(Fraction(-3, 2), Fraction(2)), 5)
-        up, down = calc.exp_fraction(Fraction(2), 5), calc.exp_fraction(Fraction(3, 2), 5)
-        self.assertEqual(pair, (1 / down.upper, up.upper))
+    def test_exp_of_a_large_number(self):
+        """Below one step the ends are 0 and one step."""
+        for k in (3, 12):
+            self.assertEqual(calc.exp_minus_fraction(Fraction(2262), k), (0, Fraction(1, calc.OUTWARD)))
 
     def test_exp_of_minus_a_pair_is_rounded_outward(self):
-        step = Fraction(1, calc.OUTWARD)
-        near = step / 3
+        near = Fraction(1, 3 * calc.OUTWARD)
         for lower, upper in ((Fraction(2, 7), Fraction(1, 3)), (Fraction(1, 2) - near, Fraction(1, 2)),
                              (Fraction(1), Fraction(8) - near), (Fraction(1, 3), Fraction(1) + near)):
             q = Pair(lower, upper)
             for k in DEPTHS:
-                pair, exact = calc.exp_minus(q, k), calc.exp_pair(-q, k)
-                self.assertTrue(0 <= exact.lower - pair.lower < 3 * step)
-                self.assertTrue(0 <= pair.upper - exact.upper < 3 * step)
+                self.assertTrue(is_wider(calc.exp_minus(q, k), exact_exp_minus(q, k)))
 
     def test_exp_of_minus_a_pair_where_rounding_changes_the_halvings(self):
         """Just above 8 the lower end is rounded down to 8, with one halving fewer."""
         q = Pair(8 + Fraction(1, 3 * calc.OUTWARD), Fraction(11))
         for k in DEPTHS:
-            pair, exact = calc.exp_minus(q, k), calc.exp_pair(-q, k)
+            pair, exact = calc.exp_minus(q, k), exact_exp_minus(q, k)
             self.assertLessEqual(pair.lower, exact.lower)
             self.assertGreaterEqual(pair.upper, exact.upper)
 
@@ -688,7 +853,7 @@ class Exactness(unittest.TestCase):
         """So a pair within another does not give an exponential within the other's."""
         half, above = Fraction(1, 2), Fraction(1, 2) + Fraction(1, 10**15)
         for k in DEPTHS:
-            at, past = calc.exp_fraction(half, k), calc.exp_fraction(above, k)
+            at, past = exact_exp(half, k), exact_exp(above, k)
             self.assertGreater(at.upper, past.upper)
             self.assertLess(at.lower, past.upper)
             self.assertLess(at.lower, past.lower)
@@ -708,20 +873,20 @@ class Exactness(unittest.TestCase):
             self.assertLessEqual(max(p.lower for p in pairs), min(p.upper for p in pairs))
         for q in (Fraction(1, 7), Fraction(1, 2), Fraction(500001, 10**6), Fraction(1), Fraction(22, 7),
                   Fraction("15.6")):
-            for asked in (q, -q):
-                pairs = [calc.exp_fraction(asked, k) for k in DEPTHS]
-                self.assertLessEqual(max(p.lower for p in pairs), min(p.upper for p in pairs))
+            pairs = [calc.exp_minus_fraction(q, k) for k in DEPTHS]
+            self.assertLessEqual(max(p.lower for p in pairs), min(p.upper for p in pairs))
 
 
 def double_values(case):
-    """The six quantities in doubles, straight from the formulas of IEEE Std 80."""
+    """The eight quantities in doubles, straight from the formulas of IEEE Std 80."""
     rho = case.soil
     big_d, h, d = case.space / 1000, case.depth / 1000, case.dia / 10000
     lx, ly = (case.across - 1) * big_d, (case.along - 1) * big_d
     area, lp = lx * ly, 2 * (lx + ly)
     lc, lr = case.across * ly + case.along * lx, case.rods * case.rodlen / 1000
     n = 2 * lc / lp * math.sqrt(lp / (4 * math.sqrt(area)))
-    current = case.fault * case.split / 1000 * calc.decrement_thousandths(case) / 1000
+    factor = Decrement.double(case.clear, case.xr, case.hz)
+    current = case.fault * case.split / 1000 * factor
     q = rho
     if case.layer:
         hs = case.thick / 1000
@@ -738,7 +903,7 @@ def double_values(case):
     resistance = rho * (1 / (lc + lr) + (1 + 1 / (1 + h * math.sqrt(20 / area))) / math.sqrt(20 * area))
     driving = rho * (0.644 + 0.148 * n) * current
     return (
-        (1000 + 1.5 * q) * per_root_t, (1000 + 6 * q) * per_root_t,
+        current, factor, (1000 + 1.5 * q) * per_root_t, (1000 + 6 * q) * per_root_t,
         driving * km / lm, driving * ks / (0.75 * lc + 0.85 * lr),
         resistance, current * resistance,
     )
@@ -775,13 +940,6 @@ class Formulas(unittest.TestCase):
 
 class Rectangles(unittest.TestCase):
     """Request (c) of document 02."""
-
-    ROUNDED = Fraction(3, calc.OUTWARD)  # what outward rounding may add to an end
-
-    def assert_wider(self, pair, lower, upper):
-        """A pair is these ends, or wider by outward rounding."""
-        self.assertTrue(0 <= lower - pair.lower <= self.ROUNDED)
-        self.assertTrue(0 <= pair.upper - upper <= self.ROUNDED)
 
     def test_the_names_in_their_place(self):
         self.assertEqual(calc.COUNTS, ("across", "along"))
@@ -825,7 +983,7 @@ class Rectangles(unittest.TestCase):
         y = greatest / 4
         upper = (1 + y + y**2 / 2 + 2 * y**3 / 6) ** 4
         for place in (0, 2):
-            self.assert_wider(calc.kii_ends(LONG._replace(place=place), 3), 1 / upper, 1 / lower)
+            self.assertTrue(is_wider(calc.kii_ends(LONG._replace(place=place), 3), (1 / upper, 1 / lower)))
         self.assertEqual(calc.kii_ends(LONG._replace(place=1), 3), (1, 1))
 
     def test_half_power_at_depth_3_by_its_terms(self):
@@ -837,7 +995,7 @@ class Rectangles(unittest.TestCase):
         lower = (1 + least / 2 + (least / 2) ** 2 / 2) ** 2
         y = greatest / 2
         upper = (1 + y + y**2 / 2 + 2 * y**3 / 6) ** 2
-        self.assert_wider(calc.half_power_ends(calc.grid_of(LONG), 3), 1 / upper, 1 / lower)
+        self.assertTrue(is_wider(calc.half_power_ends(calc.grid_of(LONG), 3), (1 / upper, 1 / lower)))
 
     def test_each_end_of_an_exponent_has_its_own_halvings(self):
         """At depth 3 the ends of (n-2) * ln 2 lie on both sides of 8 for 9 x 23 at 7 m."""
@@ -848,7 +1006,7 @@ class Rectangles(unittest.TestCase):
         lower = (1 + y + y**2 / 2) ** 16
         y = q.upper / 32
         upper = (1 + y + y**2 / 2 + 2 * y**3 / 6) ** 32
-        self.assert_wider(calc.half_power_ends(grid, 3), 1 / upper, 1 / lower)
+        self.assertTrue(is_wider(calc.half_power_ends(grid, 3), (1 / upper, 1 / lower)))
 
     def test_resistance_by_hand(self):
         """Soil 400, h 0.5 m, LT 130 m; sqrt(20) is 4.472.., sqrt(area) 20 to 20.001 at depth 3."""
@@ -864,13 +1022,12 @@ class Rectangles(unittest.TestCase):
             for k in (3, 6, 12):
                 grid = calc.grid_of(case)
                 exact = calc.ln_pair(8 / (calc.pi_ends(k) * (2 * calc.n_ends(grid, k) - 1)), k)
-                pair = calc.ln_lines(grid, k)
-                self.assertTrue(0 <= exact.lower - pair.lower <= 60 * self.ROUNDED)
-                self.assertTrue(0 <= pair.upper - exact.upper <= 60 * self.ROUNDED)
+                # one step in the fraction is up to 19 in its logarithm
+                self.assertTrue(is_wider(calc.ln_lines(grid, k), exact, 20 * ROUNDED))
 
     def test_rounding_outward_is_out_of_sight(self):
         """With far finer steps no end moves by as much as 10^-40 of itself."""
-        cases = (LONG, *RECTANGLES)
+        cases = (YARD, LONG, *RECTANGLES)
         coarse = [calc.exact_ends(case, k) for case in cases for k in (3, 9)]
         clear_caches()
         with mock.patch.object(calc, "OUTWARD", 10**90):
@@ -916,12 +1073,12 @@ class Rectangles(unittest.TestCase):
     def test_widths_by_na(self):
         row = calc.row_at(LONG, 12)
         widths = calc.allowed_widths(LONG, row)
-        # rho * Ki * IG with Ki = 0.644 + 0.148 * 2.6 = 1.0288
-        driving = Fraction(400 * 1908) * Fraction("1.0288")
+        # rho * Ki * IG with Ki = 0.644 + 0.148 * 2.6 = 1.0288 and the upper current, in microamperes
+        driving = Fraction(400 * 1957957256, 10**6) * Fraction("1.0288")
         self.assertEqual(widths.mesh, driving / 130 / 100 + 10)
         self.assertEqual(widths.step, driving / Fraction("97.5") / 100 + 10)
         for name in ("mesh", "step"):
-            at = calc.FIRST_PAIR + 2 * calc.Ends._fields.index(name)
+            at = calc.pair_place(name)
             wide = list(row)
             wide[at + 1] = row[at] + math.floor(getattr(widths, name))
             self.assertEqual(calc.judge_row(LONG, wide, (12,)), [])
@@ -1016,9 +1173,11 @@ class Counts(unittest.TestCase):
             shares[calc.ki(calc.na(grid)) / calc.conductor_length(grid)] = (across, along)
         self.assertEqual(max(shares.items()), (Fraction("0.235"), (2, 2)))
         case = calc.with_lines(YARD, 2)._replace(
-            soil=5000, fault=80000, split=1000, space=2500, xr=40, clear=9)
-        # 5000 * 0.94 * 80,000 A * 1.688 / 10 m
-        self.assertEqual(calc.driving(case, 2) / calc.total_length(case), 63468800)
+            soil=5000, fault=80000, split=1000, space=2500, xr=40, clear=9, hz=50)
+        current = calc.current_ends(case, 12).upper
+        # 5000 * 0.94 * 80,000 A * 1.692649214458 / 10 m
+        self.assertEqual(calc.driving(case, 2, current) / calc.total_length(case),
+                         Fraction("63643610.4636208"))
 
 
 class Judging(unittest.TestCase):
@@ -1032,14 +1191,14 @@ class Judging(unittest.TestCase):
 
     def test_each_wrong_number_is_found(self):
         row = calc.row_at(RODDED, 12)
-        for place in range(17):
+        for place in range(20):  # lower ends are lowered, upper ends raised
             wrong = list(row)
-            wrong[place] += 1000 if place % 2 else -1000
+            wrong[place] += 5000 if place % 2 else -5000
             self.assertNotEqual(self.judged(RODDED, wrong), [], place)
 
     def test_ends_one_unit_on_the_wrong_side(self):
         row = calc.row_at(RODDED, 12)
-        for lower in range(5, 17, 2):
+        for lower in range(4, 20, 2):
             for ends in ((row[lower + 1], row[lower + 1]), (row[lower], row[lower])):
                 wrong = list(row)
                 wrong[lower : lower + 2] = ends
@@ -1049,36 +1208,58 @@ class Judging(unittest.TestCase):
     def test_widths(self):
         """The greatest allowed whole width passes, one more does not."""
         row = calc.row_at(YARD, 12)
-        driving = Fraction(400 * 1908) * Fraction("2.272")
-        lower = [row[i] for i in range(5, 17, 2)]
+        driving = Fraction(400 * row[5], 10**6) * Fraction("2.272")
+        lower = [row[i] for i in range(4, 20, 2)]
         wanted = (
-            Fraction(lower[0], 10000) + 10, Fraction(lower[1], 10000) + 10,
+            Fraction(lower[0], 500000) + 2, 1000,
+            Fraction(lower[2], 10000) + 10, Fraction(lower[3], 10000) + 10,
             driving / 1540 / 100 + 10, driving / (Fraction(3, 4) * 1540) / 100 + 10,
-            Fraction(lower[4], 10000) + 2, Fraction(lower[5], 2000) + 10,
+            Fraction(lower[6], 10000) + 2, Fraction(lower[7], 2000) + 10,
         )
         self.assertEqual(calc.allowed_widths(YARD, row), wanted)
         for i, allowed in enumerate(wanted):
             wide = list(row)
-            wide[6 + 2 * i] = wide[5 + 2 * i] + math.floor(allowed)
+            wide[5 + 2 * i] = wide[4 + 2 * i] + math.floor(allowed)
             self.assertEqual(self.judged(YARD, wide), [])
-            wide[6 + 2 * i] += 1
+            wide[5 + 2 * i] += 1
             self.assertTrue(any("width" in complaint for complaint in self.judged(YARD, wide)))
+
+    def test_widths_by_the_upper_current(self):
+        """With currents as far apart as they may be, the mesh voltage may be a millivolt wider than by
+        the lower current, and no wider.
+        """
+        case = calc.with_lines(YARD, 2)._replace(
+            soil=5000, fault=80000, split=1000, space=2500, xr=40, clear=9, hz=50)
+        row = calc.row_at(case, 12)
+        row[5] = row[4] + row[4] // 500000 + 2
+        by_lower, by_upper = (
+            math.floor(calc.driving(case, 2, Fraction(current, 10**6)) / 10 / 100 + 10)
+            for current in row[4:6])
+        self.assertGreater(by_upper, by_lower)
+        at = calc.pair_place("mesh")
+        row[at + 1] = row[at] + by_upper
+        self.assertEqual(self.judged(case, row), [])
+        row[at + 1] += 1
+        self.assertEqual([complaint[:11] for complaint in self.judged(case, row)], ["mesh: width"])
 
     def test_ends_from_nought_to_the_maximum(self):
         row = calc.row_at(YARD, 12)
-        idle = row[:2] + [3] + row[3:5] + [0, 2**63 - 1] * 6
-        self.assertEqual(len(self.judged(YARD, idle)), 6)
+        idle = row[:2] + [3, calc.conductor_kcmil(YARD, 2**63 - 1)] + [0, 2**63 - 1] * 8
+        complaints = self.judged(YARD, idle)
+        self.assertEqual([complaint.split(":")[0] for complaint in complaints], list(calc.Ends._fields))
 
     def test_row_length_and_order(self):
         row = calc.row_at(YARD, 12)
         self.assertNotEqual(self.judged(YARD, row[:-1]), [])
         self.assertNotEqual(self.judged(YARD, row + [0]), [])
-        turned = row[:5] + [row[6], row[5]] + row[7:]
-        self.assertTrue(any("above" in complaint for complaint in self.judged(YARD, turned)))
+        for at in range(4, 20, 2):
+            turned = row[:at] + [row[at + 1], row[at]] + row[at + 2 :]
+            self.assertTrue(any("above" in complaint for complaint in self.judged(YARD, turned)))
 
     def test_verdict_follows_from_the_reported_ends(self):
         def verdict(touch, limit, mesh, step):
-            return calc.verdict_of([7, 1, 0, 16, 1, *touch, *limit, *mesh, *step, 1, 2, 10**9, 10**9])
+            ends = (*touch, *limit, *mesh, *step)
+            return calc.verdict_of([7, 1, 0, 16, 1, 2, 3, 4, *ends, 1, 2, 10**9, 10**9])
         self.assertEqual(verdict((10, 12), (20, 22), (8, 10), (18, 20)), calc.SAFE)
         self.assertEqual(verdict((10, 12), (20, 22), (8, 11), (18, 20)), calc.UNDECIDED)
         self.assertEqual(verdict((10, 12), (20, 22), (8, 10), (18, 21)), calc.UNDECIDED)
@@ -1097,12 +1278,13 @@ class Judging(unittest.TestCase):
     def test_exact_ends_speak_against_a_verdict(self):
         """Rows whose wrong ends go with their wrong verdict."""
         low_mesh = calc.row_at(YARD, 12)
-        low_mesh[9:11] = [1, 2]
+        at = calc.pair_place("mesh")
+        low_mesh[at : at + 2] = [1, 2]
         low_mesh[2] = calc.verdict_of(low_mesh)
         self.assertIn("verdict safe, yet an exact voltage is above its limit",
                       self.judged(YARD, low_mesh))
         high_mesh = calc.row_at(RODDED, 12)
-        high_mesh[9:11] = [10**9, 10**9 + 1]
+        high_mesh[at : at + 2] = [10**9, 10**9 + 1]
         high_mesh[2] = calc.verdict_of(high_mesh)
         self.assertIn("verdict unsafe, yet both exact voltages are within",
                       self.judged(RODDED, high_mesh))
@@ -1131,8 +1313,9 @@ class Judging(unittest.TestCase):
 
     def test_step_alone_makes_unsafe(self):
         row = calc.row_at(STEP_ONLY, 12)
+        pairs = calc.row_pairs(row)
         self.assertEqual(row[2], calc.UNSAFE)
-        self.assertLess(row[10], row[5])
+        self.assertLess(pairs.mesh[1], pairs.tolerable_touch[0])
 
     def test_logarithm(self):
         # ln(22/7) = 1.14513230430300291...
@@ -1147,7 +1330,9 @@ class Judging(unittest.TestCase):
 
 
 class WrongCalculators(unittest.TestCase):
-    """Rows of the wrong calculators that document 01 names are found out."""
+    """Rows of the wrong calculators that document 01 names, and of wrong ones for rectangles and for the
+    factor, are found out.
+    """
 
     def assert_found(self, case, row, word):
         complaints = calc.judge_row(case, row, (3, 6, 12))
@@ -1168,12 +1353,14 @@ class WrongCalculators(unittest.TestCase):
 
     def test_conductor_sized_by_grid_current(self):
         row = calc.row_at(YARD, 12)
-        row[3] = calc.conductor_kcmil(YARD._replace(fault=YARD.fault * YARD.split // 1000))
+        row[3] = calc.conductor_kcmil(YARD._replace(fault=YARD.fault * YARD.split // 1000),
+                                      calc.row_pairs(row).factor[1])
         self.assert_found(YARD, row, "kcmil")
 
     def test_rounding_to_nearest(self):
         row = calc.row_at(YARD, 12)
-        row[5] = row[6] = 840548  # 840,547.93 mV to the nearest
+        at = calc.pair_place("tolerable_touch")
+        row[at : at + 2] = [840548, 840548]  # 840,547.93 mV to the nearest
         self.assert_found(YARD, row, "tolerable_touch")
 
     def test_pi_as_one_decimal_fraction(self):
@@ -1194,7 +1381,6 @@ class WrongCalculators(unittest.TestCase):
         self.assert_found(other, row, "season")
         row[1] = 2
         self.assert_found(other, row, "mesh")
-
 
     def rectangle(self, across, along, place=0):
         """A yard of great voltages, so that small differences show."""
@@ -1264,18 +1450,22 @@ class WrongCalculators(unittest.TestCase):
                 ("resistance", "rise"))
 
     def test_exponential_one_squaring_short(self):
+        """In Kii and the half-power, for times so long that the factor has nothing of it; in the factor."""
         def one_short(q, k):
-            j = max(0, calc.exp_halvings(abs(q)) - 1)
-            small = calc.exp_small(abs(q) / 2 ** calc.exp_halvings(abs(q)), k)
-            power = Pair(small.lower ** 2**j, small.upper ** 2**j)
-            return 1 / power if q < 0 else power
+            j = calc.exp_halvings(q)
+            small = 1 / calc.exp_small(q / 2**j, k)
+            return calc.outward(Pair(*(end ** 2 ** max(0, j - 1) for end in small)))
         for cases, words in (
             ((self.rectangle(2, 25), self.rectangle(3, 9, 2)), ("mesh", "step")),
             ((self.rectangle(2, 3),), ("mesh",)),  # its half-power takes no squaring
             ((self.rectangle(24, 25),), ("step",)),  # nor does its Kii
             ((self.rectangle(4, 5, 1),), ("step",)),
         ):
-            self.assert_told("exp_fraction", one_short, cases, words)
+            self.assert_told("exp_minus_fraction", one_short, (
+                case._replace(clear=1000) for case in cases), words)
+        self.assert_told("exp_minus_fraction", one_short, (
+            YARD._replace(clear=clear, xr=xr) for clear, xr in ((9, 10), (50, 20), (100, 11))),
+            self.BY_FACTOR)
 
     def test_exponential_without_its_rest(self):
         """With five terms; the rest after twelve is out of sight in millivolts."""
@@ -1287,19 +1477,118 @@ class WrongCalculators(unittest.TestCase):
 
     def test_ki_by_na(self):
         right = calc.driving
-        self.assert_told("driving", lambda case, n: right(case, calc.na(case)), (
+        self.assert_told("driving", lambda case, n, current: right(case, calc.na(case), current), (
             self.rectangle(2, 25), self.rectangle(2, 3, 1), self.rectangle(24, 25, 2)),
             ("mesh", "step"))
 
     def test_widths_with_ki_of_n(self):
         for case in (self.rectangle(2, 25), self.rectangle(2, 3, 1), self.rectangle(10, 13, 2)):
             row = calc.row_at(case, 12)
-            per_metre = calc.driving(case, calc.n_ends(case, 12).lower)
+            per_metre = calc.driving(case, calc.n_ends(case, 12).lower, calc.upper_current(row))
             for name, length in (("mesh", calc.total_length(case)), ("step", calc.step_length(case))):
-                at = calc.FIRST_PAIR + 2 * calc.Ends._fields.index(name)
+                at = calc.pair_place(name)
                 wide = list(row)
                 wide[at + 1] = row[at] + math.floor(per_metre / length / 100 + 10)
                 self.assert_found(case, wide, f"{name}: width")
+
+    # What hangs on the factor.
+    BY_FACTOR = ("current", "factor", "mesh", "step", "rise")
+
+    def faults(self):
+        """Yards with short and long faults at both frequencies."""
+        return (YARD, *(RODDED._replace(clear=clear, xr=xr, hz=hz, fault=20000) for clear, xr, hz in (
+            (9, 40, 50), (9, 1, 60), (50, 20, 50), (100, 11, 60), (500, 40, 60), (3000, 30, 50))))
+
+    def test_the_factor_of_document_01(self):
+        """1.000 from 500 ms on, and an entry of Table 10 for all times and X/R about it."""
+        for case, factor in ((YARD, 1), (YARD._replace(clear=99, xr=11), "1.378"),
+                             (YARD._replace(clear=9, xr=40), "1.688")):
+            self.assert_told("factor_ends", lambda *_: calc.as_pair(Fraction(factor)), (case,),
+                             self.BY_FACTOR)
+
+    def test_exponent_without_the_two(self):
+        right = calc.factor_exponent
+        self.assert_told("factor_exponent", lambda *fault: right(*fault) / 2, (
+            YARD._replace(clear=clear, xr=xr) for clear, xr in ((9, 40), (9, 1), (50, 20), (100, 11))),
+            self.BY_FACTOR)
+
+    def test_60_hz_for_50(self):
+        right = calc.time_constant
+        self.assert_told("time_constant", lambda xr, hz, k: right(xr, 60, k), (
+            case._replace(hz=50) for case in self.faults()), self.BY_FACTOR)
+
+    def test_50_hz_for_60(self):
+        right = calc.time_constant
+        self.assert_told("time_constant", lambda xr, hz, k: right(xr, 50, k), (
+            case._replace(hz=60) for case in self.faults()), self.BY_FACTOR)
+
+    def test_frequency_without_two_pi(self):
+        self.assert_told("time_constant", lambda xr, hz, k: calc.as_pair(Fraction(xr, hz)),
+                         self.faults(), self.BY_FACTOR)
+
+    def test_factor_without_its_exponential(self):
+        """Where it is above a billionth."""
+        self.assert_told("exp_minus", lambda pair, k: calc.as_pair(0), (
+            YARD._replace(clear=clear, xr=xr) for clear, xr in ((9, 40), (9, 1), (50, 20), (100, 11))),
+            self.BY_FACTOR)
+
+    def test_factor_without_its_root(self):
+        right = calc.factor_ends
+        def squared(*fault):
+            return Pair(*(end**2 for end in right(*fault)))
+        self.assert_told("factor_ends", squared, self.faults(), self.BY_FACTOR)
+
+    def test_factor_from_shock_or_wire(self):
+        for case, clock in itertools.product(self.faults(), ("shock", "wire")):
+            case = case._replace(shock=200, wire=250)
+            row = calc.row_at(case._replace(clear=getattr(case, clock)), 12)
+            for word in self.BY_FACTOR:
+                self.assert_found(case, row, f"{word}: ")
+
+    def test_voltages_without_the_factor(self):
+        """In the potential rise, or in mesh and step voltage; the current is right."""
+        for name, words in (("mesh_ends", ("mesh",)), ("step_ends", ("step",))):
+            right = getattr(calc, name)
+            def without(case, k):
+                return right(case, k) / calc.factor_ends(case.clear, case.xr, case.hz, k)
+            self.assert_told(name, without, self.faults(), words)
+        for case in self.faults():
+            row = calc.row_at(case, 12)
+            at, symmetrical = calc.pair_place("rise"), Fraction(case.fault * case.split, 1000)
+            row[at : at + 2] = [round(symmetrical * end / 1000) for end in calc.row_pairs(row).resistance]
+            self.assert_found(case, row, "rise: ")
+
+    def test_size_by_the_clear_time(self):
+        for case in self.faults():
+            case = case._replace(wire=1000)
+            row = calc.row_at(case, 12)
+            row[3] = calc.conductor_kcmil(case._replace(wire=case.clear), calc.row_pairs(row).factor[1])
+            self.assert_found(case, row, "kcmil")
+
+    def test_size_by_the_lower_end(self):
+        """Where a billionth more of the factor takes one kcmil more, for narrow and for wide ends."""
+        at = calc.pair_place("factor")
+        for metal, clear, wire, xr, hz, fault in SIZE_BILLIONTHS:
+            case = YARD._replace(metal=metal, clear=clear, wire=wire, xr=xr, hz=hz, fault=fault)
+            row = calc.row_at(case, 12)
+            self.assertEqual(row[at + 1] - row[at], 1)
+            for below, above in ((0, 0), (0, 999), (999, 0), (500, 499)):
+                wide = list(row)
+                wide[at : at + 2] = lower, upper = row[at] - below, row[at + 1] + above
+                wide[3] = calc.conductor_kcmil(case, upper)
+                self.assertEqual(calc.judge_row(case, wide, (12,)), [])
+                wide[3] = calc.conductor_kcmil(case, lower)
+                self.assert_found(case, wide, "kcmil")
+
+    def test_upper_current_by_the_lower_factor(self):
+        """Both currents from the lower end of a factor as wide as it may be."""
+        for case in self.faults():
+            row = calc.row_at(case, 12)
+            row[6] = row[7] - 1000
+            self.assertEqual(calc.judge_row(case, row, (12,)), [])
+            lower = Fraction(case.fault * case.split * row[6], 10**6)
+            row[4:6] = [math.floor(lower), math.ceil(lower)]
+            self.assert_found(case, row, "current: ")
 
 
 class AnnexB(unittest.TestCase):
@@ -1314,14 +1603,21 @@ class AnnexB(unittest.TestCase):
     Left out, as no formula of document 01 gives them: the fault currents and
     X/R from impedances, the reflection factor K, 59.81 kcmil (a 700 degree
     limit, equation 46), areas in mm2, the L-shaped grid of B.4, and the figures
-    of a computer program.  X/R 3.33 is entered as 4 and 16.2 as 17; at 0.5 s Df
-    is 1 for all.
+    of a computer program.  X/R 3.33 is entered as 4.  The Annex takes Df as 1 for
+    0.5 s, which request (d) no longer does, and so does the calculator here.
     """
 
-    B1 = Case(1, 1, 400, 2500, 102, 500, 500, 500, 70, 3180, 600, 4, 11, 11, 7000, 500, 100, 0, 0, 0, 2)
+    B1 = Case(1, 1, 400, 2500, 102, 500, 500, 500, 70, 3180, 600, 4, 11, 11, 7000, 500, 100, 0, 0, 0, 2, 60)
     B2 = B1._replace(rods=20, rodlen=7500, place=1)
     B3 = B1._replace(across=10, along=13, rods=38, rodlen=10000, place=1)
     K = 12
+
+    def setUp(self):
+        clear_caches()
+        self.addCleanup(clear_caches)
+        factor = mock.patch.object(calc, "factor_ends", lambda clear, xr, hz, k: calc.as_pair(1))
+        factor.start()
+        self.addCleanup(factor.stop)
 
     def assert_near(self, value, printed, tolerance):
         for end in calc.as_pair(value):
@@ -1354,8 +1650,7 @@ class AnnexB(unittest.TestCase):
         self.assertEqual(calc.total_length(self.B3), 2039)
         self.assertEqual(calc.perimeter(self.B3), 294)
         for case in (self.B1, self.B2, self.B3):
-            self.assertEqual(calc.decrement_thousandths(case), 1000)
-            self.assertEqual(calc.grid_current(case), 1908)
+            self.assertEqual(self.ends(case).current, (1908, 1908))
 
     def test_resistance_and_rise(self):
         for case, ohms, volts, digit in ((self.B1, "2.78", "5304", 1), (self.B2, "2.75", "5247", 1),
@@ -1422,7 +1717,7 @@ class AnnexB(unittest.TestCase):
 
     def test_step_voltage(self):
         self.assert_near(calc.ks_ends(self.B2, self.K), "0.406", "0.0005")
-        per_ks = calc.driving(self.B2, 11) / calc.step_length(self.B2)
+        per_ks = calc.driving(self.B2, 11, 1908) / calc.step_length(self.B2)
         # The Annex puts in the rounded Ks: half a digit of 0.1 V.
         self.assert_near(Fraction("0.406") * per_ks, "548.9", "0.05")
         # Ks is off by up to 0.0005: 0.7 V.
@@ -1431,10 +1726,10 @@ class AnnexB(unittest.TestCase):
 
     def test_conductor(self):
         """6.814 kA, hard-drawn copper: 34.02 kcmil, half a digit of 0.01."""
-        case = self.B1._replace(fault=6814, xr=17)
-        size = calc.root_ends(calc.size_squared(case), 2, self.K)
+        case = self.B1._replace(fault=6814)
+        size = calc.root_ends(calc.size_squared(case, calc.FACTOR_UNITS), 2, self.K)
         self.assert_near(size, "34.02", "0.005")
-        self.assertEqual(calc.conductor_kcmil(case), 35)
+        self.assertEqual(calc.row_at(case, self.K)[3], 35)
 
     def test_verdicts(self):
         self.assertEqual(calc.row_at(self.B1, self.K)[2], calc.UNSAFE)
@@ -1452,17 +1747,19 @@ class Command(unittest.TestCase):
         lines = self.run_command(sheet_of(*SAMPLE_LINES)).splitlines()
         self.assertEqual(len(lines), 3)
         first = dict(zip(lines[0].split(","), lines[1].split(",")))
-        self.assertEqual(first["kcmil"], "16")
-        self.assertEqual(first["df_thousandths"], "1000")
-        self.assertEqual(first["current_microamperes"], "1908000000")
-        self.assertEqual(first["mesh_lower"], "1001614.323503")
-        self.assertEqual(first["mesh_upper"], "1001614.323504")
+        self.assertEqual(first["kcmil"], "17")
+        self.assertEqual(first["factor_lower"], "1026183047.851000")
+        self.assertEqual(first["factor_upper"], "1026183047.852000")
+        self.assertEqual(first["current_lower"], "1957957255.299708")
+        self.assertEqual(first["current_upper"], "1957957255.301616")
+        self.assertEqual(first["mesh_lower"], "1027839.639263")
+        self.assertEqual(first["mesh_upper"], "1027839.639266")
         self.assertEqual(first["tolerable_touch_lower"], "840547.932321")
         self.assertEqual(first["resistance_lower"][:8], "2775693.")
 
     def test_refusals(self):
         sheet = sheet_of(*SAMPLE_LINES)
-        self.assertEqual(self.run_command(sheet, "--table", "33"), "refused,8,0,0\n")
+        self.assertEqual(self.run_command(sheet, "--table", "39"), "refused,8,0,0\n")
         self.assertEqual(self.run_command(sheet[:-1]), "refused,1,0,0\n")
 
     def test_depth(self):

@@ -12,7 +12,7 @@ import differential
 from calculator import Refusal
 from printed import ROW_NAMES
 
-SEED, COUNT = 2, 60
+SEED, COUNT = 48, 60
 PAIRS_EVERY = 101  # one case in so many of the pairs of counts is run here
 K = 9
 
@@ -37,20 +37,50 @@ def with_rows(change):
     return program
 
 
-def with_column(read, meant):
-    """A program that reads one column for another."""
+def with_cases(change):
+    """A program that works changed cases."""
     def program(_, sheet):
         cases = calc.read_sheet(sheet)
         if isinstance(cases, Refusal):
             return text_of(cases)
-        wrong = (case._replace(**{meant: getattr(case, read)}) for case in cases)
-        return text_of([calc.row_at(case, K) for case in wrong])
+        return text_of([calc.row_at(change(case), K) for case in cases])
     return program
 
 
+def with_column(read, meant):
+    """A program that reads one column for another."""
+    return with_cases(lambda case: case._replace(**{meant: getattr(case, read)}))
+
+
+def with_frequency(hz):
+    """A program that works one frequency for both."""
+    return with_cases(lambda case: case._replace(hz=hz))
+
+
 def takes(old):
-    """A program that still takes a name of document 01, for all that have its place."""
-    return lambda _, sheet: text_of(right_answer(differential.carried_over(sheet, old)))
+    """A program that still takes a name of document 01, for all that have its place, and then needs no
+    frequency.
+    """
+    def program(_, sheet):
+        newer = differential.carried_over(sheet, old)
+        return text_of(right_answer(newer if newer == sheet else differential.with_frequency(newer)))
+    return program
+
+
+def takes_no_frequency(_, sheet):
+    """A program that still takes a sheet without a frequency, for 60 Hz."""
+    return text_of(right_answer(differential.with_frequency(sheet)))
+
+
+def takes_60_for_any(_, sheet):
+    """A program that reads any frequency, and works 60 Hz."""
+    names, *lines = (line.split(b",") for line in sheet.split(b"\n"))
+    if b"hz" in names:
+        at = names.index(b"hz")
+        for line in lines:
+            if line[at : at + 1] and calc.has_value_form(line[at]):
+                line[at] = b"60"
+    return text_of(right_answer(b"\n".join(map(b",".join, (names, *lines)))))
 
 
 def refuses_all(_, sheet):
@@ -70,21 +100,37 @@ WRONG = {
     "leaves out the last row": with_rows(lambda rows: rows[:-1]),
     "leaves the table alone": with_rows(lambda rows: [[0] * calc.ROW_LENGTH for _ in rows]),
     "gives ends that are too wide": with_rows(
-        lambda rows: [row[:2] + [3] + row[3:5] + [0, 10**15] * 6 for row in rows]),
+        lambda rows: [row[:2] + [3, row[3]] + [0, 10**15] * 8 for row in rows]),
     "always says safe": with_rows(lambda rows: [row[:2] + [1] + row[3:] for row in rows]),
     "calls the undecided unsafe": with_rows(
         lambda rows: [row[:2] + [min(row[2], calc.UNSAFE)] + row[3:] for row in rows]),
     **{f"reads {read} for {meant}": with_column(read, meant)
        for names in (calc.CLOCKS, calc.COUNTS) for read, meant in permutations(names, 2)},
     **{f"takes a sheet with {old}": takes(old) for old in differential.OLD_NAMES},
+    "takes a sheet without a frequency": takes_no_frequency,
+    "takes 60 Hz for any frequency": takes_60_for_any,
+    "works 60 Hz for 50": with_frequency(60),
+    "works 50 Hz for 60": with_frequency(50),
+    "has a factor that is too wide": with_rows(
+        lambda rows: [row[:6] + [row[7] - 1001] + row[7:] for row in rows]),
+    "has the lower current for the upper": with_rows(
+        lambda rows: [row[:5] + [row[4]] + row[6:] for row in rows]),
     "prints no line end": lambda _, sheet: text_of(right_answer(sheet))[:-1],
 }
 
 
 class Differential(unittest.TestCase):
+    @classmethod
+    def setUpClass(cls):
+        cls.sheets = [differential.numbered_sheet(SEED, number)[1:] for number in range(COUNT)]
+
     def run_with(self, program):
-        with mock.patch.object(differential, "printed_by", program), redirect_stdout(io.StringIO()):
-            return differential.run("program", SEED, COUNT)
+        """The run with a program in place of the compiled one; its sheets are made once for all."""
+        def made(seed, number):
+            return random.Random(number), *self.sheets[number]
+        with mock.patch.multiple(differential, printed_by=program, numbered_sheet=made):
+            with redirect_stdout(io.StringIO()):
+                return differential.run("program", SEED, COUNT)
 
     def test_a_right_program_agrees(self):
         tally, rows, failed = self.run_with(with_rows(lambda rows: rows))
@@ -147,9 +193,11 @@ class Pairs(unittest.TestCase):
         self.assertEqual(widths, [])
 
     def test_a_wide_pair_is_told(self):
-        """Tolerable touch, the first pair, twice as wide as it may be."""
+        """Tolerable touch twice as wide as it may be."""
+        at = calc.pair_place("tolerable_touch")
+
         def widened(row):
-            return row[:6] + [row[5] + row[5] // 5000 + 20] + row[7:]
+            return row[: at + 1] + [row[at] + row[at] // 5000 + 20] + row[at + 2 :]
         cases, wrong, widths = self.run_with(with_rows(lambda rows: list(map(widened, rows))))
         self.assertGreaterEqual(len(wrong), len(cases))
         for _, shares in widths:

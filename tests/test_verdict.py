@@ -1,5 +1,5 @@
 """The program `verdict` is run on document 01's sample sheet, whose ms each clock has and whose lines
-each count, and prints what document 01 shows.
+each count, at 60 Hz, and prints what document 01 shows, with the conductor sizes of request (d).
 
 `rt check verdict` holds the program to these files. test_batch.py judges the same listing of many
 sheets.
@@ -14,20 +14,21 @@ from printed import read_verdicts
 VERDICT = Path(__file__).parents[1] / "crates" / "verdict"
 
 SAMPLE = b"""\
-station,season,soil,layer,thick,shock,clear,wire,body,fault,split,xr,across,along,space,depth,dia,rods,rodlen,place,metal
-7,1,400,2500,102,500,500,500,70,3180,600,10,11,11,7000,500,100,0,0,0,1
-7,2,100,2500,102,500,500,500,70,3180,600,10,11,11,7000,500,100,0,0,0,1
+station,season,soil,layer,thick,shock,clear,wire,body,fault,split,xr,across,along,space,depth,dia,rods,rodlen,place,metal,hz
+7,1,400,2500,102,500,500,500,70,3180,600,10,11,11,7000,500,100,0,0,0,1,60
+7,2,100,2500,102,500,500,500,70,3180,600,10,11,11,7000,500,100,0,0,0,1,60
 """
 SHOWN = b"""\
 station,season,verdict,kcmil
-7,1,unsafe,16
-7,2,safe,16
+7,1,unsafe,17
+7,2,safe,17
 """
 
 
 class Verdict(unittest.TestCase):
     def test_the_sample_sheet(self):
-        self.assertEqual((VERDICT / "stdin").read_bytes(), SAMPLE)
+        for file in (VERDICT / "stdin", Path(__file__).with_name("sample.csv")):
+            self.assertEqual(file.read_bytes(), SAMPLE)
 
     def test_what_is_shown(self):
         self.assertEqual((VERDICT / "stdout").read_bytes(), SHOWN)

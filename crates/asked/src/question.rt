@@ -18,7 +18,7 @@ use text::skip;
 // A question on a record.
 fn on_record(kind: &[u8], c: Case) {
     if same(kind, b"factor") {
-        settled(hocsimbur::decrement_factor(c));
+        ends(hocsimbur::decrement_factor(c));
     } else if same(kind, b"size") {
         settled(hocsimbur::conductor_size(c));
     } else if same(kind, b"tolerable") {

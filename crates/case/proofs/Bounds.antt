@@ -92,6 +92,7 @@ bounded c r g =
           rods c (between 0 200 (c .rods) (at "rods") .high) (zero-or 1000 10000 (c .rodlen) (at "rodlen"))
           (between 0 2 (c .place) (at "place") .high) (g .rodlen) (g .place);
       metal = between 1 11 (c .metal) (at "metal");
+      hz = either-of 50 60 (c .hz) (at "hz");
     }
 
 pub bounds : {at : List ℕ} {c : Case} → Placed columns at → caseFinding at c ≡ Sound → Bounds c

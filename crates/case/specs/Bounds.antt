@@ -57,3 +57,4 @@ pub record Bounds (c : Case) : Type 0 where
   pub dia : Between 50 (c .dia) 300
   pub rods : Rodless c ⊎ Rodded c
   pub metal : Between 1 (c .metal) 11
+  pub hz : (c .hz ≡ 50) ⊎ (c .hz ≡ 60)

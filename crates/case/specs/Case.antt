@@ -10,7 +10,7 @@ abbrev pub values : Case → List ℕ
 values c =
     c .station ∷ c .season ∷ c .soil ∷ c .layer ∷ c .thick ∷ c .shock ∷ c .clear ∷ c .wire
     ∷ c .body ∷ c .fault ∷ c .split ∷ c .xr ∷ c .across ∷ c .along ∷ c .space
-    ∷ c .depth ∷ c .dia ∷ c .rods ∷ c .rodlen ∷ c .place ∷ c .metal
+    ∷ c .depth ∷ c .dia ∷ c .rods ∷ c .rodlen ∷ c .place ∷ c .metal ∷ c .hz
     ∷ []
 
 abbrev pub caseOf : List ℕ → Case
@@ -37,6 +37,7 @@ caseOf v =
       rodlen = getD v 18 0;
       place = getD v 19 0;
       metal = getD v 20 0;
+      hz = getD v 21 0;
     }
 
 pub case-of-values : (c : Case) → caseOf (values c) ≡ c

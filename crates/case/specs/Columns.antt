@@ -32,7 +32,7 @@ abbrev column : String → Range → Column
 column name range = record { name = bytes name; range = range }
 
 -- document 01's names with their ranges; request (a) of document 02: "ms gives place to shock, clear and wire in that order, each 9..3000";
--- request (c): "The column lines becomes across and along in that order, each 2..25"
+-- request (c): "The column lines becomes across and along in that order, each 2..25"; request (d): "A column hz, 50 or 60, is added last"
 unfoldable pub columns : Form
 columns =
     column "station" (from 1 65535)
@@ -56,11 +56,12 @@ columns =
     ∷ column "rodlen" (zeroOr 1000 10000)
     ∷ column "place" (from 0 2)
     ∷ column "metal" (from 1 11)
+    ∷ column "hz" (either 50 60)
     ∷ []
 
 -- how many they are
 abbrev pub nameCount : ℕ
-nameCount = 21
+nameCount = 22
 
 pub name-count : length columns ≡ nameCount
 unfolding columns

@@ -9,7 +9,7 @@ use parts::disagreement;
 use parts::out_of_range;
 
 // How many names document 01's table has.
-pub const NAMES: usize = 21;
+pub const NAMES: usize = 22;
 
 // The numbers of document 01's table of names, in its order and units.
 pub struct Case {
@@ -34,6 +34,7 @@ pub struct Case {
     pub rodlen: u32,
     pub place: u32,
     pub metal: u32,
+    pub hz: u32,
 }
 
 // What the checks of a case find, with the column at fault.
@@ -75,6 +76,7 @@ pub fn case_of(v: [u32; NAMES]) -> Case
         rodlen: v[18],
         place: v[19],
         metal: v[20],
+        hz: v[21],
     }
 }
 
@@ -104,6 +106,7 @@ fn values_of(c: Case) -> [u32; NAMES]
         c.rodlen,
         c.place,
         c.metal,
+        c.hz,
     ]
 }
 
@@ -146,6 +149,7 @@ fn check(c: Case) -> Finding
             19,
             20,
             21,
+            22,
         ],
         c,
     )

@@ -35,6 +35,7 @@ const RANGES: [Range; NAMES] = [
     Range::ZeroOr(1000, 10000),
     Range::From(0, 2),
     Range::From(1, 11),
+    Range::Either(50, 60),
 ];
 
 fn entry(k: usize) -> Range

@@ -2,3 +2,4 @@ pub mod SquareLoad
 pub mod Smallest
 pub mod GridCurrent
 pub mod Metals
+pub mod Yards

@@ -11,33 +11,33 @@ use Rattle.formulas.proofs.Size.{size-enough, size-least}
 use Rattle.current.specs.Size.{squareLoad, IsSmallest}
 use Rattle.current.proofs.SquareLoad.{load-low, load-high}
 
-module _ (c : Case) (r : ℕ) (s : IsSmallest (squareLoad (duty c) (c .wire)) r) where
-  not-below : r < size c → ⊥
+module _ (c : Case) (f r : ℕ) (s : IsSmallest (squareLoad (duty c f) (c .wire)) r) where
+  not-below : r < size c f → ⊥
   not-below h =
       omega (
         arith,
         s .enough,
-        load-low (duty c) (c .wire),
-        size-least c r h,
+        load-low (duty c f) (c .wire),
+        size-least c f r h,
         square r,
-        ap (λ t. t * c .wire) (square (duty c)),
+        ap (λ t. t * c .wire) (square (duty c f)),
       )
 
-  not-above : size c < r → ⊥
+  not-above : size c f < r → ⊥
   not-above h =
       omega (
         arith,
-        s .least (size c) h,
-        load-high (duty c) (c .wire),
-        size-enough c,
-        square (size c),
-        ap (λ t. t * c .wire) (square (duty c)),
+        s .least (size c f) h,
+        load-high (duty c f) (c .wire),
+        size-enough c f,
+        square (size c f),
+        ap (λ t. t * c .wire) (square (duty c f)),
       )
 
-  pub size-is : r ≡ size c
-  size-is = go (decLt r (size c)) (decLt (size c) r)
+  pub size-is : r ≡ size c f
+  size-is = go (decLt r (size c f)) (decLt (size c f) r)
     where
-      go : Dec (r < size c) → Dec (size c < r) → r ≡ size c
+      go : Dec (r < size c f) → Dec (size c f < r) → r ≡ size c f
       go (yes h) d = absurd (not-below h)
       go (no h) (yes k) = absurd (not-above k)
       go (no h) (no k) = omega arith

@@ -1,3 +1,4 @@
+pub mod Ends
 pub mod Metal
 pub mod Size
 pub mod Loop

@@ -1,10 +1,9 @@
-// The fault current of a case: decrement factor, grid current, conductor size. All are exact.
-mod decrement;
+// What the decrement factor of a case gives: grid current and conductor size.
+mod grid;
 mod metal;
 mod size;
 
-pub use decrement::decrement_factor;
-pub use decrement::grid_current;
+pub use grid::grid_current;
 pub use metal::Constant;
 pub use metal::Metal;
 pub use size::conductor_size;

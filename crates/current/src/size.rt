@@ -2,30 +2,31 @@
 ghost use mathlib.Core.Path.{_≡_};
 ghost use Prim.Native.Nat.{_*_, _≤_, _<_, _^_};
 ghost use Rattle.case.specs.Bounds.{Bounds};
-ghost use Rattle.formulas.specs.Decrement.{Df};
 ghost use Rattle.formulas.specs.Size.{duty, size};
-ghost use Rattle.interval.specs.Whole.{ceilDiv};
-ghost use Rattle.current.specs.Size.{squareLoad, IsSmallest};
-use crate::decrement::decrement_factor;
+ghost use Rattle.decrement.specs.Ends.{factorEnds};
+ghost use Rattle.current.specs.Ends.{upperFactor};
+ghost use Rattle.current.specs.Size.{carriedOf, squareOf, Parts, squareLoad, IsSmallest};
 use crate::metal::Constant;
 use crate::metal::Metal;
 use case::Case;
+use interval::Interval;
 
-// I in thousandths of an ampere.
-fn fault_current(c: Case) -> u64
+// I in 10^-9 A, by the upper end of the case's decrement factor.
+fn fault_current(c: Case, factor: Interval) -> u64
     requires { ⌜ Bounds c ⌝ }
-    ensures { λ r. ⌜ r ≡ c .fault * Df c ⌝ }
+    requires { ⌜ factor ≡ factorEnds c ⌝ }
+    ensures { λ r. ⌜ r ≡ c .fault * upperFactor c ⌝ }
 {
-    let df = decrement_factor(c);
-    (c.fault as u64) * (df as u64)
+    (c.fault as u64) * (factor.upper as u64)
 }
 
-// I·Kf in units of 10^-8.
-fn load(c: Case) -> u64
+// I·Kf in units of 10^-14.
+fn load(c: Case, factor: Interval) -> u64
     requires { ⌜ Bounds c ⌝ }
-    ensures { λ r. ⌜ r ≡ duty c ⌝ }
+    requires { ⌜ factor ≡ factorEnds c ⌝ }
+    ensures { λ r. ⌜ r ≡ duty c (upperFactor c) ⌝ }
 {
-    let current = fault_current(c);
+    let current = fault_current(c, factor);
     let constant = Metal { number: c.metal }.kf();
     let Constant::Kf(kf) = constant else {
         return 0;
@@ -33,26 +34,44 @@ fn load(c: Case) -> u64
     current * (kf as u64)
 }
 
-// n / d rounded up.
-fn ceil_div(n: u64, d: u64) -> u64
-    requires { ⌜ 0 < d ⌝ }
-    requires { ⌜ n < 2 ^ 62 ⌝ }
-    requires { ⌜ d < 2 ^ 62 ⌝ }
-    ensures { λ r. ⌜ r ≡ ceilDiv n d ⌝ }
+// A part of a square times ms.
+fn part(p: u64, q: u64, ms: u64) -> u64
+    requires { ⌜ p < 2000000 ⌝ }
+    requires { ⌜ q < 1000000 ⌝ }
+    requires { ⌜ ms ≤ 3000 ⌝ }
+    ensures { λ r. ⌜ r ≡ p * q * ms ⌝ }
 {
-    (n + (d - 1)) / d
+    p * q * ms
 }
 
-// x² · ms / 10^12, rounded up.
+// A part and what is carried to it, over 10^6, rounded up.
+fn carried(n: u64, below: u64) -> u64
+    requires { ⌜ n < 2 ^ 60 ⌝ }
+    requires { ⌜ below < 2 ^ 60 ⌝ }
+    ensures { λ r. ⌜ r ≡ carriedOf n below ⌝ }
+{
+    (n + below + 999999) / 1000000
+}
+
+// (u · 10^12 + v · 10^6 + w)² · ms / 10^24, rounded up.
+fn square(u: u64, v: u64, w: u64, ms: u64) -> u64
+    requires { ⌜ Parts u v w ms ⌝ }
+    ensures { λ r. ⌜ r ≡ squareOf u v w ms ⌝ }
+{
+    let lowest = carried(part(w, w, ms), 0);
+    let low = carried(part(2 * v, w, ms), lowest);
+    let middle = carried(part(2 * u, w, ms) + part(v, v, ms), low);
+    part(u, u, ms) + carried(part(2 * u, v, ms), middle)
+}
+
+// x² · ms / 10^24, rounded up.
 fn square_load(x: u64, ms: u64) -> u64
-    requires { ⌜ x < 10 ^ 12 ⌝ }
+    requires { ⌜ x < 10 ^ 18 ⌝ }
     requires { ⌜ ms ≤ 3000 ⌝ }
     ensures { λ r. ⌜ r ≡ squareLoad x ms ⌝ }
 {
-    let a = x / 1000000;
-    let b = x % 1000000;
-    let low = ceil_div(b * b * ms, 1000000);
-    a * a * ms + ceil_div(2 * a * b * ms + low, 1000000)
+    let upper = x / 1000000;
+    square(upper / 1000000, upper % 1000000, x % 1000000, ms)
 }
 
 // The smallest number whose square times 10^7 is at least t.
@@ -67,10 +86,11 @@ fn smallest_square(t: u64) -> u64
     a
 }
 
-// The conductor size in kcmil.
-pub fn conductor_size(c: Case) -> u64
+// The conductor size in kcmil, for the case's decrement factor.
+pub fn conductor_size(c: Case, factor: Interval) -> u64
     requires { ⌜ Bounds c ⌝ }
-    ensures { λ r. ⌜ r ≡ size c ⌝ }
+    requires { ⌜ factor ≡ factorEnds c ⌝ }
+    ensures { λ r. ⌜ r ≡ size c (upperFactor c) ⌝ }
 {
-    smallest_square(square_load(load(c), c.wire as u64))
+    smallest_square(square_load(load(c, factor), c.wire as u64))
 }

@@ -4,7 +4,6 @@
 use Prim.Native.Nat.{ℕ, _+_, _*_, _/_, _^_, _≤_, _<_}
 use mathlib.Core.Path.{refl, ap}
 use native.Mathlib.Omega.{arith}
-use native.Mathlib.Nat.{le-trans}
 use lib.Dec.{lit≤}
 use lib.IntN.{pos, natAbs}
 use Rattle.interval.specs.declared.Interval.{Interval}
@@ -15,11 +14,10 @@ use Rattle.interval.proofs.Natural.{natural-scaled, natural-outward}
 use Rattle.interval.proofs.Rounding.{floorDiv-below, ceilDiv-above}
 use Rattle.interval.proofs.Span.{span-divisor}
 use Rattle.exact.specs.Fraction.{Fraction, _≤f_, _<f_, _≈f_, whole, decimal, _·f_, inv, _÷f_}
-use Rattle.exact.specs.Exact.{Exact, exactly, _·x_, _÷x_, minus}
+use Rattle.exact.specs.Exact.{Exact, exactly, _·x_, _÷x_}
 use Rattle.exact.specs.Pi.{π}
 use Rattle.exact.specs.Root.{root}
-use Rattle.exact.specs.Exponential.{exp}
-use Rattle.exact.specs.Depth.{workDepth, Consistent, Proper, SameEnds}
+use Rattle.exact.specs.Depth.{workDepth, Proper, SameEnds}
 use Rattle.exact.specs.Reported.{ten, over}
 use Rattle.exact.proofs.Order.{le-of-lt, refl≈, sym≈, trans≈, nonneg}
 use Rattle.exact.proofs.Powers.{square}
@@ -45,9 +43,12 @@ use Rattle.enclosure.proofs.Multiples.{encloses-rounded}
 use Rattle.enclosure.proofs.Roots.{encloses-root}
 use Rattle.enclosure.proofs.Constants.{π-encloses}
 use Rattle.exponential.proofs.Encloses.{power-encloses}
-use Rattle.decrement.specs.Factor.{Ta, tf, Df}
-use Rattle.decrement.specs.Ends.{Asked, exponentEnds, ratioEnds, restEnds, squareEnds, factorEnds}
-use Rattle.decrement.proofs.Consistent.{exponent, ratio, rest, offset, underRoot, one, two-pos, xr-pos, tf-pos, twice-pos, quantity-turns, quantity-Ta, quantity-ratio, quantity-exponent, consistent-power, consistent-rest, consistent-offset}
+use Rattle.case.specs.declared.Case.{Case}
+use Rattle.case.specs.Bounds.{Bounds}
+use Rattle.formulas.specs.Decrement.{Ta, tf, Df}
+use Rattle.formulas.proofs.Decrement.{exponent, ratio, rest, offset, underRoot, two-pos, xr-pos, tf-pos, twice-pos, quantity-turns, quantity-Ta, quantity-ratio, quantity-exponent, consistent-power, consistent-rest, consistent-offset}
+use Rattle.formulas.proofs.Quantities.{one}
+use Rattle.decrement.specs.Ends.{exponentEnds, ratioEnds, restEnds, squareEnds, factorEnds}
 
 -- ---- a divisor that is itself a quotient
 
@@ -134,82 +135,82 @@ root-encloses s e =
     (rw (square (squareRoot (y * 10 ^ 9) + 1), square (10 ^ 9)) (omega (arith, square-root (y * 10 ^ 9) .high)))
     (rw (s .is) at e))
 
-module _ {clear xr hz : ℕ} (a : Asked clear xr hz) where
+module _ {c : Case} (b : Bounds c) where
   -- ---- 2tf/Ta is (4·hz·clear/(1000·xr))·π
 
-  over-pos : 0 < 1000 * xr
-  over-pos = omega (arith, a .xr .low)
+  over-pos : 0 < 1000 * c .xr
+  over-pos = omega (arith, b .xr .low)
 
-  factor-is : (whole 2 ·f tf clear xr hz) ÷f whole xr ·f (whole 2 ·f whole hz) ≈f whole (4 * hz * clear) ÷f whole (1000 * xr)
+  factor-is : (whole 2 ·f tf c) ÷f whole (c .xr) ·f (whole 2 ·f whole (c .hz)) ≈f whole (4 * c .hz * c .clear) ÷f whole (1000 * c .xr)
   unfolding tf decimal whole inv _÷f_ _·f_
   factor-is =
-      let e = ap (λ t. hz * clear * t) (clamped (a .xr .low)) in
-      let f = ap (λ t. hz * clear * t) (clamped over-pos) in
+      let e = ap (λ t. c .hz * c .clear * t) (clamped (b .xr .low)) in
+      let f = ap (λ t. c .hz * c .clear * t) (clamped over-pos) in
       record { to = record { le = omega (arith, e, f) }; fro = record { le = omega (arith, e, f) } }
 
-  turns-same : SameEnds ((exactly (whole 2) ·x π ·x exactly (whole hz)) workDepth) ((exactly (whole 2 ·f whole hz) ·x π) workDepth)
+  turns-same : SameEnds ((exactly (whole 2) ·x π ·x exactly (whole (c .hz))) workDepth) ((exactly (whole 2 ·f whole (c .hz)) ·x π) workDepth)
   unfolding _·x_
   turns-same =
-      same-trans (factors-exchanged (proper-exactly (whole 2)) proper-π (proper-exactly (whole hz)))
-      (product-same (exactly-product (whole 2) (whole hz) workDepth) (same-refl (π workDepth)))
+      same-trans (factors-exchanged (proper-exactly (whole 2)) proper-π (proper-exactly (whole (c .hz))))
+      (product-same (exactly-product (whole 2) (whole (c .hz)) workDepth) (same-refl (π workDepth)))
 
-  exponent-same : SameEnds (exponent clear xr hz workDepth) ((exactly (whole (4 * hz * clear) ÷f whole (1000 * xr)) ·x π) workDepth)
+  exponent-same : SameEnds (exponent c workDepth) ((exactly (whole (4 * c .hz * c .clear) ÷f whole (1000 * c .xr)) ·x π) workDepth)
   unfolding Ta _·x_
   exponent-same =
-      let c = (whole 2 ·f tf clear xr hz) ÷f whole xr in
-      let d = whole 2 ·f whole hz in
-      same-trans (double-divided-ends (twice-pos a) (xr-pos a) (quantity-turns a) (lit≤ tt))
-      (same-trans (product-same (same-refl (exactly c workDepth)) turns-same)
-      (same-trans (same-sym (product-grouped (proper-exactly c) (proper-exactly d) proper-π))
-      (product-same (same-trans (exactly-product c d workDepth) (exactly-same factor-is workDepth)) (same-refl (π workDepth)))))
+      let p = (whole 2 ·f tf c) ÷f whole (c .xr) in
+      let d = whole 2 ·f whole (c .hz) in
+      same-trans (double-divided-ends (twice-pos b) (xr-pos b) (quantity-turns b) (lit≤ tt))
+      (same-trans (product-same (same-refl (exactly p workDepth)) turns-same)
+      (same-trans (same-sym (product-grouped (proper-exactly p) (proper-exactly d) proper-π))
+      (product-same (same-trans (exactly-product p d workDepth) (exactly-same factor-is workDepth)) (same-refl (π workDepth)))))
 
-  pub exponent-encloses : Encloses (exponent clear xr hz) (ten 9) (exponentEnds clear xr hz)
+  pub exponent-encloses : Encloses (exponent c) (ten 9) (exponentEnds c)
   unfolding exponentEnds
-  exponent-encloses = encloses-same exponent-same (share-encloses (4 * hz * clear) (1000 * xr) over-pos)
+  exponent-encloses = encloses-same exponent-same (share-encloses (4 * c .hz * c .clear) (1000 * c .xr) over-pos)
 
   -- ---- Ta/tf is 2/(2tf/Ta)
 
-  inverse-is : inv (tf clear xr hz) ≈f whole 2 ÷f (whole 2 ·f tf clear xr hz)
+  inverse-is : inv (tf c) ≈f whole 2 ÷f (whole 2 ·f tf c)
   unfolding _÷f_
   inverse-is =
-      let t = tf clear xr hz in
-      trans≈ (sym≈ (split-inv (tf-pos a) two-pos)) (cong· (refl≈ (whole 2)) (inv-cong (mul-pos (tf-pos a) two-pos) (mul-comm t (whole 2))))
+      let t = tf c in
+      trans≈ (sym≈ (split-inv (tf-pos b) two-pos)) (cong· (refl≈ (whole 2)) (inv-cong (mul-pos (tf-pos b) two-pos) (mul-comm t (whole 2))))
 
-  ratio-same : SameEnds (ratio clear xr hz workDepth) ((exactly (whole 2) ÷x exponent clear xr hz) workDepth)
+  ratio-same : SameEnds (ratio c workDepth) ((exactly (whole 2) ÷x exponent c) workDepth)
   unfolding _÷x_ _·x_ exactly
   ratio-same =
-      let t = Ta clear xr hz workDepth in
-      same-trans (quotient-product t (exactly (tf clear xr hz) workDepth))
-      (same-trans (product-turned t (exactly (inv (tf clear xr hz)) workDepth))
+      let t = Ta c workDepth in
+      same-trans (quotient-product t (exactly (tf c) workDepth))
+      (same-trans (product-turned t (exactly (inv (tf c)) workDepth))
       (same-trans (product-same (exactly-same inverse-is workDepth) (same-refl t))
-      (same-sym (double-divided-ends two-pos (twice-pos a) (quantity-Ta a) (lit≤ tt)))))
+      (same-sym (double-divided-ends two-pos (twice-pos b) (quantity-Ta b) (lit≤ tt)))))
 
   -- ---- the rest of the line, where the span of 2tf/Ta is known
 
-  module _ {l h w : ℕ} (p : 1 ≤ l) (s : Span (exponentEnds clear xr hz) l h w) where
-    pub ratio-encloses : Encloses (ratio clear xr hz) (ten 9) (ratioEnds clear xr hz)
+  module _ {l h w : ℕ} (p : 1 ≤ l) (s : Span (exponentEnds c) l h w) where
+    pub ratio-encloses : Encloses (ratio c) (ten 9) (ratioEnds c)
     unfolding ratioEnds ten
     ratio-encloses =
         encloses-same ratio-same
-        (encloses-quotient {u = ten 0} (ten 9) (10 ^ 18) refl (span-divisor p s .0) (consistent-exactly (whole 2)) (quantity-exponent a .consistent)
+        (encloses-quotient {u = ten 0} (ten 9) (10 ^ 18) refl (span-divisor p s .0) (consistent-exactly (whole 2)) (quantity-exponent b .consistent)
         (encloses-whole 2 (ten 0) refl) exponent-encloses)
 
-    pub rest-encloses : Encloses (rest clear xr hz) (ten 9) (restEnds clear xr hz)
+    pub rest-encloses : Encloses (rest c) (ten 9) (restEnds c)
     unfolding restEnds ten
     rest-encloses =
-        encloses-difference (one .consistent) (consistent-power a) (encloses-whole 1 (ten 9) refl)
-        (power-encloses p (quantity-exponent a .consistent) s exponent-encloses)
+        encloses-difference (one .consistent) (consistent-power b) (encloses-whole 1 (ten 9) refl)
+        (power-encloses p (quantity-exponent b .consistent) s exponent-encloses)
 
-    offset-encloses : Encloses (offset clear xr hz) (ten 9) (productOf (restEnds clear xr hz) (ratioEnds clear xr hz) (10 ^ 9))
+    offset-encloses : Encloses (offset c) (ten 9) (productOf (restEnds c) (ratioEnds c) (10 ^ 9))
     unfolding _·x_ ten
     offset-encloses =
         encloses-same (product-turned _ _)
-        (encloses-product (ten 9) (10 ^ 9) refl (consistent-rest a) (quantity-ratio a .consistent) rest-encloses ratio-encloses)
+        (encloses-product (ten 9) (10 ^ 9) refl (consistent-rest b) (quantity-ratio b .consistent) rest-encloses ratio-encloses)
 
-    pub square-encloses : Encloses (underRoot clear xr hz) (ten 9) (squareEnds clear xr hz)
+    pub square-encloses : Encloses (underRoot c) (ten 9) (squareEnds c)
     unfolding squareEnds ten
-    square-encloses = encloses-sum (one .consistent) (consistent-offset a) (encloses-whole 1 (ten 9) refl) offset-encloses
+    square-encloses = encloses-sum (one .consistent) (consistent-offset b) (encloses-whole 1 (ten 9) refl) offset-encloses
 
-    pub factor-encloses : {l′ h′ w′ : ℕ} → Span (squareEnds clear xr hz) l′ h′ w′ → Encloses (Df clear xr hz) (ten 9) (factorEnds clear xr hz)
+    pub factor-encloses : {l′ h′ w′ : ℕ} → Span (squareEnds c) l′ h′ w′ → Encloses (Df c) (ten 9) (factorEnds c)
     unfolding Df factorEnds
     factor-encloses t = root-encloses t square-encloses

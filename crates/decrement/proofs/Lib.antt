@@ -1,5 +1,5 @@
-pub mod Consistent
 pub mod Spans
 pub mod Widths
 pub mod Enclosed
 pub mod Right
+pub mod Computed

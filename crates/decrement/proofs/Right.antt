@@ -3,23 +3,31 @@
 use Prim.Native.Nat.{ℕ, _+_, _≤_}
 use native.Mathlib.Omega.{arith}
 use lib.Dec.{lit≤}
-use lib.IntN.{pos}
 use Rattle.interval.specs.Operations.{natural}
-use Rattle.exact.specs.Fraction.{_≤f_, decimal, _+f_, neg, _−f_}
+use Rattle.exact.specs.Fraction.{decimal, _+f_, neg, _−f_}
 use Rattle.exact.specs.Reported.{ten, over, reported, AtMost, Reports}
+use Rattle.enclosure.specs.Enclosure.{Encloses}
 use Rattle.enclosure.proofs.Reporting.{reports}
-use Rattle.decrement.specs.Factor.{Df, factorWidth}
-use Rattle.decrement.specs.Ends.{Asked, factorEnds}
-use Rattle.decrement.proofs.Consistent.{consistent-Df}
+use Rattle.case.specs.declared.Case.{Case}
+use Rattle.case.specs.Bounds.{Bounds}
+use Rattle.formulas.specs.Decrement.{Df}
+use Rattle.formulas.specs.Width.{billionths, factorWidth}
+use Rattle.formulas.proofs.Decrement.{consistent-Df}
+use Rattle.decrement.specs.Ends.{factorEnds}
 use Rattle.decrement.proofs.Enclosed.{factor-encloses}
 use Rattle.decrement.proofs.Spans.{exponent-span}
 use Rattle.decrement.proofs.Widths.{square-span, factor-span}
 
-within-allowed : (a b : ℕ) → b ≤ a + 500 → AtMost (factorWidth (reported (ten 9) (natural a b))) (reported (ten 9) (natural a b))
-unfolding factorWidth reported ten over natural decimal _+f_ _−f_ neg
+within-allowed : (a b : ℕ) → b ≤ a + 500 → AtMost (factorWidth (reported billionths (natural a b))) (reported billionths (natural a b))
+unfolding factorWidth billionths reported ten over natural decimal _+f_ _−f_ neg
 within-allowed a b h = record { apart = record { le = omega arith } }
 
-pub factor-reports : {clear xr hz : ℕ} → Asked clear xr hz → Reports (Df clear xr hz) (ten 9) factorWidth (factorEnds clear xr hz)
-factor-reports a =
-    let s = factor-span a in
-    reports factorWidth (consistent-Df a) (factor-encloses a (lit≤ tt) (exponent-span a) (square-span a)) (rw (s .is) (within-allowed (s .a) (s .b) (s .near)))
+module _ {c : Case} (b : Bounds c) where
+  pub encloses-Df : Encloses (Df c) billionths (factorEnds c)
+  unfolding billionths
+  encloses-Df = factor-encloses b (lit≤ tt) (exponent-span b) (square-span b)
+
+  pub factor-reports : Reports (Df c) billionths factorWidth (factorEnds c)
+  factor-reports =
+      let s = factor-span b in
+      reports factorWidth (consistent-Df b) encloses-Df (rw (s .is) (within-allowed (s .a) (s .b) (s .near)))

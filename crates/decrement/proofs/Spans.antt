@@ -22,8 +22,10 @@ use Rattle.enclosure.proofs.Constants.{π-span}
 use Rattle.exponential.specs.Ends.{billion, halvingsOf, endOf, expEnds, expPair}
 use Rattle.exponential.proofs.Sizes.{halvings-parts}
 use Rattle.exponential.proofs.Span.{exp-span}
-use Rattle.case.specs.Bounds.{Between}
-use Rattle.decrement.specs.Ends.{Asked, exponentEnds, ratioEnds, restEnds}
+use Rattle.case.specs.declared.Case.{Case}
+use Rattle.case.specs.Bounds.{Between, Bounds}
+use Rattle.formulas.proofs.Decrement.{hz-bounds}
+use Rattle.decrement.specs.Ends.{exponentEnds, ratioEnds, restEnds}
 
 -- the ends of a span, where they are known
 ends-are : {i : Interval} {l h w : ℕ} (a b : ℕ) → i ≡ natural a b → (s : Span i l h w) → (s .a ≡ a) × (s .b ≡ b)
@@ -61,23 +63,23 @@ power-near : (a b p : ℕ) → πBelow * b ≤ (πBelow + 1) * a + πBelow * 2 �
     → (5 * (b - a) + 20 * p) * billion ≤ 31 * billion + 82 * a
 power-near a b p h k = omega (arith, h, k)
 
-module _ {clear xr hz : ℕ} (h : Asked clear xr hz) where
-  pub turns-bounds : Between 450 (hz * clear) 180000
-  turns-bounds = record { low = mul-le-mul (h .hz .low) (h .clear .low); high = mul-le-mul (h .hz .high) (h .clear .high) }
+module _ {c : Case} (h : Bounds c) where
+  pub turns-bounds : Between 450 (c .hz * c .clear) 180000
+  turns-bounds = record { low = mul-le-mul (hz-bounds h .low) (h .clear .low); high = mul-le-mul (hz-bounds h .high) (h .clear .high) }
 
-  pub over-pos : 0 < 1000 * xr
+  pub over-pos : 0 < 1000 * c .xr
   over-pos = omega (arith, h .xr .low)
 
   -- ---- the exponent
 
-  pub exponent-span : Span (exponentEnds clear xr hz) 141371669 2261946710880 721
+  pub exponent-span : Span (exponentEnds c) 141371669 2261946710880 721
   unfolding exponentEnds
   exponent-span =
       let t = turns-bounds in
-      span-outward (1000 * xr) 141371669 2261946710880 720 over-pos (omega (arith, t .low, h .clear .low, h .xr .high))
+      span-outward (1000 * c .xr) 141371669 2261946710880 720 over-pos (omega (arith, t .low, h .clear .low, h .xr .high))
       (omega (arith, t .high, h .clear .high, h .xr .low)) (omega (arith, t .high, h .clear .high, h .xr .low)) (span-scaled _ π-span)
 
-  exponent-relative : Relative (exponentEnds clear xr hz) πBelow 2
+  exponent-relative : Relative (exponentEnds c) πBelow 2
   unfolding exponentEnds
   exponent-relative = outward-relative _ over-pos
 
@@ -104,7 +106,7 @@ module _ {clear xr hz : ℕ} (h : Asked clear xr hz) where
   unfolding exponentLow exponentHigh
   ends-near = relative-span exponent-span exponent-relative
 
-  ends-span : Span (exponentEnds clear xr hz) exponentLow exponentHigh (exponentHigh - exponentLow)
+  ends-span : Span (exponentEnds c) exponentLow exponentHigh (exponentHigh - exponentLow)
   unfolding exponentLow exponentHigh
   ends-span =
       let s = exponent-span in
@@ -126,7 +128,7 @@ module _ {clear xr hz : ℕ} (h : Asked clear xr hz) where
   unfolding ratioHigh
   ratio-most = ceilDiv-by (2 * 10 ^ 18) low-pos (omega (arith, low-from))
 
-  pub ratio-span : Span (ratioEnds clear xr hz) 0 ratioHigh 207
+  pub ratio-span : Span (ratioEnds c) 0 ratioHigh 207
   unfolding ratioEnds ratioHigh
   ratio-span =
       span-quotient (10 ^ 18) 0 ratioHigh 206 low-pos (omega arith) (ceilDiv-above (2 * 10 ^ 18) low-pos) (ratio-near exponentLow exponentHigh low-from ends-near)
@@ -142,20 +144,20 @@ module _ {clear xr hz : ℕ} (h : Asked clear xr hz) where
   unfolding powerWidth
   power-width = power-near exponentLow exponentHigh (2 ^ halvingsOf exponentHigh) ends-near (halvings-parts exponentHigh)
 
-  pub power-span : Span (expPair (exponentEnds clear xr hz)) 0 billion powerWidth
+  pub power-span : Span (expPair (exponentEnds c)) 0 billion powerWidth
   unfolding expPair natural powerWidth exponentLow exponentHigh
   power-span =
       let s = exponent-span in
       rw (s .is) (exp-span (omega (arith, s .from)) (s .order) (omega (arith, s .to)))
 
-  pub rest-span : Span (restEnds clear xr hz) 0 billion powerWidth
+  pub rest-span : Span (restEnds c) 0 billion powerWidth
   unfolding restEnds
   rest-span =
       span-wider (span-difference (lit≤ tt) (span-point billion {l = billion} {h = billion} (lit≤ tt) (lit≤ tt)) power-span) (omega arith) (omega arith)
       (omega arith)
 
   -- its upper end is 1 less the lower end of e^−q
-  power-is : expPair (exponentEnds clear xr hz)
+  power-is : expPair (exponentEnds c)
       ≡ natural (endOf 0 1 (halvingsOf exponentHigh) exponentHigh) (endOf 1 0 (halvingsOf exponentHigh) exponentLow)
   unfolding expPair expEnds natural exponentLow exponentHigh
   power-is = rw (exponent-span .is)
@@ -171,11 +173,11 @@ module _ {clear xr hz : ℕ} (h : Asked clear xr hz) where
       let s = power-span in
       let below : u ≤ billion = rw (ends-are l u power-is s .1) at (s .to) in
       let order : l ≤ u = rw (ends-are l u power-is s .0, ends-are l u power-is s .1) at (s .order) in
-      let e : restEnds clear xr hz ≡ natural (billion - u) (billion - l)
+      let e : restEnds c ≡ natural (billion - u) (billion - l)
       = rw (power-is, point-natural billion) (natural-difference billion billion l u below (omega (arith, below, order))) in
       ends-are (billion - u) (billion - l) e rest-span .1
 
-  pub rest-high-span : Span (restEnds clear xr hz) 0 restHigh powerWidth
+  pub rest-high-span : Span (restEnds c) 0 restHigh powerWidth
   unfolding restHigh
   rest-high-span = let s = rest-span in record { a = s .a; b = s .b; is = s .is; from = s .from; order = s .order; to = omega arith; near = s .near }
 
@@ -185,5 +187,5 @@ module _ {clear xr hz : ℕ} (h : Asked clear xr hz) where
 
   -- ---- their product
 
-  pub rest-ratio-wide : Wide (restEnds clear xr hz) (ratioEnds clear xr hz) billion
+  pub rest-ratio-wide : Wide (restEnds c) (ratioEnds c) billion
   rest-ratio-wide = wide-fits billion 15 (lit< tt) (lit< tt) (omega (arith, ratio-most)) (lit< tt) rest-span ratio-span

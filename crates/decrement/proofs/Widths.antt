@@ -6,7 +6,6 @@ use native.Mathlib.Omega.{arith}
 use native.Mathlib.Nat.{mul-le-mul, mul-le-mul-left, mul-le-mul-right, le-of-mul-le-mul-right, lt-of-not-le}
 use native.Mathlib.Decide.{decLe}
 use lib.Dec.{lit≤, lit<}
-use lib.IntN.{natAbs}
 use Rattle.interval.specs.Root.{IsRoot}
 use Rattle.interval.specs.Operations.{natural, productOf}
 use Rattle.interval.specs.Span.{Span}
@@ -16,7 +15,9 @@ use Rattle.enclosure.specs.SquareRoot.{squareRoot}
 use Rattle.enclosure.proofs.SquareRoot.{square-root}
 use Rattle.exponential.specs.Ends.{billion, halvingsOf, argumentOf, nestedOf, seriesOf, inverseOf, squaredOf, endOf}
 use Rattle.exponential.proofs.Sizes.{halvings-reach, halvings-least, nested-size, series-least}
-use Rattle.decrement.specs.Ends.{Asked, ratioEnds, restEnds, squareEnds, factorEnds}
+use Rattle.case.specs.declared.Case.{Case}
+use Rattle.case.specs.Bounds.{Bounds}
+use Rattle.decrement.specs.Ends.{ratioEnds, restEnds, squareEnds, factorEnds}
 use Rattle.decrement.proofs.Spans.{exponentLow, exponentHigh, ratioHigh, powerWidth, restHigh, low-to, low-high, ends-near, ratio-high, ratio-most, ratio-span, power-width, rest-high-is, rest-high-span, rest-most}
 
 -- ---- the product of 1 − e^−q and 2/q: r is 2/q at the exponent's lower end a
@@ -107,7 +108,7 @@ root-near {x} {y} {r} {s} h k l n = go (decLe s (r + 407))
     go (yes p) = p
     go (no p) = let q : r + 408 ≤ s = omega arith in absurd (omega (arith, h .high, k .low, l, n, mul-le-mul q q))
 
-module _ {clear xr hz : ℕ} (h : Asked clear xr hz) where
+module _ {c : Case} (h : Bounds c) where
   -- without halvings by the terms, with them by 2/q
   product-most : restHigh h * ratioHigh h ≤ 4000000009 * billion
   product-most = go (halvingsOf (exponentHigh h)) refl
@@ -123,18 +124,18 @@ module _ {clear xr hz : ℕ} (h : Asked clear xr hz) where
           let r = large-ratio (exponentLow h) (ratioHigh h) (omega (arith, ends-near h, b)) (ratio-high h) in
           omega (arith, mul-le-mul (rest-most h) r)
 
-  pub product-span : Span (productOf (restEnds clear xr hz) (ratioEnds clear xr hz) billion) 0 4000000009 811
+  pub product-span : Span (productOf (restEnds c) (ratioEnds c) billion) 0 4000000009 811
   product-span =
       span-product billion 0 4000000009 810 (lit< tt) (omega arith) product-most
       (omega (arith, rest-most h, share-near (exponentLow h) (ratioHigh h) (powerWidth h) (low-to h) (ratio-high h) (ratio-most h) (power-width h)))
       (rest-high-span h) (ratio-span h)
 
-  pub square-span : Span (squareEnds clear xr hz) billion 5000000009 811
+  pub square-span : Span (squareEnds c) billion 5000000009 811
   unfolding squareEnds
   square-span = span-wider (span-sum (span-point billion {l = billion} {h = billion} (lit≤ tt) (lit≤ tt)) product-span) (lit≤ tt) (lit≤ tt) (lit≤ tt)
 
   -- from 1 to √5, and at most 500 billionths wide
-  pub factor-span : Span (factorEnds clear xr hz) billion 2236068000 500
+  pub factor-span : Span (factorEnds c) billion 2236068000 500
   unfolding factorEnds natural
   factor-span =
       let s = square-span in

@@ -1,24 +1,18 @@
 -- The ends of the decrement factor in billionths, by whole-number intervals. Names for the free part: callers use their laws.
 -- Assumes nothing.
-use Prim.Native.Nat.{ℕ, _+_, _*_, _^_}
+use Prim.Native.Nat.{_+_, _*_, _^_}
 use lib.IntN.{pos, natAbs}
 use Rattle.interval.specs.declared.Interval.{Interval}
 use Rattle.interval.specs.Operations.{natural, point, sumOf, differenceOf, outwardOf, scaledOf, productOf, quotientOf}
 use Rattle.enclosure.specs.SquareRoot.{squareRoot}
 use Rattle.enclosure.specs.Pi.{πEnds}
 use Rattle.exponential.specs.Ends.{expPair}
-use Rattle.case.specs.Bounds.{Between}
+use Rattle.case.specs.declared.Case.{Case}
 
--- "clear 9..3000", "xr 1..40", "hz, 50 or 60"
-pub record Asked (t r f : ℕ) : Type 0 where
-  pub clear : Between 9 t 3000
-  pub xr : Between 1 r 40
-  pub hz : Between 50 f 60
-
-module _ (clear xr hz : ℕ) where
+module _ (c : Case) where
   -- 2tf/Ta = 4π·hz·tf/xr in 10^−9
   unfoldable pub exponentEnds : Interval
-  exponentEnds = outwardOf (scaledOf πEnds (4 * hz * clear)) (1000 * xr)
+  exponentEnds = outwardOf (scaledOf πEnds (4 * c .hz * c .clear)) (1000 * c .xr)
 
   -- Ta/tf, 2 over that, in 10^−9
   unfoldable pub ratioEnds : Interval

@@ -1,6 +1,8 @@
 // The decrement factor by IEEE Std 80-2013, equation 84, as a pair of ends in billionths.
 ghost use mathlib.Core.Path.{_≡_};
-ghost use Rattle.decrement.specs.Ends.{Asked, exponentEnds, ratioEnds, restEnds, squareEnds, factorEnds};
+ghost use Rattle.case.specs.Bounds.{Bounds};
+ghost use Rattle.decrement.specs.Ends.{exponentEnds, squareEnds, factorEnds};
+use case::Case;
 use enclosure::pi;
 use exponential::exp_pair;
 use interval::Interval;
@@ -9,31 +11,31 @@ use interval::root::isqrt;
 const BILLION: u64 = 1000000000;
 
 // 2tf/Ta in 10^-9.
-fn exponent(clear: u32, xr: u32, hz: u32) -> Interval
-    requires { ⌜ Asked clear xr hz ⌝ }
-    ensures { λ r. ⌜ r ≡ exponentEnds clear xr hz ⌝ }
+fn exponent(c: Case) -> Interval
+    requires { ⌜ Bounds c ⌝ }
+    ensures { λ r. ⌜ r ≡ exponentEnds c ⌝ }
 {
-    pi().scaled((4 * hz * clear) as u64)
-        .outward((1000 * xr) as u64)
+    pi().scaled((4 * c.hz * c.clear) as u64)
+        .outward((1000 * c.xr) as u64)
 }
 
 // 1 + (Ta/tf)(1 − e^(−2tf/Ta)) in 10^-9.
-fn square(clear: u32, xr: u32, hz: u32) -> Interval
-    requires { ⌜ Asked clear xr hz ⌝ }
-    ensures { λ r. ⌜ r ≡ squareEnds clear xr hz ⌝ }
+fn square(c: Case) -> Interval
+    requires { ⌜ Bounds c ⌝ }
+    ensures { λ r. ⌜ r ≡ squareEnds c ⌝ }
 {
-    let q = exponent(clear, xr, hz);
+    let q = exponent(c);
     let ratio = Interval::point(2).quotient(q, 1000000000000000000);
     let rest = Interval::point(BILLION).difference(exp_pair(q));
     Interval::point(BILLION).sum(rest.wide_product(ratio, BILLION))
 }
 
-// Df in 10^-9, for the clearing time in milliseconds, X/R and the frequency in hertz.
-pub fn factor_ends(clear: u32, xr: u32, hz: u32) -> Interval
-    requires { ⌜ Asked clear xr hz ⌝ }
-    ensures { λ r. ⌜ r ≡ factorEnds clear xr hz ⌝ }
+// Df in 10^-9.
+pub fn factor_ends(c: Case) -> Interval
+    requires { ⌜ Bounds c ⌝ }
+    ensures { λ r. ⌜ r ≡ factorEnds c ⌝ }
 {
-    let s = square(clear, xr, hz);
+    let s = square(c);
     Interval::natural(
         isqrt((s.lower as u64) * BILLION),
         isqrt((s.upper as u64) * BILLION) + 1,

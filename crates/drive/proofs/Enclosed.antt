@@ -19,6 +19,7 @@ use Rattle.case.specs.declared.Case.{Case}
 use Rattle.case.specs.Bounds.{Bounds}
 use Rattle.formulas.specs.Lengths.{ρ, Ki}
 use Rattle.formulas.specs.Current.{IG}
+use Rattle.formulas.specs.Width.{μA}
 use Rattle.formulas.proofs.Quantities.{quantity-ρ, quantity-Ki, quantity-IG}
 use Rattle.current.proofs.GridCurrent.{current-encloses}
 use Rattle.conductors.proofs.NumberEnclosed.{Ki-encloses}
@@ -29,8 +30,8 @@ module _ {c : Case} (b : Bounds c) where
   drive-consistent = quantity-product (quantity-product (quantity-ρ b) (quantity-Ki b)) (quantity-IG b) .consistent
 
   soil-current-encloses : Encloses (exactly (ρ c) ·x IG c) (ten 6) (soilCurrent c)
-  unfolding ρ soilCurrent
-  soil-current-encloses = encloses-times (c .soil) (quantity-IG b .consistent) (current-encloses c)
+  unfolding ρ soilCurrent μA
+  soil-current-encloses = encloses-times (c .soil) (quantity-IG b .consistent) (current-encloses b)
 
   -- ρ·Ki·IG is Ki·(ρ·IG)
   turned : SameEnds ((exactly (ρ c) ·x Ki c ·x IG c) workDepth) ((Ki c ·x (exactly (ρ c) ·x IG c)) workDepth)

@@ -1,11 +1,10 @@
 -- The ends of ρ·Ki·IG, which mesh and step voltage share, by whole-number intervals. Names for the free part: callers use their laws.
 -- Assumes nothing.
 use Prim.Native.Nat.{_^_}
-use lib.IntN.{pos}
 use Rattle.interval.specs.declared.Interval.{Interval}
-use Rattle.interval.specs.Operations.{point, scaledOf, productOf}
+use Rattle.interval.specs.Operations.{scaledOf, productOf}
 use Rattle.case.specs.declared.Case.{Case}
-use Rattle.formulas.specs.Current.{gridCurrent}
+use Rattle.current.specs.Ends.{currentEnds}
 use Rattle.conductors.specs.Number.{nEnds, KiEnds}
 
 -- n of a case, in 10^−7
@@ -14,7 +13,7 @@ numberOf c = nEnds (c .across) (c .along)
 
 -- ρ·IG in 10^−6
 unfoldable pub soilCurrent : Case → Interval
-soilCurrent c = scaledOf (point (pos (gridCurrent c))) (c .soil)
+soilCurrent c = scaledOf (currentEnds c) (c .soil)
 
 -- ρ·Ki·IG in 10^−9
 unfoldable pub driveEnds : Case → Interval

@@ -1,25 +1,27 @@
 // ρ·Ki·IG, which mesh and step voltage share, by whole-number intervals.
 ghost use mathlib.Core.Path.{_≡_};
 ghost use Rattle.case.specs.Bounds.{Bounds};
+ghost use Rattle.current.specs.Ends.{currentEnds};
 ghost use Rattle.drive.specs.Ends.{numberOf, soilCurrent, driveEnds};
 use case::Case;
 use conductors::irregularity;
-use current::grid_current;
 use interval::Interval;
 
-// ρ·IG in 10^-6.
-fn soil_current(c: Case) -> Interval
+// ρ·IG in 10^-6, for the case's current.
+fn soil_current(c: Case, current: Interval) -> Interval
     requires { ⌜ Bounds c ⌝ }
+    requires { ⌜ current ≡ currentEnds c ⌝ }
     ensures { λ r. ⌜ r ≡ soilCurrent c ⌝ }
 {
-    Interval::point(grid_current(c)).scaled(c.soil as u64)
+    current.scaled(c.soil as u64)
 }
 
-// ρ·Ki·IG in 10^-9, for the case's n.
-pub fn drive(c: Case, n: Interval) -> Interval
+// ρ·Ki·IG in 10^-9, for the case's n and current.
+pub fn drive(c: Case, n: Interval, current: Interval) -> Interval
     requires { ⌜ Bounds c ⌝ }
     requires { ⌜ n ≡ numberOf c ⌝ }
+    requires { ⌜ current ≡ currentEnds c ⌝ }
     ensures { λ r. ⌜ r ≡ driveEnds c ⌝ }
 {
-    irregularity(n).wide_product(soil_current(c), 10000000)
+    irregularity(n).wide_product(soil_current(c, current), 10000000)
 }

@@ -1,87 +1,174 @@
--- The decrement factor lies from 1.000 to 1.688: one test computed over the table, and a law that turns it into the rule at each entry.
+-- The decrement factor and its parts are consistent, Ta and 2tf/Ta positive, and the factor at least 1, at every depth.
 -- Assumes nothing.
-use Prim.Native.Nat.{ℕ, zero, suc, _-_, _≤_, _<_}
-use mathlib.Core.Path.{_≡_, refl}
-use mathlib.Core.Bool.{Bool, true, false, cond, _&&_, _||_}
-use mathlib.Core.List.{List, [], _∷_}
+use Prim.Native.Nat.{ℕ, _≤_}
+use mathlib.Core.Path.{_≡_}
+use mathlib.Core.Logic.{_⊎_, ⊎-elim}
 use native.Mathlib.Omega.{arith}
-use lib.ListN.{length, getD}
-use lib.Dec.{T, leb, eqb, leb→le, le→leb, nleb→lt, eqb→eq}
+use native.Mathlib.Nat.{le-trans}
+use lib.Dec.{lit≤}
+use Rattle.exact.specs.Fraction.{Fraction, _≤f_, _<f_, whole, neg, _·f_, _÷f_, top, decLef}
+use Rattle.exact.specs.Ends.{minusEnds}
+use Rattle.exact.specs.Exact.{Exact, exactly, _+x_, _−x_, _·x_, _÷x_, minus}
+use Rattle.exact.specs.Pi.{π}
+use Rattle.exact.specs.Exponential.{expUp, expOf, exp}
+use Rattle.exact.specs.Depth.{Consistent, Positive, PositiveAt}
+use Rattle.exact.specs.Reported.{ten, over}
+use Rattle.exact.proofs.Order.{trans≤, lt-of-lt-of-le, le-of-lt, not<, whole-pos, nonneg, choose-cases}
+use Rattle.exact.proofs.Sums.{neg-neg, le+, sub-nonneg}
+use Rattle.exact.proofs.Products.{one-mul, mul-nonneg, mul-pos}
+use Rattle.exact.proofs.Consistency.{proper-at, consistent-sum, consistent-difference, consistent-product, consistent-minus}
+use Rattle.exact.proofs.KnownEnds.{sum-ends, difference-ends, product-ends, quotient-ends}
+use Rattle.exact.proofs.Positive.{AtLeast, positive-at-least}
+use Rattle.exact.proofs.Bounded.{NotAbove, at-least-root}
+use Rattle.exact.proofs.ExpUp.{consistent-exp-up, up-least}
+use Rattle.exact.proofs.Exponential.{inverse-high, consistent-exp}
+use Rattle.exact.proofs.Roots.{consistent-root}
+use Rattle.exact.proofs.Quantity.{Quantity, quantity-exactly, quantity-product, quantity-quotient, quantity-π}
 use Rattle.case.specs.declared.Case.{Case}
 use Rattle.case.specs.Bounds.{Between, Bounds}
-use Rattle.case.proofs.Tests.{both}
-use Rattle.formulas.proofs.Tables.{inside, entry-inside}
-use Rattle.formulas.specs.Decrement.{Durations, ratios, table10, factorsAt, columnAt, factor, Df}
+use Rattle.formulas.specs.Decrement.{Ta, tf, Df}
+use Rattle.formulas.proofs.Positive.{decimal-pos}
 
--- a row of four such numbers
-sound : List ℕ → Bool
-sound xs = eqb (length xs) 4 && inside 1000 1688 xs
+one : Quantity (exactly (whole 1))
+one = quantity-exactly (whole-pos (omega arith))
 
-allSound : List Durations → Bool
-allSound [] = true
-allSound (r ∷ rs) = sound (r .factors) && allSound rs
+pub two-pos : whole 0 <f whole 2
+two-pos = whole-pos (omega arith)
 
-row-sound : (ms : ℕ) (above : List ℕ) (rs : List Durations) → T (sound above) → T (allSound rs) → T (sound (factorsAt ms above rs))
-unfolding factorsAt allSound
-row-sound ms above [] s t = s
-row-sound ms above (r ∷ rs) s t =
-    go (leb (r .start) ms) (row-sound ms (r .factors) rs (both (sound (r .factors)) (allSound rs) t .0) (both (sound (r .factors)) (allSound rs) t .1))
-  where
-    go : (b : Bool) → T (sound (factorsAt ms (r .factors) rs)) → T (sound (cond b (factorsAt ms (r .factors) rs) above))
-    go true h = h
-    go false h = s
+-- ---- e^−x is at most 1, for x above 0
 
--- a first row whose start is not above t is reached
-first-row : (ms : ℕ) (r : Durations) (rs : List Durations) → r .start ≤ ms → T (allSound (r ∷ rs)) → T (sound (factorsAt ms [] (r ∷ rs)))
-unfolding factorsAt allSound
-first-row ms r rs h t =
-    go (leb (r .start) ms) (le→leb (r .start) ms h)
-    (row-sound ms (r .factors) rs (both (sound (r .factors)) (allSound rs) t .0) (both (sound (r .factors)) (allSound rs) t .1))
-  where
-    go : (b : Bool) → T b → T (sound (factorsAt ms (r .factors) rs)) → T (sound (cond b (factorsAt ms (r .factors) rs) []))
-    go true l k = k
-    go false l k = absurd l
+nonpositive : {q : Fraction} → whole 0 ≤f neg q → q ≤f whole 0
+unfolding neg whole
+nonpositive {q} h = omega (arith, h)
 
--- a column that is not below X/R is reached
-reaches : ℕ → List ℕ → Bool
-reaches xr [] = false
-reaches xr (x ∷ xs) = leb xr x || reaches xr xs
+inverse-most : {q : Fraction} {k : ℕ} → whole 0 ≤f q → 3 ≤ k → (exactly (whole 1) ÷x expUp q) k .upper ≤f whole 1
+unfolding _÷x_ exactly _÷f_
+inverse-most {q} {k} h d =
+    let l = up-least h (le-trans (lit≤ tt) d) in
+    let p : Positive (expUp q k) = record { positive = lt-of-lt-of-le (whole-pos (omega arith)) l } in
+    let e = quotient-ends {A = exactly (whole 1) k} (proper-at (one .consistent) d) (proper-at (consistent-exp-up h) d) (nonneg 1) p in
+    trans≤ (e .uppers .to) (trans≤ (one-mul _ .to) (inverse-high l))
 
-column-reached : (xr : ℕ) (xs : List ℕ) → T (reaches xr xs) → columnAt xr xs < length xs
-unfolding columnAt reaches
-column-reached xr [] t = absurd t
-column-reached xr (x ∷ xs) t = go (leb xr x) t (column-reached xr xs)
-  where
-    go : (b : Bool) → T (b || reaches xr xs) → (T (reaches xr xs) → columnAt xr xs < length xs)
-        → cond b 0 (suc (columnAt xr xs)) < suc (length xs)
-    go true s next = omega arith
-    go false s next = omega (arith, next s)
+power-most : {x : Exact} → PositiveAt x → NotAbove (whole 1) (exp (minus x))
+unfolding exp expOf minus minusEnds
+power-most {x} p =
+    record {
+      most = λ k d.
+          let l = x k .lower in
+          let h = p .at k d .positive in
+          choose-cases (λ (y : Exact). y k .upper ≤f whole 1) (decLef (whole 0) (neg l)) (λ n. absurd (not< h (nonpositive n)))
+          (λ n. inverse-most (trans≤ (le-of-lt h) (neg-neg l .fro)) d);
+    }
 
-or-right : (p q : Bool) → T q → T (p || q)
-or-right true q t = tt
-or-right false q t = t
+-- ---- the formula's lines
 
-last-column : (xr : ℕ) → xr ≤ 40 → columnAt xr ratios < 4
-unfolding ratios reaches
-last-column xr h =
-    column-reached xr ratios
-    (or-right (leb xr 10) _ (or-right (leb xr 20) _ (or-right (leb xr 30) _ (or-left (leb xr 40) (le→leb xr 40 h)))))
-  where
-    or-left : (p : Bool) → T p → T (p || false)
-    or-left true t = tt
-    or-left false t = absurd t
+module _ (c : Case) where
+  -- 2tf/Ta
+  abbrev pub exponent : Exact
+  exponent = exactly (whole 2 ·f tf c) ÷x Ta c
 
-entry-bounds : (ms xr : ℕ) → 9 ≤ ms → xr ≤ 40 → Between 1000 (getD (factorsAt ms [] table10) (columnAt xr ratios) 0) 1688
-unfolding table10 allSound sound inside
-entry-bounds ms xr h l =
-    let s : T (sound (factorsAt ms [] table10)) = first-row ms _ _ h tt in
-    let e : length (factorsAt ms [] table10) ≡ 4 = eqb→eq _ 4 (both (eqb (length (factorsAt ms [] table10)) 4) (inside 1000 1688 (factorsAt ms [] table10)) s .0) in
-    entry-inside 1000 1688 (factorsAt ms [] table10) (columnAt xr ratios) (both (eqb (length (factorsAt ms [] table10)) 4) (inside 1000 1688 (factorsAt ms [] table10)) s .1) (omega (arith, last-column xr l))
+  -- Ta/tf
+  abbrev pub ratio : Exact
+  ratio = Ta c ÷x exactly (tf c)
 
-pub factor-bounds : {c : Case} → Bounds c → Between 1000 (Df c) 1688
-unfolding Df factor
-factor-bounds {c} b = go (leb 500 (c .clear))
-  where
-    go : (b : Bool) → Between 1000 (cond b 1000 (getD (factorsAt (c .clear) [] table10) (columnAt (c .xr) ratios) 0)) 1688
-    go true = record { low = omega arith; high = omega arith }
-    go false = entry-bounds (c .clear) (c .xr) (b .clear .low) (b .xr .high)
+  -- 1 − e^(−2tf/Ta)
+  abbrev pub rest : Exact
+  rest = exactly (whole 1) −x exp (minus exponent)
+
+  -- (Ta/tf)(1 − e^(−2tf/Ta))
+  abbrev pub offset : Exact
+  offset = ratio ·x rest
+
+  -- 1 + (Ta/tf)(1 − e^(−2tf/Ta))
+  abbrev pub underRoot : Exact
+  underRoot = exactly (whole 1) +x offset
+
+either-between : {a b x : ℕ} → a ≤ b → (x ≡ a) ⊎ (x ≡ b) → Between a x b
+either-between h = ⊎-elim (λ e. record { low = omega arith; high = omega arith }) (λ e. record { low = omega arith; high = omega arith })
+
+module _ {c : Case} (b : Bounds c) where
+  -- "hz, 50 or 60"
+  pub hz-bounds : Between 50 (c .hz) 60
+  hz-bounds = either-between (omega arith) (b .hz)
+
+  pub xr-pos : whole 0 <f whole (c .xr)
+  xr-pos = whole-pos (omega (arith, b .xr .low))
+
+  hz-pos : whole 0 <f whole (c .hz)
+  hz-pos = whole-pos (omega (arith, hz-bounds .low))
+
+  pub tf-pos : whole 0 <f tf c
+  unfolding tf
+  tf-pos = decimal-pos 3 (omega (arith, b .clear .low))
+
+  pub twice-pos : whole 0 <f whole 2 ·f tf c
+  twice-pos = mul-pos two-pos tf-pos
+
+  -- 2π·hz
+  pub quantity-turns : Quantity (exactly (whole 2) ·x π ·x exactly (whole (c .hz)))
+  quantity-turns = quantity-product (quantity-product (quantity-exactly two-pos) quantity-π) (quantity-exactly hz-pos)
+
+  pub quantity-Ta : Quantity (Ta c)
+  unfolding Ta
+  quantity-Ta = quantity-quotient (quantity-exactly xr-pos) quantity-turns
+
+  pub quantity-ratio : Quantity (ratio c)
+  quantity-ratio = quantity-quotient quantity-Ta (quantity-exactly tf-pos)
+
+  pub quantity-exponent : Quantity (exponent c)
+  quantity-exponent = quantity-quotient (quantity-exactly twice-pos) quantity-Ta
+
+  pub consistent-power : Consistent (exp (minus (exponent c)))
+  consistent-power = consistent-exp (consistent-minus (quantity-exponent .consistent))
+
+  pub consistent-rest : Consistent (rest c)
+  consistent-rest = consistent-difference (one .consistent) consistent-power
+
+  pub consistent-offset : Consistent (offset c)
+  consistent-offset = consistent-product (quantity-ratio .consistent) consistent-rest
+
+  pub consistent-under-root : Consistent (underRoot c)
+  consistent-under-root = consistent-sum (one .consistent) consistent-offset
+
+  pub consistent-Df : Consistent (Df c)
+  unfolding Df
+  consistent-Df = consistent-root 2 (omega arith) consistent-under-root
+
+  -- ---- at least 1
+
+  rest-least : AtLeast (whole 0) (rest c)
+  unfolding _−x_ exactly
+  rest-least =
+      record {
+        least = λ k d.
+            trans≤ (sub-nonneg (power-most (quantity-exponent .positive) .most k d))
+            (difference-ends (proper-at (one .consistent) d) (proper-at consistent-power d) .lowers .fro);
+      }
+
+  offset-least : AtLeast (whole 0) (offset c)
+  unfolding _·x_
+  offset-least =
+      record {
+        least = λ k d.
+            let n = le-of-lt (quantity-ratio .positive .at k d .positive) in
+            let m = rest-least .least k d in
+            trans≤ (mul-nonneg n m) (product-ends (proper-at (quantity-ratio .consistent) d) (proper-at consistent-rest d) n m .lowers .fro);
+      }
+
+  under-root-least : AtLeast (whole 1) (underRoot c)
+  unfolding _+x_ exactly
+  under-root-least =
+      record {
+        least = λ k d.
+            trans≤ (le+ (offset-least .least k d)) (sum-ends (proper-at (one .consistent) d) (proper-at consistent-offset d) .lowers .fro);
+      }
+
+  pub Df-least : AtLeast (whole 1) (Df c)
+  unfolding Df whole over ten top
+  Df-least =
+      record {
+        least = λ k d. trans≤ (record { le = lit≤ tt }) (at-least-root 2 (whole 1) 1000 (omega arith) (lit≤ tt) under-root-least .least k d);
+      }
+
+  pub quantity-Df : Quantity (Df c)
+  quantity-Df = record { consistent = consistent-Df; positive = positive-at-least (whole-pos (omega arith)) Df-least }

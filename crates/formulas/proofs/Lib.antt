@@ -1,11 +1,10 @@
 pub mod Tables
-pub mod Decrement
 pub mod Positive
+pub mod Decrement
 pub mod MeshArgument
 pub mod Conductors
 pub mod Quantities
 pub mod Consistent
 pub mod Square
-pub mod Yards
 pub mod Size
 pub mod Widths

@@ -1,10 +1,10 @@
--- The lengths and the current of a case within its bounds are positive.
+-- The lengths of a case within its bounds are positive.
 -- Assumes nothing.
 use Prim.Native.Nat.{ℕ, _-_, _≤_, _<_}
 use mathlib.Core.Path.{_≡_}
-use mathlib.Core.Logic.{_⊎_, ⊎-elim}
+use mathlib.Core.Logic.{⊎-elim}
 use native.Mathlib.Omega.{arith}
-use native.Mathlib.Nat.{mul-pos as nat-pos, mul-le-mul-right}
+use native.Mathlib.Nat.{mul-le-mul-right}
 use lib.Dec.{lit≤}
 use Rattle.exact.specs.Fraction.{Fraction, _≤f_, _<f_, whole, decimal, _+f_, _·f_, _÷f_}
 use Rattle.exact.proofs.Order.{trans≤, lt-of-lt-of-le, le-of-lt, refl≤, whole≤, whole-pos, nonneg}
@@ -14,10 +14,8 @@ use Rattle.exact.proofs.Quotients.{inv-pos, mul-inv}
 use Rattle.case.specs.declared.Case.{Case}
 use Rattle.case.specs.Bounds.{Bounds, Rodless, Rodded}
 use Rattle.formulas.specs.Lengths.{ρ, D, h, d, Lr, Lx, Ly, Lc, Lp, area, LR, LT, na}
-use Rattle.formulas.specs.Current.{gridCurrent}
 use Rattle.formulas.specs.Mesh.{G′}
 use Rattle.formulas.specs.Step.{LS}
-use Rattle.formulas.proofs.Decrement.{factor-bounds}
 
 pub decimal-pos : {m : ℕ} (e : ℕ) → 0 < m → whole 0 <f decimal m e
 unfolding decimal whole
@@ -87,12 +85,6 @@ module _ {c : Case} (b : Bounds c) where
   pub d-pos : whole 0 <f d c
   unfolding d
   d-pos = decimal-pos 4 (omega (arith, b .dia .low))
-
-  pub current-pos : 0 < gridCurrent c
-  unfolding gridCurrent
-  current-pos =
-      nat-pos (nat-pos {m = c .fault} {n = c .split} (omega (arith, b .fault .low)) (omega (arith, b .split .low)))
-      (omega (arith, factor-bounds b .low))
 
   -- the sides are at least a metre
   side-metre : (count : ℕ) → 2 ≤ count → whole 1 ≤f whole (count - 1) ·f D c

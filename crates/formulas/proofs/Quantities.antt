@@ -24,7 +24,8 @@ use Rattle.formulas.specs.Lengths.{ρ, equalCounts, n, Ki, Lr}
 use Rattle.formulas.specs.Current.{IG}
 use Rattle.formulas.specs.Mesh.{Kh, innerWeight, Kii, diagonal, LM}
 use Rattle.formulas.specs.Step.{halfPower}
-use Rattle.formulas.proofs.Positive.{decimal-pos, one-thousandth, four-squares, ρ-pos, h-pos, current-pos, Lc-pos, LT-pos, diagonal-least, rodded, Lr-pos, LR-pos}
+use Rattle.formulas.proofs.Positive.{decimal-pos, one-thousandth, four-squares, ρ-pos, h-pos, Lc-pos, LT-pos, diagonal-least, rodded, Lr-pos, LR-pos}
+use Rattle.formulas.proofs.Decrement.{quantity-Df}
 use Rattle.formulas.proofs.Conductors.{by-place, n-least, quantity-n}
 
 pub one : Quantity (exactly (whole 1))
@@ -50,7 +51,10 @@ module _ {c : Case} (b : Bounds c) where
 
   pub quantity-IG : Quantity (IG c)
   unfolding IG
-  quantity-IG = quantity-exactly (decimal-pos 6 (current-pos b))
+  quantity-IG =
+      quantity-product
+      (quantity-exactly (mul-pos (whole-pos (omega (arith, b .fault .low))) (decimal-pos 3 (omega (arith, b .split .low)))))
+      (quantity-Df b)
 
   -- ---- the parts of Km
 

@@ -1,26 +1,25 @@
--- Every width of document 01, 'What exact means', as changed by requests (j) and (c), worked by hand on its sample yard, on that yard with twenty rods of 7.5 m along the
+-- Every width of document 01, 'What exact means', as changed by requests (j), (c) and (d), worked by hand on its sample yard, on that yard with twenty rods of 7.5 m along the
 -- perimeter, and on a rectangle: a width made wider or narrower is refused here.
 -- Assumes nothing.
-use Prim.Native.Nat.{ℕ, _+_, _-_}
+use Prim.Native.Nat.{ℕ, _+_}
 use mathlib.Core.List.{List, [], _∷_}
 use lib.IntN.{pos}
 use lib.Dec.{lit≤}
 use Rattle.interval.specs.declared.Interval.{Interval}
 use Rattle.exact.specs.Fraction.{Fraction, _≈f_, whole, decimal, _+f_, _·f_, inv, _÷f_}
+use Rattle.exact.specs.Ends.{Ends}
 use Rattle.exact.specs.Reported.{ten, over, reported}
 use Rattle.case.specs.declared.Case.{Case}
 use Rattle.case.specs.Case.{caseOf}
-use Rattle.formulas.specs.Decrement.{ratios, table10, factorsAt, columnAt, factor, Df}
 use Rattle.formulas.specs.Lengths.{ρ, D, Lr, Lx, Ly, Lc, Lp, LR, LT, na}
-use Rattle.formulas.specs.Current.{gridCurrent}
 use Rattle.formulas.specs.Step.{LS}
-use Rattle.formulas.specs.Width.{mV, μΩ, tolerableWidth, resistanceWidth, riseWidth, referenceKi, referenceCurrent, meshWidth, stepWidth}
+use Rattle.formulas.specs.Width.{mV, μΩ, μA, billionths, factorWidth, currentWidth, tolerableWidth, resistanceWidth, riseWidth, referenceKi, meshWidth, stepWidth}
 use Rattle.formulas.proofs.Tables.{Every}
 
 -- the sample by its counts and its rods, their length and their place
 sampleWith : ℕ → ℕ → ℕ → ℕ → ℕ → Case
 sampleWith across along rods rodlen place =
-    caseOf (7 ∷ 1 ∷ 400 ∷ 2500 ∷ 102 ∷ 500 ∷ 500 ∷ 500 ∷ 70 ∷ 3180 ∷ 600 ∷ 10 ∷ across ∷ along ∷ 7000 ∷ 500 ∷ 100 ∷ rods ∷ rodlen ∷ place ∷ 1 ∷ [])
+    caseOf (7 ∷ 1 ∷ 400 ∷ 2500 ∷ 102 ∷ 500 ∷ 500 ∷ 500 ∷ 70 ∷ 3180 ∷ 600 ∷ 10 ∷ across ∷ along ∷ 7000 ∷ 500 ∷ 100 ∷ rods ∷ rodlen ∷ place ∷ 1 ∷ 60 ∷ [])
 
 abbrev sample : Case
 sample = sampleWith 11 11 0 0 0
@@ -36,6 +35,10 @@ rectangle = sampleWith 10 13 38 10000 1
 abbrev from : ℕ → Interval
 from n = record { lower = pos n; upper = pos (n + 50) }
 
+-- the reported current: its upper end, 1908 A, counts
+abbrev current : Ends
+current = reported μA (record { lower = pos 1907000000; upper = pos 1908000000 })
+
 record Worked : Type 0 where
   width : Fraction
   number : Fraction
@@ -45,24 +48,28 @@ worked w n = record { width = w; number = n }
 
 widths : List Worked
 widths =
+    -- 1,000 billionths
+    worked (factorWidth (reported billionths (from 1026183047))) (decimal 1 6)
+    -- 1/500,000 of 1957.957 A, and 2 microamperes
+    ∷ worked (currentWidth (reported μA (from 1957957000))) (decimal 3917914 9)
     -- 1/10,000 of 840.5 V, and 10 mV
-    worked (tolerableWidth (reported mV (from 840500))) (decimal 9405 5)
+    ∷ worked (tolerableWidth (reported mV (from 840500))) (decimal 9405 5)
     -- 1/10,000 of 2.776 ohms, and 2 micro-ohms
     ∷ worked (resistanceWidth (reported μΩ (from 2776000))) (decimal 2796 7)
     -- 1/2,000 of 5296.608 V, and 10 mV
     ∷ worked (riseWidth (reported mV (from 5296608))) (decimal 2658304 6)
     -- 1/100,000 of 400·2.272·1908/1540, and 10 mV
-    ∷ worked (meshWidth sample) (whole 32739904 ÷f whole 1540000000)
+    ∷ worked (meshWidth sample current) (whole 32739904 ÷f whole 1540000000)
     -- 1/100,000 of 400·2.272·1908/1155, and 10 mV
-    ∷ worked (stepWidth sample) (whole 28889904 ÷f whole 1155000000)
+    ∷ worked (stepWidth sample current) (whole 28889904 ÷f whole 1155000000)
     -- with rods: over 1690 and over 1282.5
-    ∷ worked (meshWidth rodded) (whole 34239904 ÷f whole 1690000000)
-    ∷ worked (stepWidth rodded) (whole 30164904 ÷f whole 1282500000)
+    ∷ worked (meshWidth rodded current) (whole 34239904 ÷f whole 1690000000)
+    ∷ worked (stepWidth rodded current) (whole 30164904 ÷f whole 1282500000)
     -- of the rectangle na is 79/7 and Ki of it 81/35: 1/100,000 of 400·81/35·1908 over 2039 and over 1567.25, and 10 mV
-    ∷ worked (meshWidth rectangle) (whole 665921 ÷f whole 35682500)
-    ∷ worked (stepWidth rectangle) (whole 2333459 ÷f whole 109707500)
+    ∷ worked (meshWidth rectangle current) (whole 665921 ÷f whole 35682500)
+    ∷ worked (stepWidth rectangle current) (whole 2333459 ÷f whole 109707500)
     ∷ []
 
 as-worked : Every (λ w. w .width ≈f w .number) widths
-unfolding widths sampleWith tolerableWidth resistanceWidth riseWidth meshWidth stepWidth referenceKi referenceCurrent gridCurrent Df factor factorsAt table10 columnAt ratios ρ D Lr Lx Ly Lc Lp LR LT na LS mV μΩ reported ten over inv whole decimal _+f_ _·f_ _÷f_
-as-worked = (record { to = record { le = lit≤ tt }; fro = record { le = lit≤ tt } }, (record { to = record { le = lit≤ tt }; fro = record { le = lit≤ tt } }, (record { to = record { le = lit≤ tt }; fro = record { le = lit≤ tt } }, (record { to = record { le = lit≤ tt }; fro = record { le = lit≤ tt } }, (record { to = record { le = lit≤ tt }; fro = record { le = lit≤ tt } }, (record { to = record { le = lit≤ tt }; fro = record { le = lit≤ tt } }, (record { to = record { le = lit≤ tt }; fro = record { le = lit≤ tt } }, (record { to = record { le = lit≤ tt }; fro = record { le = lit≤ tt } }, (record { to = record { le = lit≤ tt }; fro = record { le = lit≤ tt } }, tt)))))))))
+unfolding widths sampleWith factorWidth currentWidth tolerableWidth resistanceWidth riseWidth meshWidth stepWidth referenceKi ρ D Lr Lx Ly Lc Lp LR LT na LS mV μΩ μA billionths reported ten over inv whole decimal _+f_ _·f_ _÷f_
+as-worked = (record { to = record { le = lit≤ tt }; fro = record { le = lit≤ tt } }, (record { to = record { le = lit≤ tt }; fro = record { le = lit≤ tt } }, (record { to = record { le = lit≤ tt }; fro = record { le = lit≤ tt } }, (record { to = record { le = lit≤ tt }; fro = record { le = lit≤ tt } }, (record { to = record { le = lit≤ tt }; fro = record { le = lit≤ tt } }, (record { to = record { le = lit≤ tt }; fro = record { le = lit≤ tt } }, (record { to = record { le = lit≤ tt }; fro = record { le = lit≤ tt } }, (record { to = record { le = lit≤ tt }; fro = record { le = lit≤ tt } }, (record { to = record { le = lit≤ tt }; fro = record { le = lit≤ tt } }, (record { to = record { le = lit≤ tt }; fro = record { le = lit≤ tt } }, (record { to = record { le = lit≤ tt }; fro = record { le = lit≤ tt } }, tt)))))))))))

@@ -1,20 +1,33 @@
--- How far apart the two ends of a reported pair may be. Document 01, 'What exact means', and requests (j) and (c) of document
--- 02.
+-- How far apart the two ends of a reported pair may be. Document 01, 'What exact means', and requests (j), (c) and (d) of
+-- document 02.
 -- Assumes nothing.
 use Rattle.exact.specs.Fraction.{Fraction, decimal, _+f_, _·f_, _÷f_}
 use Rattle.exact.specs.Ends.{Ends}
 use Rattle.exact.specs.Reported.{Scale, ten}
 use Rattle.case.specs.declared.Case.{Case}
 use Rattle.formulas.specs.Lengths.{ρ, LT, na}
-use Rattle.formulas.specs.Current.{gridCurrent}
 use Rattle.formulas.specs.Step.{LS}
 
--- millivolts and micro-ohms
+-- millivolts, micro-ohms, microamperes, and the billionths of the decrement factor
 unfoldable pub mV : Scale
 mV = ten 3
 
 unfoldable pub μΩ : Scale
 μΩ = ten 6
+
+unfoldable pub μA : Scale
+μA = ten 6
+
+unfoldable pub billionths : Scale
+billionths = ten 9
+
+-- request (d): "Df has two ends in billionths, at most 1,000 apart."
+unfoldable pub factorWidth : Ends → Fraction
+factorWidth A = decimal 1000 9
+
+-- request (d): "The two currents ... are at most 1/500,000 of the lower plus 2 microamperes apart."
+unfoldable pub currentWidth : Ends → Fraction
+currentWidth A = decimal 2 6 ·f A .lower +f decimal 2 6
 
 -- "Tolerable voltages: at most 1/10,000 of the lower end plus 10 mV."
 unfoldable pub tolerableWidth : Ends → Fraction
@@ -28,18 +41,17 @@ resistanceWidth A = decimal 1 4 ·f A .lower +f decimal 2 6
 unfoldable pub riseWidth : Ends → Fraction
 riseWidth A = decimal 5 4 ·f A .lower +f decimal 10 3
 
--- Ki and IG that the widths of the mesh and step voltages refer to, as fractions; IG in amperes. Request (c): "the mesh and step widths use Ki
--- worked with na in place of n"
+-- Ki that the widths of the mesh and step voltages refer to, as a fraction. Request (c): "the mesh and step widths use Ki worked with na in place
+-- of n"
 unfoldable pub referenceKi : Case → Fraction
 referenceKi c = decimal 644 3 +f decimal 148 3 ·f na c
 
-unfoldable pub referenceCurrent : Case → Fraction
-referenceCurrent c = decimal (gridCurrent c) 6
+-- request (d): "The mesh and step widths use the upper grid current": I is the reported pair, in amperes
+module _ (c : Case) (I : Ends) where
+  -- request (j): "mesh and step ends at most 1/100,000 of their reference voltage plus 10 mV", for mesh ρ·Ki·IG/LT
+  unfoldable pub meshWidth : Fraction
+  meshWidth = decimal 1 5 ·f (ρ c ·f referenceKi c ·f I .upper ÷f LT c) +f decimal 10 3
 
--- request (j): "mesh and step ends at most 1/100,000 of their reference voltage plus 10 mV", for mesh ρ·Ki·IG/LT
-unfoldable pub meshWidth : Case → Fraction
-meshWidth c = decimal 1 5 ·f (ρ c ·f referenceKi c ·f referenceCurrent c ÷f LT c) +f decimal 10 3
-
--- for step ρ·Ki·IG/LS
-unfoldable pub stepWidth : Case → Fraction
-stepWidth c = decimal 1 5 ·f (ρ c ·f referenceKi c ·f referenceCurrent c ÷f LS c) +f decimal 10 3
+  -- for step ρ·Ki·IG/LS
+  unfoldable pub stepWidth : Fraction
+  stepWidth = decimal 1 5 ·f (ρ c ·f referenceKi c ·f I .upper ÷f LS c) +f decimal 10 3

@@ -39,6 +39,7 @@ const TEXTS: [Name; NAMES] = [
     Name(*b"rodlen ", 6),
     Name(*b"place  ", 5),
     Name(*b"metal  ", 5),
+    Name(*b"hz     ", 2),
 ];
 
 fn entry(k: usize) -> Name

@@ -1,8 +1,8 @@
 -- What is asked of one case as a record. Document 01, 'The result table': "Decrement factor (in thousandths), conductor size, tolerable touch,
--- tolerable step and resistance may each be asked alone, from a record, with the same checks.", as changed by request (f) of document 02.
+-- tolerable step and resistance may each be asked alone, from a record, with the same checks.", as changed by requests (f) and (d) of document 02.
 -- Assumes nothing.
-use Prim.Native.Nat.{ℕ}
 use mathlib.Core.Path.{_≡_}
+use lib.IntN.{natAbs}
 use Rattle.interval.specs.declared.Interval.{Interval}
 use Rattle.interval.specs.declared.Pair.{Pair}
 use Rattle.interval.specs.declared.Pair.the-variants as pair
@@ -17,7 +17,7 @@ use Rattle.formulas.specs.Decrement.{Df}
 use Rattle.formulas.specs.Size.{size}
 use Rattle.formulas.specs.Tolerable.{tolerableTouch, tolerableStep}
 use Rattle.formulas.specs.Resistance as R
-use Rattle.formulas.specs.Width.{mV, μΩ, tolerableWidth, resistanceWidth}
+use Rattle.formulas.specs.Width.{mV, μΩ, billionths, factorWidth, tolerableWidth, resistanceWidth}
 use Rattle.tolerable.specs.Ends.{touchEnds, stepEnds}
 use Rattle.resistance.specs.Ends.{resistanceEnds}
 use Rattle.row.specs.Row.{RightRow}
@@ -28,16 +28,6 @@ use Rattle.hocsimbur.specs.declared.Tolerable.{Tolerable}
 use Rattle.hocsimbur.specs.declared.Tolerable.the-variants as tolerable
 use Rattle.hocsimbur.specs.declared.RowAnswer.{RowAnswer}
 use Rattle.hocsimbur.specs.declared.RowAnswer.the-variants as row
-
--- a settled number, or refusal 5 or 6 with line 0
-unfoldable pub numberAnswer : (Case → ℕ) → Case → Number
-numberAnswer asked c = recordAnswer number.Refused (number.Is (asked c)) (recordJudged c)
-
-unfoldable pub factorAnswer : Case → Number
-factorAnswer = numberAnswer Df
-
-unfoldable pub sizeAnswer : Case → Number
-sizeAnswer = numberAnswer size
 
 -- a pair, or refusal 5 or 6 with line 0
 unfoldable pub pairAnswer : (Case → Interval) → Case → Pair
@@ -51,6 +41,19 @@ pub record PairAnswered (x : Exact) (u : Scale) (width : Ends → Fraction) (end
 
 abbrev pub ResistanceAnswered : Case → Pair → Type 0
 ResistanceAnswered c = PairAnswered (R.resistance c) μΩ resistanceWidth resistanceEnds c
+
+-- ---- request (d): "for one case the factor's ends are the same in the row, in the factor asked alone and in the size asked alone"
+
+-- the one name of the factor's ends: those in the case's row
+unfoldable pub factorInRow : Case → Interval
+factorInRow c = rowOf c .factor
+
+abbrev pub FactorAnswered : Case → Pair → Type 0
+FactorAnswered c = PairAnswered (Df c) billionths factorWidth factorInRow c
+
+-- the size, by the upper end of those, or refusal 5 or 6 with line 0
+unfoldable pub sizeAnswer : Case → Number
+sizeAnswer c = recordAnswer number.Refused (number.Is (size c (natAbs (factorInRow c .upper)))) (recordJudged c)
 
 -- ---- request (f): "The two separate questions are merged into one that gives both pairs of ends from one root."
 

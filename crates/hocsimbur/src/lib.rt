@@ -3,10 +3,11 @@
 pub use case::Case;
 use case::Judged;
 use case::judge;
+use decrement::factor_ends;
 pub use interval::Interval;
 pub use interval::Pair;
 ghost use mathlib.Core.Path.{_≡_};
-ghost use Rattle.hocsimbur.specs.Asked.{factorAnswer, sizeAnswer, TolerableAnswered, ResistanceAnswered, RowAnswered};
+ghost use Rattle.hocsimbur.specs.Asked.{FactorAnswered, sizeAnswer, TolerableAnswered, ResistanceAnswered, RowAnswered};
 pub use logarithm::logarithm;
 pub use row::Row;
 pub use row::Verdict;
@@ -31,13 +32,13 @@ pub enum RowAnswer {
     Refused(u32, usize, usize),
 }
 
-// The decrement factor in thousandths.
-pub fn decrement_factor(c: Case) -> Number
-    ensures { λ r. ⌜ r ≡ factorAnswer c ⌝ }
+// The ends of the decrement factor in billionths.
+pub fn decrement_factor(c: Case) -> Pair
+    ensures { λ r. ⌜ FactorAnswered c r ⌝ }
 {
     match judge(c) {
-        Judged::Sound => Number::Is(current::decrement_factor(c) as u64),
-        Judged::Refused(number, line, column) => Number::Refused(number, line, column),
+        Judged::Sound => Pair::Ends(factor_ends(c)),
+        Judged::Refused(number, line, column) => Pair::Refused(number, line, column),
     }
 }
 
@@ -46,7 +47,7 @@ pub fn conductor_size(c: Case) -> Number
     ensures { λ r. ⌜ r ≡ sizeAnswer c ⌝ }
 {
     match judge(c) {
-        Judged::Sound => Number::Is(current::conductor_size(c)),
+        Judged::Sound => Number::Is(current::conductor_size(c, factor_ends(c))),
         Judged::Refused(number, line, column) => Number::Refused(number, line, column),
     }
 }

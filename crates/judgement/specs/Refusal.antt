@@ -11,8 +11,8 @@ use Rattle.judgement.specs.Limits.{mostLines}
 unfoldable pub textRefused : Judgement
 textRefused = Refused 1 0 0
 
--- "name unknown, or the same as one further left; or fewer than 18 names (first missing column)", 21 by requests (a)
--- and (c) of document 02
+-- "name unknown, or the same as one further left; or fewer than 18 names (first missing column)", 22 by requests (a),
+-- (c) and (d) of document 02
 unfoldable pub nameRefused : ℕ → Judgement
 nameRefused column = Refused 2 1 column
 

@@ -4,7 +4,10 @@ use print::signed;
 
 // The names of the numbers, with their units.
 pub fn names() {
-    bytes(b"station,season,verdict,size_kcmil,grid_current_uA");
+    bytes(b"station,season,verdict,size_kcmil");
+    bytes(
+        b",grid_current_lower_uA,grid_current_upper_uA,factor_lower_billionths,factor_upper_billionths",
+    );
     bytes(b",tolerable_touch_lower_mV,tolerable_touch_upper_mV");
     bytes(b",tolerable_step_lower_mV,tolerable_step_upper_mV");
     bytes(b",mesh_lower_mV,mesh_upper_mV,step_lower_mV,step_upper_mV");

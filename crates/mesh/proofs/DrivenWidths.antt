@@ -1,4 +1,5 @@
--- How far apart the ends of ρ·Ki·IG/LM are: LM's are at most 1/3,535,000 apart, ρ·Ki·IG's at most 1/31,000,000 and 2.
+-- How far apart the ends of ρ·Ki·IG/LM are: LM's are at most 1/3,535,000 apart, ρ·Ki·IG's at most 1/1,870,000, 3, and
+-- 940 for each mm of the conductors.
 -- Assumes nothing.
 use Prim.Native.Nat.{ℕ, _+_, _*_, _/_, _≤_, _<_}
 use mathlib.Core.Path.{_≡_}
@@ -34,11 +35,11 @@ mesh-length-relative {c} b =
     (relative-product (rodLength c) (lit< tt) (weight-span b) weight))
     (λ e. relative-point (1000 * totalLength c) 3535000)
 
--- ---- ρ·Ki·IG/LM: x to y, at most 1/31,000,000 and 2 apart, over c to d, at most 1/3,535,000 apart
+-- ---- ρ·Ki·IG/LM: x to y, at most 1/1,870,000, 3 and 940 m apart, over c to d, at most 1/3,535,000 apart
 
-driven-near : (x y c d L U : ℕ) → 31000000 * y ≤ 31000001 * x + 31000000 * 2 → 3535000 * d ≤ 3535001 * c → 10000000 ≤ c → U * c < y + c → x < L * d + d
-    → 3170000 * U ≤ 3170001 * L + 9510000
-driven-near x y c d L U w h p u l = le-of-suc-le-suc (lt-of-mul-lt-mul-right c (omega (arith, mul-le-mul-left L h)))
+driven-near : (x y c d m L U : ℕ) → 1870000 * y ≤ 1870001 * x + 1870000 * (3 + 940 * m) → 3535000 * d ≤ 3535001 * c → 10000000 ≤ c → 1000 * m ≤ c
+    → U * c < y + c → x < L * d + d → 1220000 * U ≤ 1220001 * L + 3660000
+driven-near x y c d m L U w h p q u l = le-of-suc-le-suc (lt-of-mul-lt-mul-right c (omega (arith, mul-le-mul-left L h)))
 
 length-within : (c : Case) → conductorLength c ≤ totalLength c
 unfolding totalLength
@@ -50,9 +51,9 @@ pub record Driven {c : Case} (b : Bounds c) : Type 0 where
   pub U : ℕ
   pub is : drivenEnds c ≡ natural L U
   pub order : L ≤ U
-  pub near : 3170000 * U ≤ 3170001 * L + 9510000
+  pub near : 1220000 * U ≤ 1220001 * L + 3660000
   pub below : L * (1000 * totalLength c) ≤ low b
-  pub most : U ≤ 63468800000
+  pub most : U ≤ 84076156800
 
 pub driven-ends : {c : Case} (b : Bounds c) → Driven b
 unfolding drivenEnds
@@ -70,11 +71,12 @@ driven-ends {c} b =
       is = rw (e .is, drive-is b) (natural-quotient (low b) (high b) 1 p (e .order));
       order = le-of-mul-le-mul-right (omega (arith, floor, least, ceilDiv-above y p, drive-order b)) p;
       near =
-          driven-near x y (e .a) (e .b) (x / e .b) (ceilDiv y (e .a)) (omega (arith, drive-near b)) (omega (arith, relative-span e (mesh-length-relative b)))
-          (le-trans (mesh-length-low b) (e .from)) (ceilDiv-below y p) (floorDiv-above x q);
+          driven-near x y (e .a) (e .b) (conductorLength c) (x / e .b) (ceilDiv y (e .a)) (omega (arith, drive-near b))
+          (omega (arith, relative-span e (mesh-length-relative b))) (le-trans (mesh-length-low b) (e .from))
+          (omega (arith, e .from, length-within c)) (ceilDiv-below y p) (floorDiv-above x q);
       below = omega (arith, floor, least, mul-le-mul-left (x / e .b) (e .from));
-      most = ceilDiv-by y p (omega (arith, drive-by-length b, mul-le-mul-left 63468800000 (e .from), length-within c));
+      most = ceilDiv-by y p (omega (arith, drive-by-length b, mul-le-mul-left 84076156800 (e .from), length-within c));
     }
 
-pub driven-span : {c : Case} → Bounds c → Span (drivenEnds c) 0 63468800000 63468800000
+pub driven-span : {c : Case} → Bounds c → Span (drivenEnds c) 0 84076156800 84076156800
 driven-span b = let v = driven-ends b in rw (v .is) (span-natural (v .L) (v .U) (omega arith) (v .order) (v .most) (omega (arith, v .most)))

@@ -1,4 +1,4 @@
--- The mesh voltage's ends are no further apart than allowed: 1/100,000 of ρ·Ki·IG/LT, with Ki of na, plus 10 mV.
+-- The mesh voltage's ends are no further apart than allowed: 1/100,000 of ρ·Ki·IG/LT, with Ki of na and IG its upper end, plus 10 mV.
 -- Assumes nothing.
 use Prim.Native.Nat.{ℕ, _+_, _-_, _*_, _≤_, _<_}
 use mathlib.Core.Path.{_≡_, ap}
@@ -17,8 +17,9 @@ use Rattle.exact.proofs.Divisors.{cong÷}
 use Rattle.case.specs.declared.Case.{Case}
 use Rattle.case.specs.Bounds.{Bounds}
 use Rattle.formulas.specs.Lengths.{LT}
-use Rattle.formulas.specs.Width.{mV, meshWidth}
+use Rattle.formulas.specs.Width.{mV, μA, meshWidth}
 use Rattle.formulas.proofs.Positive.{decimal-pos, decimal-nonneg}
+use Rattle.current.specs.Ends.{currentEnds}
 use Rattle.drive.proofs.Spans.{low}
 use Rattle.drive.proofs.Reference.{reference-width}
 use Rattle.lengths.specs.Lengths.{totalLength}
@@ -29,19 +30,19 @@ use Rattle.mesh.proofs.DrivenWidths.{driven-ends}
 
 -- ---- times Km
 
--- L to U in mV, U at most L/3,170,000 and 3 above L, times a to b in 10^−7, b at most 6 above a
-mesh-near : (L U a b m M : ℕ) → 3170000 * U ≤ 3170001 * L + 9510000 → L ≤ U → b ≤ a + 6 → b ≤ 17652000 → M * 10000000 < U * b + 10000000
-    → L * a < m * 10000000 + 10000000 → M * 10000000 ≤ m * 10000000 + 12 * L + 80000000
+-- L to U in mV, U at most L/1,220,000 and 3 above L, times a to b in 10^−7, b at most 6 above a
+mesh-near : (L U a b m M : ℕ) → 1220000 * U ≤ 1220001 * L + 3660000 → L ≤ U → b ≤ a + 6 → b ≤ 17652000 → M * 10000000 < U * b + 10000000
+    → L * a < m * 10000000 + 10000000 → M * 10000000 ≤ m * 10000000 + 21 * L + 80000000
 mesh-near L U a b m M h o w k u l =
     let j = U - L in
     let e : U ≡ L + j = omega arith in
-    let few : 3170000 * j ≤ L + 9510000 = omega arith in
-    let grown : j * b ≤ 6 * L + 53000000 = omega (arith, mul-le-mul-left j k, few) in
+    let few : 1220000 * j ≤ L + 3660000 = omega arith in
+    let grown : j * b ≤ 15 * L + 53000000 = omega (arith, mul-le-mul-left j k, few) in
     omega (arith, ap (λ t. t * b) e, mul-le-mul-left L w, grown)
 
 -- the same in volts
-volts-near : (L m M : ℕ) → M * 10000000 ≤ m * 10000000 + 12 * L + 80000000
-    → AtMost (decimal 12 7 ·f over (pos L) mV +f decimal 8 3) (reported mV (natural m M))
+volts-near : (L m M : ℕ) → M * 10000000 ≤ m * 10000000 + 21 * L + 80000000
+    → AtMost (decimal 21 7 ·f over (pos L) mV +f decimal 8 3) (reported mV (natural m M))
 unfolding reported mV ten over natural decimal _·f_ _+f_ _−f_ neg
 volts-near L m M h = record { apart = record { le = omega arith } }
 
@@ -52,8 +53,8 @@ per-length : (n t L : ℕ) → 0 < t → L * (1000 * t) ≤ n → over (pos L) m
 unfolding mV ten over decimal inv _÷f_ _·f_
 per-length n t L p h = record { le = omega (arith, ap (λ s. L * s) (clamped p), h) }
 
--- 12/10^7 of 1.24 is within 1/100,000
-share-less : decimal 12 7 ·f decimal 124 2 ≤f decimal 1 5
+-- 21/10^7 of 1.24 is within 1/100,000
+share-less : decimal 21 7 ·f decimal 124 2 ≤f decimal 1 5
 unfolding decimal _·f_
 share-less = record { le = lit≤ tt }
 
@@ -62,7 +63,7 @@ unfolding decimal
 extra-less = record { le = lit≤ tt }
 
 module _ {c : Case} (b : Bounds c) where
-  mesh-apart : AtMost (decimal 12 7 ·f over (pos (driven-ends b .L)) mV +f decimal 8 3) (reported mV (meshEnds c))
+  mesh-apart : AtMost (decimal 21 7 ·f over (pos (driven-ends b .L)) mV +f decimal 8 3) (reported mV (meshEnds c))
   unfolding meshEnds
   mesh-apart =
       let v = driven-ends b in
@@ -72,10 +73,10 @@ module _ {c : Case} (b : Bounds c) where
       (volts-near (v .L) _ _
       (mesh-near (v .L) (v .U) (f .a) (f .b) _ _ (v .near) (v .order) (f .near) (f .to) (ceilDiv-below (v .U * f .b) p) (floorDiv-above (v .L * f .a) p)))
 
-  pub mesh-narrow : AtMost (meshWidth c) (reported mV (meshEnds c))
+  pub mesh-narrow : AtMost (meshWidth c (reported μA (currentEnds c))) (reported mV (meshEnds c))
   unfolding meshWidth
   mesh-narrow =
       let t : 0 < totalLength c = omega (arith, total-bounds b .low) in
       let v = driven-ends b in
-      reference-width b (LT c) (decimal-nonneg 12 7) share-less extra-less
+      reference-width b (LT c) (decimal-nonneg 21 7) share-less extra-less
       (trans≤ (per-length (low b) (totalLength c) (v .L) t (v .below)) (cong÷ (decimal-pos 3 t) (refl≈ _) (sym≈ (total-is c)) .to)) mesh-apart

@@ -3,16 +3,14 @@
 use Prim.Native.Nat.{ℕ, _+_, _*_, _/_, _^_, _≤_, _<_}
 use mathlib.Core.Path.{refl}
 use native.Mathlib.Omega.{arith}
-use native.Mathlib.Nat.{mul-le-mul-right}
-use lib.Dec.{lit<}
-use lib.IntN.{pos}
+use native.Mathlib.Nat.{mul-le-mul-left, mul-le-mul-right}
+use lib.Dec.{lit≤, lit<}
 use Rattle.interval.specs.Whole.{ceilDiv}
-use Rattle.interval.specs.Operations.{natural, point}
+use Rattle.interval.specs.Operations.{natural}
 use Rattle.interval.specs.Span.{Relative}
 use Rattle.interval.specs.Wide.{Wide}
-use Rattle.interval.proofs.Natural.{point-natural, natural-product}
+use Rattle.interval.proofs.Natural.{natural-product}
 use Rattle.interval.proofs.Rounding.{floorDiv-above, ceilDiv-below}
-use Rattle.interval.proofs.Span.{span-point}
 use Rattle.interval.proofs.Relatives.{relative-span}
 use Rattle.interval.proofs.WideProduct.{wide-fits}
 use Rattle.exact.specs.Fraction.{decimal, _+f_, neg, _−f_, _·f_}
@@ -25,12 +23,13 @@ use Rattle.enclosure.proofs.Basics.{encloses-same}
 use Rattle.enclosure.proofs.Products.{encloses-product}
 use Rattle.case.specs.declared.Case.{Case}
 use Rattle.case.specs.Bounds.{Bounds}
-use Rattle.formulas.specs.Current.{gridCurrent, IG}
+use Rattle.formulas.specs.Current.{IG}
 use Rattle.formulas.specs.Resistance.{resistance, potentialRise}
-use Rattle.formulas.specs.Width.{mV, μΩ, riseWidth}
+use Rattle.formulas.specs.Width.{mV, μΩ, μA, riseWidth}
 use Rattle.formulas.proofs.Quantities.{quantity-IG}
 use Rattle.formulas.proofs.Consistent.{quantity-resistance}
-use Rattle.current.proofs.GridCurrent.{current-bounds, current-encloses}
+use Rattle.current.proofs.GridCurrent.{current-span, current-relative, current-encloses}
+use Rattle.current.specs.Ends.{currentEnds}
 use Rattle.resistance.specs.Ends.{resistanceEnds, riseEnds}
 use Rattle.resistance.proofs.Spans.{resistance-span}
 use Rattle.resistance.proofs.Enclosed.{resistance-encloses}
@@ -40,28 +39,28 @@ within-allowed : (x z : ℕ) → 2000 * z ≤ 2001 * x + 2000 * 10 → AtMost (r
 unfolding riseWidth reported mV ten over natural decimal _·f_ _+f_ _−f_ neg
 within-allowed x z h = record { apart = record { le = omega arith } }
 
--- L to U times g over 10^9, rounded to X and Z
-near : (g L U X Z : ℕ) → 10000 * U ≤ 10001 * L + 10000 * 2 → 5100 ≤ L → L * g < X * 10 ^ 9 + 10 ^ 9 → Z * 10 ^ 9 < U * g + 10 ^ 9
-    → 2000 * Z ≤ 2001 * X + 2000 * 10
-near g L U X Z h k l u = omega (arith, mul-le-mul-right g h, mul-le-mul-right g k, l, u)
+-- L to U times g to i over 10^9, rounded to X and Z
+near : (g i L U X Z : ℕ) → 10000 * U ≤ 10001 * L + 10000 * 2 → 5100 ≤ L → U ≤ 1500000000 → 2000000 * i ≤ 2000001 * g + 2000000 * 2
+    → L * g < X * 10 ^ 9 + 10 ^ 9 → Z * 10 ^ 9 < U * i + 10 ^ 9 → 2000 * Z ≤ 2001 * X + 2000 * 10
+near g i L U X Z h k m j l u = omega (arith, mul-le-mul-right g h, mul-le-mul-right g k, mul-le-mul-left U j, m, l, u)
 
 module _ {c : Case} (b : Bounds c) where
-  pub rise-wide : Wide (resistanceEnds c) (point (pos (gridCurrent c))) (10 ^ 9)
-  rise-wide =
-      wide-fits (10 ^ 9) 136 (lit< tt) (lit< tt) (omega (arith, current-bounds b .high)) (lit< tt) (resistance-span b)
-      (span-point (gridCurrent c) {l = 0} {h = gridCurrent c} (omega arith) (omega arith))
+  pub rise-wide : Wide (resistanceEnds c) (currentEnds c) (10 ^ 9)
+  rise-wide = wide-fits (10 ^ 9) 179 (lit< tt) (lit< tt) (lit≤ tt) (lit< tt) (resistance-span b) (current-span b)
 
   pub rise-near : Relative (riseEnds c) 2000 10
   unfolding riseEnds
   rise-near =
       let s = resistance-span b in
-      let g = gridCurrent c in
+      let t = current-span b in
       let p : 0 < 10 ^ 9 = lit< tt in
       record {
-        a = s .a * g / 10 ^ 9;
-        b = ceilDiv (s .b * g) (10 ^ 9);
-        is = rw (s .is, point-natural g) (natural-product (s .order) (omega arith) p);
-        near = near g (s .a) (s .b) _ _ (relative-span s (resistance-near b)) (s .from) (floorDiv-above (s .a * g) p) (ceilDiv-below (s .b * g) p);
+        a = s .a * t .a / 10 ^ 9;
+        b = ceilDiv (s .b * t .b) (10 ^ 9);
+        is = rw (s .is, t .is) (natural-product (s .order) (t .order) p);
+        near =
+            near (t .a) (t .b) (s .a) (s .b) _ _ (relative-span s (resistance-near b)) (s .from) (s .to) (relative-span t (current-relative b))
+            (floorDiv-above (s .a * t .a) p) (ceilDiv-below (s .b * t .b) p);
       }
 
   pub rise-narrow : AtMost (riseWidth (reported mV (riseEnds c))) (reported mV (riseEnds c))
@@ -69,7 +68,7 @@ module _ {c : Case} (b : Bounds c) where
 
   -- code works resistance times IG
   pub rise-encloses : Encloses (potentialRise c) mV (riseEnds c)
-  unfolding potentialRise riseEnds mV μΩ ten _·x_
+  unfolding potentialRise riseEnds mV μΩ μA ten _·x_
   rise-encloses =
       encloses-same (product-turned (IG c workDepth) (resistance c workDepth))
-      (encloses-product (ten 3) (10 ^ 9) refl (quantity-resistance b .consistent) (quantity-IG b .consistent) (resistance-encloses b) (current-encloses c))
+      (encloses-product (ten 3) (10 ^ 9) refl (quantity-resistance b .consistent) (quantity-IG b .consistent) (resistance-encloses b) (current-encloses b))

@@ -8,7 +8,7 @@ use Rattle.interval.specs.Operations.{natural, point, sumOf, outwardOf, scaledO
 use Rattle.enclosure.specs.SquareRoot.{rootPair}
 use Rattle.case.specs.declared.Case.{Case}
 use Rattle.formulas.specs.Lengths.{equalCounts}
-use Rattle.formulas.specs.Current.{gridCurrent}
+use Rattle.current.specs.Ends.{currentEnds}
 use Rattle.lengths.specs.Lengths.{sideX, sideY, totalLength}
 
 -- √20 in 10^−9
@@ -42,4 +42,4 @@ module _ (c : Case) where
 
   -- IG times resistance, in mV
   unfoldable pub riseEnds : Interval
-  riseEnds = productOf resistanceEnds (point (pos (gridCurrent c))) (10 ^ 9)
+  riseEnds = productOf resistanceEnds (currentEnds c) (10 ^ 9)

@@ -1,9 +1,9 @@
 // Resistance of the grid and ground potential rise, by whole-number intervals.
 ghost use mathlib.Core.Path.{_≡_};
 ghost use Rattle.case.specs.Bounds.{Bounds};
+ghost use Rattle.current.specs.Ends.{currentEnds};
 ghost use Rattle.resistance.specs.Ends.{rootTwenty, sideEnds, depthEnds, shapeEnds, widthEnds, perSoilEnds, resistanceEnds, riseEnds};
 use case::Case;
-use current::grid_current;
 use interval::Interval;
 use interval::root::root_ends;
 use lengths::side_x;
@@ -76,11 +76,12 @@ pub fn resistance(c: Case) -> Interval
     per_soil(c).scaled(c.soil as u64).outward(1000)
 }
 
-// Ground potential rise in mV, for the case's resistance.
-pub fn potential_rise(c: Case, ohms: Interval) -> Interval
+// Ground potential rise in mV, for the case's resistance and current.
+pub fn potential_rise(c: Case, ohms: Interval, current: Interval) -> Interval
     requires { ⌜ Bounds c ⌝ }
     requires { ⌜ ohms ≡ resistanceEnds c ⌝ }
+    requires { ⌜ current ≡ currentEnds c ⌝ }
     ensures { λ r. ⌜ r ≡ riseEnds c ⌝ }
 {
-    ohms.wide_product(Interval::point(grid_current(c)), 1000000000)
+    ohms.wide_product(current, 1000000000)
 }

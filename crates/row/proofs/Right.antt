@@ -1,16 +1,18 @@
 -- The row of a case within its bounds is right: the ends are right reports, and the verdict is true of the exact values.
 -- Assumes nothing.
-use mathlib.Core.Path.{_≡_, refl}
+use mathlib.Core.Path.{refl}
 use Rattle.exact.specs.Reported.{reported, AtMost, Reports}
 use Rattle.enclosure.proofs.Reporting.{reports}
 use Rattle.case.specs.declared.Case.{Case}
 use Rattle.case.specs.Bounds.{Bounds}
-use Rattle.formulas.specs.Width.{mV, μΩ, tolerableWidth, resistanceWidth, riseWidth, meshWidth, stepWidth}
+use Rattle.formulas.specs.Width.{mV, μΩ, μA, tolerableWidth, resistanceWidth, riseWidth, meshWidth, stepWidth}
 use Rattle.formulas.specs.Tolerable as Tolerable
 use Rattle.formulas.specs.Mesh as Mesh
 use Rattle.formulas.specs.Resistance as R
 use Rattle.formulas.specs.Step as Step
 use Rattle.formulas.proofs.Consistent.{consistent-touch, consistent-tolerable-step, consistent-mesh, consistent-step, quantity-resistance, consistent-rise}
+use Rattle.decrement.proofs.Right.{factor-reports}
+use Rattle.current.proofs.GridCurrent.{current-reports}
 use Rattle.tolerable.specs.Ends.{touchEnds, stepEnds}
 use Rattle.tolerable.proofs.Enclosed as T
 use Rattle.tolerable.proofs.Widths as TW
@@ -51,7 +53,7 @@ module _ {c : Case} (b : Bounds c) where
   step-enclosed = record { consistent = consistent-step b; encloses = S.step-encloses b }
 
   -- the width of the row's own pair
-  mesh-width : AtMost (meshWidth c) (reported mV (rowOf c .mesh))
+  mesh-width : AtMost (meshWidth c (reported μA (rowOf c .current))) (reported mV (rowOf c .mesh))
   unfolding rowOf
   mesh-width = mesh-narrow b
 
@@ -63,11 +65,12 @@ module _ {c : Case} (b : Bounds c) where
         season = refl;
         verdict = refl;
         size = refl;
-        current = refl;
+        current = current-reports b;
+        factor = factor-reports b;
         tolerable-touch = touch-reports;
         tolerable-step = limit-reports;
-        mesh = reports (λ A. meshWidth c) (consistent-mesh b) (mesh-encloses b) mesh-width;
-        step = reports (λ A. stepWidth c) (consistent-step b) (S.step-encloses b) (SW.step-narrow b);
+        mesh = reports (λ A. meshWidth c (reported μA (rowOf c .current))) (consistent-mesh b) (mesh-encloses b) mesh-width;
+        step = reports (λ A. stepWidth c (reported μA (rowOf c .current))) (consistent-step b) (S.step-encloses b) (SW.step-narrow b);
         resistance = resistance-reports;
         rise = reports riseWidth (consistent-rise b) (rise-encloses b) (rise-narrow b);
         safe-true = safe-true touch-enclosed limit-enclosed mesh-enclosed step-enclosed;

@@ -2,8 +2,9 @@
 -- Assumes nothing.
 use lib.IntN.{pos}
 use Rattle.case.specs.declared.Case.{Case}
-use Rattle.formulas.specs.Current.{gridCurrent}
 use Rattle.formulas.specs.Size as Size
+use Rattle.decrement.specs.Ends.{factorEnds}
+use Rattle.current.specs.Ends.{currentEnds, upperFactor}
 use Rattle.tolerable.specs.Ends.{touchEnds, stepEnds}
 use Rattle.mesh.specs.Ends.{meshEnds}
 use Rattle.step.specs.Ends.{stepVoltageEnds}
@@ -22,8 +23,9 @@ rowOf c =
       station = pos (c .station);
       season = pos (c .season);
       verdict = caseVerdict c;
-      size = pos (Size.size c);
-      current = pos (gridCurrent c);
+      size = pos (Size.size c (upperFactor c));
+      current = currentEnds c;
+      factor = factorEnds c;
       «tolerable_touch» = touchEnds c;
       «tolerable_step» = stepEnds c;
       mesh = meshEnds c;

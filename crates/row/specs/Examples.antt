@@ -2,7 +2,7 @@
 -- Assumes nothing.
 use Prim.Native.Nat.{ℕ}
 use mathlib.Core.Path.{_≡_, refl}
-use mathlib.Core.List.{List, [], _∷_}
+use mathlib.Core.List.{[], _∷_}
 use lib.IntN.{pos}
 use Rattle.interval.specs.declared.Interval.{Interval}
 use Rattle.interval.specs.Operations.{natural}
@@ -21,21 +21,22 @@ pub verdicts : told (natural 8 10) (natural 28 30) ∷ told (natural 8 11) (natu
 unfolding verdict safe unsafe verdictNumber natural
 verdicts = refl
 
--- station, season, verdict, size, current, then the lower and upper end of each pair
+-- station, season, verdict, size, then the lower and upper end of each pair
 pub order : numbers
     (record {
       station = pos 1;
       season = pos 2;
       verdict = Undecided;
       size = pos 4;
-      current = pos 5;
-      «tolerable_touch» = natural 6 7;
-      «tolerable_step» = natural 8 9;
-      mesh = natural 10 11;
-      step = natural 12 13;
-      resistance = natural 14 15;
-      rise = natural 16 17;
+      current = natural 5 6;
+      factor = natural 7 8;
+      «tolerable_touch» = natural 9 10;
+      «tolerable_step» = natural 11 12;
+      mesh = natural 13 14;
+      step = natural 15 16;
+      resistance = natural 17 18;
+      rise = natural 19 20;
     })
-    ≡ pos 1 ∷ pos 2 ∷ pos 3 ∷ pos 4 ∷ pos 5 ∷ pos 6 ∷ pos 7 ∷ pos 8 ∷ pos 9 ∷ pos 10 ∷ pos 11 ∷ pos 12 ∷ pos 13 ∷ pos 14 ∷ pos 15 ∷ pos 16 ∷ pos 17 ∷ []
+    ≡ pos 1 ∷ pos 2 ∷ pos 3 ∷ pos 4 ∷ pos 5 ∷ pos 6 ∷ pos 7 ∷ pos 8 ∷ pos 9 ∷ pos 10 ∷ pos 11 ∷ pos 12 ∷ pos 13 ∷ pos 14 ∷ pos 15 ∷ pos 16 ∷ pos 17 ∷ pos 18 ∷ pos 19 ∷ pos 20 ∷ []
 unfolding numbers natural verdictNumber
 order = refl

@@ -10,7 +10,7 @@ pub use put::put_row;
 pub use work::work_row;
 
 // How many numbers a row has.
-pub const ROW_LENGTH: usize = 17;
+pub const ROW_LENGTH: usize = 20;
 
 pub enum Verdict {
     Safe,
@@ -26,7 +26,9 @@ pub struct Row {
     // kcmil
     pub size: i64,
     // microamperes
-    pub current: i64,
+    pub current: Interval,
+    // billionths
+    pub factor: Interval,
     // millivolts
     pub tolerable_touch: Interval,
     pub tolerable_step: Interval,

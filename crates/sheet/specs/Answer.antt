@@ -21,7 +21,7 @@ use Rattle.sheet.specs.declared.Answer.the-variants.{Rows, Refused}
 unfoldable pub cases : List ℕ → List Case
 cases s = map (λ line. lineCase (columnsOf columns (names s)) (fieldsOf line)) (valueLines s)
 
--- "table shorter than 17 numbers a line"
+-- "table shorter than 17 numbers a line", 20 by request (d) of document 02
 unfoldable pub tableRefused : Answer
 tableRefused = Refused 8 0 0
 

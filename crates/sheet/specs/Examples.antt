@@ -30,25 +30,25 @@ unfolding onFirst linesOf fieldsOf same numberFrom valueOf columns nameIndex noC
 casesOf s = cases s
 
 abbrev head : List ℕ
-head = bytes "station,season,soil,layer,thick,shock,clear,wire,body,fault,split,xr,across,along,space,depth,dia,rods,rodlen,place,metal\n"
+head = bytes "station,season,soil,layer,thick,shock,clear,wire,body,fault,split,xr,across,along,space,depth,dia,rods,rodlen,place,metal,hz\n"
 
 abbrev dry : List ℕ
-dry = bytes "7,1,400,2500,102,500,500,500,70,3180,600,10,11,11,7000,500,100,0,0,0,1\n"
+dry = bytes "7,1,400,2500,102,500,500,500,70,3180,600,10,11,11,7000,500,100,0,0,0,1,60\n"
 
 abbrev wet : List ℕ
-wet = bytes "7,2,100,2500,102,500,500,500,70,3180,600,10,11,11,7000,500,100,0,0,0,1\n"
+wet = bytes "7,2,100,2500,102,500,500,500,70,3180,600,10,11,11,7000,500,100,0,0,0,1,60\n"
 
 -- document 01's sample sheet
 sample : List ℕ
 sample = head ++ dry ++ wet
 
-sample-answer : answerOf sample 34 ≡ Rows 2
+sample-answer : answerOf sample 40 ≡ Rows 2
 unfolding answerOf sample
 sample-answer = refl
 
 sample-cases : casesOf sample ≡
-    caseOf (7 ∷ 1 ∷ 400 ∷ 2500 ∷ 102 ∷ 500 ∷ 500 ∷ 500 ∷ 70 ∷ 3180 ∷ 600 ∷ 10 ∷ 11 ∷ 11 ∷ 7000 ∷ 500 ∷ 100 ∷ 0 ∷ 0 ∷ 0 ∷ 1 ∷ [])
-    ∷ caseOf (7 ∷ 2 ∷ 100 ∷ 2500 ∷ 102 ∷ 500 ∷ 500 ∷ 500 ∷ 70 ∷ 3180 ∷ 600 ∷ 10 ∷ 11 ∷ 11 ∷ 7000 ∷ 500 ∷ 100 ∷ 0 ∷ 0 ∷ 0 ∷ 1 ∷ [])
+    caseOf (7 ∷ 1 ∷ 400 ∷ 2500 ∷ 102 ∷ 500 ∷ 500 ∷ 500 ∷ 70 ∷ 3180 ∷ 600 ∷ 10 ∷ 11 ∷ 11 ∷ 7000 ∷ 500 ∷ 100 ∷ 0 ∷ 0 ∷ 0 ∷ 1 ∷ 60 ∷ [])
+    ∷ caseOf (7 ∷ 2 ∷ 100 ∷ 2500 ∷ 102 ∷ 500 ∷ 500 ∷ 500 ∷ 70 ∷ 3180 ∷ 600 ∷ 10 ∷ 11 ∷ 11 ∷ 7000 ∷ 500 ∷ 100 ∷ 0 ∷ 0 ∷ 0 ∷ 1 ∷ 60 ∷ [])
     ∷ []
 unfolding casesOf sample
 sample-cases = refl
@@ -65,53 +65,55 @@ row sheet room answered = record { sheet = sheet; room = room; answered = answer
 examples : List Example
 examples =
     -- 1: empty, too long, no last byte 10
-    row [] 34 (Refused 1 0 0)
-    ∷ row (replicate (mostBytes + 1) 10) 34 (Refused 1 0 0)
-    ∷ row (replicate mostBytes 10) 34 (Refused 2 1 1)
-    ∷ row (head ++ bytes "7") 34 (Refused 1 0 0)
-    -- 2: unknown, in another case of letters, twice, missing, one too many; document 01's ms and lines
-    ∷ row (bytes "station,season,Soil\n") 34 (Refused 2 1 3)
-    ∷ row (bytes "station,season,station,nothing\n") 34 (Refused 2 1 3)
-    ∷ row (bytes "metal,place\n") 34 (Refused 2 1 3)
-    ∷ row (bytes "station,season,soil,layer,thick,shock,clear,wire,body,fault,split,xr,across,along,space,depth,dia,rods,rodlen,place,metal,soil\n") 34 (Refused 2 1 22)
-    ∷ row (bytes "station,season,soil,layer,thick,shock,clear,wire,body,fault,split,xr,across,along,space,depth,dia,rods,rodlen,place,metal,\n") 34 (Refused 2 1 22)
-    ∷ row (bytes "station,season,soil,layer,thick,ms,body,fault,split,xr,lines,space,depth,dia,rods,rodlen,place,metal\n7,1,400,2500,102,500,70,3180,600,10,11,7000,500,100,0,0,0,1\n") 34 (Refused 2 1 6)
-    ∷ row (bytes "station,season,soil,layer,thick,shock,clear,wire,body,fault,split,xr,lines,space,depth,dia,rods,rodlen,place,metal\n7,1,400,2500,102,500,500,500,70,3180,600,10,11,7000,500,100,0,0,0,1\n") 34 (Refused 2 1 13)
+    row [] 40 (Refused 1 0 0)
+    ∷ row (replicate (mostBytes + 1) 10) 40 (Refused 1 0 0)
+    ∷ row (replicate mostBytes 10) 40 (Refused 2 1 1)
+    ∷ row (head ++ bytes "7") 40 (Refused 1 0 0)
+    -- 2: unknown, in another case of letters, twice, missing, one too many; document 01's ms and lines; no hz
+    ∷ row (bytes "station,season,Soil\n") 40 (Refused 2 1 3)
+    ∷ row (bytes "station,season,station,nothing\n") 40 (Refused 2 1 3)
+    ∷ row (bytes "metal,place\n") 40 (Refused 2 1 3)
+    ∷ row (bytes "station,season,soil,layer,thick,shock,clear,wire,body,fault,split,xr,across,along,space,depth,dia,rods,rodlen,place,metal,hz,soil\n") 40 (Refused 2 1 23)
+    ∷ row (bytes "station,season,soil,layer,thick,shock,clear,wire,body,fault,split,xr,across,along,space,depth,dia,rods,rodlen,place,metal,hz,\n") 40 (Refused 2 1 23)
+    ∷ row (bytes "station,season,soil,layer,thick,ms,body,fault,split,xr,lines,space,depth,dia,rods,rodlen,place,metal\n7,1,400,2500,102,500,70,3180,600,10,11,7000,500,100,0,0,0,1\n") 40 (Refused 2 1 6)
+    ∷ row (bytes "station,season,soil,layer,thick,shock,clear,wire,body,fault,split,xr,lines,space,depth,dia,rods,rodlen,place,metal,hz\n7,1,400,2500,102,500,500,500,70,3180,600,10,11,7000,500,100,0,0,0,1,60\n") 40 (Refused 2 1 13)
+    ∷ row (bytes "station,season,soil,layer,thick,shock,clear,wire,body,fault,split,xr,across,along,space,depth,dia,rods,rodlen,place,metal\n7,1,400,2500,102,500,500,500,70,3180,600,10,11,11,7000,500,100,0,0,0,1\n") 40 (Refused 2 1 22)
     -- 2 comes before 4
-    ∷ row (bytes "\n") 34 (Refused 2 1 1)
+    ∷ row (bytes "\n") 40 (Refused 2 1 1)
     -- 4: no line, and one too many
-    ∷ row head 34 (Refused 4 2 0)
-    ∷ row (head ++ replicate (mostLines + 1) 10) 34 (Refused 4 (mostLines + 2) 0)
+    ∷ row head 40 (Refused 4 2 0)
+    ∷ row (head ++ replicate (mostLines + 1) 10) 40 (Refused 4 (mostLines + 2) 0)
     -- 3: wrong forms, too few, too many; an empty line
-    ∷ row (head ++ dry ++ bytes "\n") 34 (Refused 3 3 1)
-    ∷ row (head ++ bytes "7,1,0400,2500,102,500,500,500,70,3180,600,10,11,11,7000,500,100,0,0,0,1\n") 34 (Refused 3 2 3)
-    ∷ row (head ++ bytes "7,1,400,2500,102,500,500,500,70,3180,600,10,11,11,7000,500,100,0,0,0,1000000\n") 34 (Refused 3 2 21)
-    ∷ row (head ++ bytes "7,1, 400,2500,102,500,500,500,70,3180,600,10,11,11,7000,500,100,0,0,0,1\n") 34 (Refused 3 2 3)
-    ∷ row (head ++ bytes "7,1,400,2500,102,500,500,500,70,3180,600,10,11,11,7000,500,100,0,0,0\n") 34 (Refused 3 2 21)
-    ∷ row (head ++ bytes "7,1,400,2500,102,500,500,500,70,3180,600,10,11,11,7000,500,100,0,0,0,1,1\n") 34 (Refused 3 2 22)
-    ∷ row (head ++ bytes "7,1,400,2500,102,500,500,500,70,3180,600,10,11,11,7000,500,100,0,0,x,1,1\n") 34 (Refused 3 2 20)
+    ∷ row (head ++ dry ++ bytes "\n") 40 (Refused 3 3 1)
+    ∷ row (head ++ bytes "7,1,0400,2500,102,500,500,500,70,3180,600,10,11,11,7000,500,100,0,0,0,1,60\n") 40 (Refused 3 2 3)
+    ∷ row (head ++ bytes "7,1,400,2500,102,500,500,500,70,3180,600,10,11,11,7000,500,100,0,0,0,1000000,60\n") 40 (Refused 3 2 21)
+    ∷ row (head ++ bytes "7,1, 400,2500,102,500,500,500,70,3180,600,10,11,11,7000,500,100,0,0,0,1,60\n") 40 (Refused 3 2 3)
+    ∷ row (head ++ bytes "7,1,400,2500,102,500,500,500,70,3180,600,10,11,11,7000,500,100,0,0,0,1\n") 40 (Refused 3 2 22)
+    ∷ row (head ++ bytes "7,1,400,2500,102,500,500,500,70,3180,600,10,11,11,7000,500,100,0,0,0,1,60,60\n") 40 (Refused 3 2 23)
+    ∷ row (head ++ bytes "7,1,400,2500,102,500,500,500,70,3180,600,10,11,11,7000,500,100,0,0,x,1,60,60\n") 40 (Refused 3 2 20)
     -- 3 of a line comes before 5, and 5 of a line before 3 of a later one
-    ∷ row (head ++ bytes "0,1,400,2500,102,500,500,500,70,3180,600,10,11,11,7000,500,100,0,0,0,x\n") 34 (Refused 3 2 21)
-    ∷ row (head ++ bytes "0,1,400,2500,102,500,500,500,70,3180,600,10,11,11,7000,500,100,0,0,0,1\n\n") 34 (Refused 5 2 1)
-    -- 5: the leftmost; depth 249 and 2501; a count out of its range; before 6
-    ∷ row (head ++ bytes "7,1,400,2500,102,500,500,500,70,3180,600,10,11,11,7000,249,0,0,0,0,1\n") 34 (Refused 5 2 16)
-    ∷ row (head ++ bytes "7,1,400,2500,102,500,500,500,70,3180,600,10,11,11,7000,2501,100,0,0,0,1\n") 34 (Refused 5 2 16)
-    ∷ row (head ++ bytes "7,1,400,2500,102,500,500,500,70,3180,600,10,26,1,7000,500,100,0,0,0,1\n") 34 (Refused 5 2 13)
-    ∷ row (head ++ bytes "7,1,400,2500,102,500,500,500,70,3180,600,10,25,1,7000,500,100,0,0,0,1\n") 34 (Refused 5 2 14)
-    ∷ row (head ++ bytes "7,1,400,2500,0,500,500,500,70,3180,600,10,11,11,7000,500,100,0,0,0,12\n") 34 (Refused 5 2 21)
+    ∷ row (head ++ bytes "0,1,400,2500,102,500,500,500,70,3180,600,10,11,11,7000,500,100,0,0,0,x,60\n") 40 (Refused 3 2 21)
+    ∷ row (head ++ bytes "0,1,400,2500,102,500,500,500,70,3180,600,10,11,11,7000,500,100,0,0,0,1,60\n\n") 40 (Refused 5 2 1)
+    -- 5: the leftmost; depth 249 and 2501; a count out of its range; before 6; a frequency between the two
+    ∷ row (head ++ bytes "7,1,400,2500,102,500,500,500,70,3180,600,10,11,11,7000,249,0,0,0,0,1,60\n") 40 (Refused 5 2 16)
+    ∷ row (head ++ bytes "7,1,400,2500,102,500,500,500,70,3180,600,10,11,11,7000,2501,100,0,0,0,1,60\n") 40 (Refused 5 2 16)
+    ∷ row (head ++ bytes "7,1,400,2500,102,500,500,500,70,3180,600,10,26,1,7000,500,100,0,0,0,1,60\n") 40 (Refused 5 2 13)
+    ∷ row (head ++ bytes "7,1,400,2500,102,500,500,500,70,3180,600,10,25,1,7000,500,100,0,0,0,1,60\n") 40 (Refused 5 2 14)
+    ∷ row (head ++ bytes "7,1,400,2500,0,500,500,500,70,3180,600,10,11,11,7000,500,100,0,0,0,12,60\n") 40 (Refused 5 2 21)
+    ∷ row (head ++ bytes "7,1,400,2500,102,500,500,500,70,3180,600,10,11,11,7000,500,100,0,0,0,1,55\n") 40 (Refused 5 2 22)
     -- 6: layer before rods
-    ∷ row (head ++ bytes "7,1,400,2500,0,500,500,500,70,3180,600,10,11,11,7000,500,100,3,0,0,1\n") 34 (Refused 6 2 4)
-    ∷ row (head ++ bytes "7,1,400,2500,102,500,500,500,70,3180,600,10,11,11,7000,500,100,3,1000,0,1\n") 34 (Refused 6 2 18)
+    ∷ row (head ++ bytes "7,1,400,2500,0,500,500,500,70,3180,600,10,11,11,7000,500,100,3,0,0,1,60\n") 40 (Refused 6 2 4)
+    ∷ row (head ++ bytes "7,1,400,2500,102,500,500,500,70,3180,600,10,11,11,7000,500,100,3,1000,0,1,60\n") 40 (Refused 6 2 18)
     -- 7, and 6 before 7
-    ∷ row (head ++ dry ++ wet ++ dry) 51 (Refused 7 4 0)
-    ∷ row (head ++ dry ++ bytes "7,1,400,2500,0,500,500,500,70,3180,600,10,11,11,7000,500,100,0,0,0,1\n") 34 (Refused 6 3 4)
+    ∷ row (head ++ dry ++ wet ++ dry) 60 (Refused 7 4 0)
+    ∷ row (head ++ dry ++ bytes "7,1,400,2500,0,500,500,500,70,3180,600,10,11,11,7000,500,100,0,0,0,1,60\n") 40 (Refused 6 3 4)
     -- 8 comes last
-    ∷ row sample 33 (Refused 8 0 0)
+    ∷ row sample 39 (Refused 8 0 0)
     ∷ row (head ++ dry ++ dry) 0 (Refused 7 3 0)
     -- names in another order: columns are those of the header
-    ∷ row (bytes "metal,place,rodlen,rods,dia,depth,space,along,across,xr,split,fault,body,wire,clear,shock,thick,layer,soil,season,station\n1,0,0,0,100,500,7000,11,11,10,600,3180,70,500,500,500,102,2500,400,1,7\n") 17 (Rows 1)
-    ∷ row (bytes "metal,place,rodlen,rods,dia,depth,space,along,across,xr,split,fault,body,wire,clear,shock,thick,layer,soil,season,station\n1,0,0,0,0,249,7000,11,11,10,600,3180,70,500,500,500,102,2500,400,1,7\n") 17 (Refused 5 2 5)
-    ∷ row (bytes "metal,place,rodlen,rods,dia,depth,space,along,across,xr,split,fault,body,wire,clear,shock,thick,layer,soil,season,station\n1,0,0,3,100,500,7000,11,11,10,600,3180,70,500,500,500,0,2500,400,1,7\n") 17 (Refused 6 2 18)
+    ∷ row (bytes "hz,metal,place,rodlen,rods,dia,depth,space,along,across,xr,split,fault,body,wire,clear,shock,thick,layer,soil,season,station\n60,1,0,0,0,100,500,7000,11,11,10,600,3180,70,500,500,500,102,2500,400,1,7\n") 20 (Rows 1)
+    ∷ row (bytes "hz,metal,place,rodlen,rods,dia,depth,space,along,across,xr,split,fault,body,wire,clear,shock,thick,layer,soil,season,station\n60,1,0,0,0,0,249,7000,11,11,10,600,3180,70,500,500,500,102,2500,400,1,7\n") 20 (Refused 5 2 6)
+    ∷ row (bytes "hz,metal,place,rodlen,rods,dia,depth,space,along,across,xr,split,fault,body,wire,clear,shock,thick,layer,soil,season,station\n60,1,0,0,3,100,500,7000,11,11,10,600,3180,70,500,500,500,0,2500,400,1,7\n") 20 (Refused 6 2 19)
     ∷ []
 
 right : map (λ e. answerOf (e .sheet) (e .room)) examples ≡ map (λ e. e .answered) examples

@@ -18,10 +18,10 @@ use Rattle.lengths.proofs.Lengths.{conductor-bounds, rod-bound}
 use Rattle.drive.proofs.Spans.{low, high, drive-is, drive-order, drive-near, drive-by-length}
 use Rattle.step.specs.Ends.{stepLength, drivenEnds}
 
--- x to y, at most 1/31,000,000 and 2 apart, over m and rounded to L and U
-near : (x y m L U : ℕ) → 31000000 * y ≤ 31000001 * x + 31000000 * 2 → 7500000 ≤ m → U * m < y + m → x < L * m + m
-    → 31000000 * U ≤ 31000001 * L + 31000000 * 3
-near x y m L U h p u l = le-of-suc-le-suc (lt-of-mul-lt-mul-right m (omega (arith, h, p, u, l)))
+-- x to y, at most 1/1,870,000, 3 and 940 k apart, over m and rounded to L and U
+near : (x y k m L U : ℕ) → 1870000 * y ≤ 1870001 * x + 1870000 * (3 + 940 * k) → 7500000 ≤ m → 750 * k ≤ m → U * m < y + m → x < L * m + m
+    → 1870000 * U ≤ 1870001 * L + 1870000 * 4
+near x y k m L U h p q u l = le-of-suc-le-suc (lt-of-mul-lt-mul-right m (omega (arith, h, p, q, u, l)))
 
 module _ {c : Case} (b : Bounds c) where
   -- ---- LS
@@ -59,19 +59,20 @@ module _ {c : Case} (b : Bounds c) where
   unfolding drivenLow
   driven-below = omega (arith, floorDiv-below (low b * 1) (50 * stepLength c))
 
-  pub driven-near : 31000000 * drivenHigh ≤ 31000001 * drivenLow + 31000000 * 3
+  pub driven-near : 1870000 * drivenHigh ≤ 1870001 * drivenLow + 1870000 * 4
   unfolding drivenLow drivenHigh
   driven-near =
-      near (low b * 1) (high b * 1) (50 * stepLength c) _ _ (omega (arith, drive-near b)) (omega (arith, length-bounds .low))
+      near (low b * 1) (high b * 1) (conductorLength c) (50 * stepLength c) _ _ (omega (arith, drive-near b)) (omega (arith, length-bounds .low))
+      (omega (arith, length-from))
       (ceilDiv-below (high b * 1) length-pos) (floorDiv-above (low b * 1) length-pos)
 
   pub driven-order : drivenLow ≤ drivenHigh
   unfolding drivenLow drivenHigh
   driven-order = floor≤ceil (low b * 1) (high b * 1) (50 * stepLength c) length-pos (omega (arith, drive-order b))
 
-  driven-most : drivenHigh ≤ 90000000000
+  driven-most : drivenHigh ≤ 112101542400
   unfolding drivenHigh
   driven-most = ceilDiv-by (high b * 1) length-pos (omega (arith, drive-by-length b, length-from))
 
-  pub driven-span : Span (drivenEnds c) 0 90000000000 2906
+  pub driven-span : Span (drivenEnds c) 0 112101542400 60000
   driven-span = rw driven-is (span-natural drivenLow drivenHigh (omega arith) driven-order driven-most (omega (arith, driven-near, driven-order, driven-most)))

@@ -1,4 +1,4 @@
--- The step voltage's ends are no further apart than allowed: 1/100,000 of ρ·Ki·IG/LS, with Ki worked with na, plus 10 mV.
+-- The step voltage's ends are no further apart than allowed: 1/100,000 of ρ·Ki·IG/LS, with Ki of na and IG its upper end, plus 10 mV.
 -- Assumes nothing.
 use Prim.Native.Nat.{ℕ, _+_, _*_, _^_, _≤_, _<_}
 use native.Mathlib.Omega.{arith}
@@ -17,8 +17,9 @@ use Rattle.exact.proofs.Reported.{quotient-low}
 use Rattle.case.specs.declared.Case.{Case}
 use Rattle.case.specs.Bounds.{Bounds}
 use Rattle.formulas.specs.Step.{LS}
-use Rattle.formulas.specs.Width.{mV, stepWidth}
+use Rattle.formulas.specs.Width.{mV, μA, stepWidth}
 use Rattle.formulas.proofs.Positive.{decimal-nonneg, LS-pos}
+use Rattle.current.specs.Ends.{currentEnds}
 use Rattle.drive.proofs.Spans.{low}
 use Rattle.drive.proofs.Reference.{reference-width}
 use Rattle.step.specs.Ends.{stepVoltageEnds}
@@ -26,23 +27,23 @@ use Rattle.step.proofs.FactorSpans.{factor-span}
 use Rattle.step.proofs.Spans.{length-pos, drivenLow, drivenHigh, driven-is, driven-order, driven-near, driven-below}
 use Rattle.step.proofs.Enclosed.{length-is}
 
--- the products of the ends, rounded to L and U: b is at most 1/31,000,000 and 3 above a, d at most 4 above c and within 10^7
-near : (a b c d L U : ℕ) → 31000000 * b ≤ 31000001 * a + 31000000 * 3 → d ≤ c + 4 → d ≤ 10000000 → a * c < L * 10000000 + 10000000
-    → U * 10000000 < b * d + 10000000 → U * 10000000 ≤ L * 10000000 + 5 * a + 50000000
+-- the products of the ends, rounded to L and U: b is at most 1/1,870,000 and 4 above a, d at most 4 above c and within 10^7
+near : (a b c d L U : ℕ) → 1870000 * b ≤ 1870001 * a + 1870000 * 4 → d ≤ c + 4 → d ≤ 10000000 → a * c < L * 10000000 + 10000000
+    → U * 10000000 < b * d + 10000000 → U * 10000000 ≤ L * 10000000 + 10 * a + 60000000
 near a b c d L U p q r l u = omega (arith, mul-le-mul-right d p, mul-le-mul-left a q, mul-le-mul-left a r)
 
 -- the same in volts
-volts-near : (a L U : ℕ) → U * 10000000 ≤ L * 10000000 + 5 * a + 50000000
-    → AtMost (decimal 5 7 ·f over (pos a) mV +f decimal 5 3) (reported mV (natural L U))
+volts-near : (a L U : ℕ) → U * 10000000 ≤ L * 10000000 + 10 * a + 60000000
+    → AtMost (decimal 10 7 ·f over (pos a) mV +f decimal 6 3) (reported mV (natural L U))
 unfolding reported mV ten over natural decimal _·f_ _+f_ _−f_ neg
 volts-near a L U h = record { apart = record { le = omega arith } }
 
--- 5/10^7 of 1.24 is within 1/100,000
-share-less : decimal 5 7 ·f decimal 124 2 ≤f decimal 1 5
+-- 10/10^7 of 1.24 is within 1/100,000
+share-less : decimal 10 7 ·f decimal 124 2 ≤f decimal 1 5
 unfolding decimal _·f_
 share-less = record { le = lit≤ tt }
 
-extra-less : decimal 5 3 ≤f decimal 10 3
+extra-less : decimal 6 3 ≤f decimal 10 3
 unfolding decimal
 extra-less = record { le = lit≤ tt }
 
@@ -53,8 +54,8 @@ module _ {c : Case} (b : Bounds c) where
       trans≤ (quotient-low (pos (low b)) (pos (drivenLow b)) (length-pos b) (ten 9) (ten 6) (ten 3) (pos≤ (omega (arith, driven-below b))))
       (cong÷ (LS-pos b) (refl≈ _) (length-is c) .fro)
 
-  -- 5/10^7 of the lower end of ρ·Ki·IG/LS, and 5 mV
-  step-near : AtMost (decimal 5 7 ·f over (pos (drivenLow b)) mV +f decimal 5 3) (reported mV (stepVoltageEnds c))
+  -- 10/10^7 of the lower end of ρ·Ki·IG/LS, and 6 mV
+  step-near : AtMost (decimal 10 7 ·f over (pos (drivenLow b)) mV +f decimal 6 3) (reported mV (stepVoltageEnds c))
   unfolding stepVoltageEnds
   step-near =
       let a = drivenLow b in
@@ -65,6 +66,6 @@ module _ {c : Case} (b : Bounds c) where
       (near a h (t .a) (t .b) _ _ (driven-near b) (t .near) (t .to) (floorDiv-above (a * t .a) {d = 10 ^ 7} (lit< tt))
       (ceilDiv-below (h * t .b) {d = 10 ^ 7} (lit< tt))))
 
-  pub step-narrow : AtMost (stepWidth c) (reported mV (stepVoltageEnds c))
+  pub step-narrow : AtMost (stepWidth c (reported μA (currentEnds c))) (reported mV (stepVoltageEnds c))
   unfolding stepWidth
-  step-narrow = reference-width b (LS c) (decimal-nonneg 5 7) share-less extra-less driven-low step-near
+  step-narrow = reference-width b (LS c) (decimal-nonneg 10 7) share-less extra-less driven-low step-near

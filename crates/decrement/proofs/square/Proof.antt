@@ -46,12 +46,12 @@ difference-requires c κs =
 point-requires-3 : tie.Need-point-requires-3
 point-requires-3 c κs = search needs
 
-ratio : (c : tie.After-quotient) → let s = c .before .before .before .args in c .quotient .result ≡ ratioEnds (s .clear) (s .xr) (s .hz)
+ratio : (c : tie.After-quotient) → let s = c .before .before .before .args in c .quotient .result ≡ ratioEnds (s .c)
 unfolding ratioEnds
 ratio c = rw (c .quotient .ensures, c .before .point .ensures, c .before .before .exponent .ensures)
 
 rest : (c : tie.After-difference)
-    → let s = c .before .before .before .before .before .before .args in c .difference .result ≡ restEnds (s .clear) (s .xr) (s .hz)
+    → let s = c .before .before .before .before .before .before .args in c .difference .result ≡ restEnds (s .c)
 unfolding restEnds
 rest c =
     let p = c .before in

@@ -1,7 +1,8 @@
--- `conductor_size` answers the size of a sound record.
+-- `conductor_size` answers the size of a sound record, by the factor in its row.
 -- Assumes nothing.
+use Rattle.row.specs.Ends.{rowOf}
 use Rattle.hocsimbur.specs.declared.Number.the-variants as number
-use Rattle.hocsimbur.specs.Asked.{numberAnswer, sizeAnswer}
+use Rattle.hocsimbur.specs.Asked.{factorInRow, sizeAnswer}
 use Rattle.hocsimbur.proofs.Answers.{sound-bounds, asked-answer, refused-answer}
 use borrow.Author.Needs.{needs}
 use Rattle.hocsimbur.proofs.conductor_size.Statement.{statement}
@@ -13,19 +14,28 @@ judge-requires c κs = search needs
 enum-told : tie.Need-enum-told
 enum-told c = search needs
 
+factor-ends-requires : tie.Need-factor-ends-requires
+factor-ends-requires c κs = sound-bounds _ (c .before .before .judge .ensures) (c .enum-told .given .1)
+
 conductor-size-requires : tie.Need-conductor-size-requires
-conductor-size-requires c κs = sound-bounds _ (c .before .before .judge .ensures) (c .enum-told .given .1)
+conductor-size-requires c κs =
+    let t = c .before in
+    (sound-bounds _ (t .before .before .judge .ensures) (t .enum-told .given .1), c .factor-ends .ensures)
 
 enum-known-number : tie.Need-enum-known-number
 enum-known-number c = search needs
 
 returns : tie.Need-returns
-unfolding sizeAnswer numberAnswer
-returns c = rw (c .conductor-size .ensures) (asked-answer _ (c .before .before .before .judge .ensures) number.Refused _ (c .before .enum-told .given .1))
+unfolding sizeAnswer factorInRow rowOf
+returns c =
+    let t = c .before .before in
+    rw (c .conductor-size .ensures) (asked-answer _ (t .before .before .judge .ensures) number.Refused _ (t .enum-told .given .1))
 
 returns-2 : tie.Need-returns-2
-unfolding sizeAnswer numberAnswer
+unfolding sizeAnswer
 returns-2 c = refused-answer _ (c .before .before .before .judge .ensures) number.Refused _ (c .before .number .given .1)
 
 pub conductor-size-spec : {M : Type 1} → statement M
-conductor-size-spec = tie.close (tie.spec judge-requires enum-told conductor-size-requires enum-known-number returns returns-2)
+conductor-size-spec =
+    tie.close
+    (tie.spec judge-requires enum-told factor-ends-requires conductor-size-requires enum-known-number returns returns-2)

@@ -1,8 +1,9 @@
--- `decrement_factor` answers the factor of a sound record.
+-- `decrement_factor` answers the ends of the factor of a sound record, which are those in its row.
 -- Assumes nothing.
-use Rattle.hocsimbur.specs.declared.Number.the-variants as number
-use Rattle.hocsimbur.specs.Asked.{numberAnswer, factorAnswer}
-use Rattle.hocsimbur.proofs.Answers.{sound-bounds, asked-answer, refused-answer}
+use Rattle.decrement.proofs.Right.{factor-reports}
+use Rattle.row.specs.Ends.{rowOf}
+use Rattle.hocsimbur.specs.Asked.{factorInRow}
+use Rattle.hocsimbur.proofs.Answers.{sound-bounds, pair-told, pair-refused}
 use borrow.Author.Needs.{needs}
 use Rattle.hocsimbur.proofs.decrement_factor.Statement.{statement}
 use Rattle.hocsimbur.proofs.decrement_factor.Tie as tie
@@ -13,22 +14,18 @@ judge-requires c κs = search needs
 enum-told : tie.Need-enum-told
 enum-told c = search needs
 
-decrement-factor-requires : tie.Need-decrement-factor-requires
-decrement-factor-requires c κs = sound-bounds _ (c .before .before .judge .ensures) (c .enum-told .given .1)
-
-cast-t8 : tie.Need-cast-t8
-cast-t8 c = search needs
+factor-ends-requires : tie.Need-factor-ends-requires
+factor-ends-requires c κs = sound-bounds _ (c .before .before .judge .ensures) (c .enum-told .given .1)
 
 enum-known-number : tie.Need-enum-known-number
 enum-known-number c = search needs
 
 returns : tie.Need-returns
-unfolding factorAnswer numberAnswer
-returns c = rw (c .decrement-factor .ensures) (asked-answer _ (c .before .before .before .judge .ensures) number.Refused _ (c .before .enum-told .given .1))
+unfolding factorInRow rowOf
+returns c = pair-told _ (c .before .before .before .judge .ensures) factor-reports (c .before .enum-told .given .1) (c .factor-ends .ensures)
 
 returns-2 : tie.Need-returns-2
-unfolding factorAnswer numberAnswer
-returns-2 c = refused-answer _ (c .before .before .before .judge .ensures) number.Refused _ (c .before .number .given .1)
+returns-2 c = pair-refused _ (c .before .before .before .judge .ensures) (c .before .number .given .1)
 
 pub decrement-factor-spec : {M : Type 1} → statement M
-decrement-factor-spec = tie.close (tie.spec judge-requires enum-told decrement-factor-requires cast-t8 enum-known-number returns returns-2)
+decrement-factor-spec = tie.close (tie.spec judge-requires enum-told factor-ends-requires enum-known-number returns returns-2)

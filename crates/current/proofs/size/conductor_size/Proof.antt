@@ -1,12 +1,9 @@
 -- `conductor_size` is the smallest number for the rounded square.
 -- Assumes nothing.
-use Prim.Native.Nat.{_≤_}
 use native.Mathlib.Omega.{arith}
-use native.Mathlib.Nat.{mul-le-mul}
 use borrow.Author.Needs.{needs}
-use Rattle.case.specs.Bounds.{Bounds}
-use Rattle.formulas.specs.Size.{duty, size}
 use Rattle.formulas.proofs.Size.{duty-bound}
+use Rattle.current.proofs.GridCurrent.{upper-bounds}
 use Rattle.current.proofs.SquareLoad.{load-bound}
 use Rattle.current.proofs.Smallest.{size-is}
 use Rattle.current.proofs.size.conductor_size.Statement.{statement}
@@ -20,20 +17,19 @@ cast-square-load c = search needs
 
 square-load-requires : tie.Need-square-load-requires
 square-load-requires c κs =
-    let s = c .before .before in
-    let b = s .pre in
-    rw (c .before .load .ensures) (duty-bound b, omega arith)
+    let b = c .before .before .pre .0 in
+    rw (c .before .load .ensures) (duty-bound b (upper-bounds b), omega arith)
 
 smallest-square-requires : tie.Need-smallest-square-requires
 smallest-square-requires c κs =
-    let s = c .before .before .before in
-    rw (c .square-load .ensures, c .before .before .load .ensures) (let b = s .pre in load-bound _ _ (duty-bound b) (omega arith))
+    let b = c .before .before .before .pre .0 in
+    rw (c .square-load .ensures, c .before .before .load .ensures) (load-bound _ _ (duty-bound b (upper-bounds b)) (omega arith))
 
 returns : tie.Need-returns
 returns c =
     let q = c .before in
     let s = q .before .before .before in
-    size-is (s .args .c) (c .smallest-square .result) (rw (q .square-load .ensures, q .before .before .load .ensures) at (c .smallest-square .ensures))
+    size-is (s .args .c) _ (c .smallest-square .result) (rw (q .square-load .ensures, q .before .before .load .ensures) at (c .smallest-square .ensures))
 
 pub conductor-size-spec : {M : Type 1} → statement M
 conductor-size-spec = tie.close (tie.spec load-requires cast-square-load square-load-requires smallest-square-requires returns)

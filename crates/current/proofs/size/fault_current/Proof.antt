@@ -1,36 +1,39 @@
--- `fault_current` is the product of fault and Df.
+-- `fault_current` is the product of fault and the factor's upper end.
 -- Assumes nothing.
-use mathlib.Core.Path.{_≡_}
-use borrow.Author.Needs.{needs}
 use lib.Dec.{lit<}
-use Rattle.formulas.specs.Decrement.{Df}
-use Rattle.formulas.proofs.Decrement.{factor-bounds}
+use mir.Facts.{toZ-ofZ}
+use Rattle.interval.specs.Span.{Span}
+use Rattle.interval.proofs.Bits.{Held, natural-cast}
 use Rattle.interval.proofs.Fits.{fits-product}
+use Rattle.interval.proofs.SpanFits.{read-upper}
+use Rattle.exponential.specs.Ends.{billion}
+use Rattle.decrement.proofs.Widths.{factor-span}
+use borrow.Author.Needs.{needs}
 use Rattle.current.proofs.size.fault_current.Statement.{statement}
 use Rattle.current.proofs.size.fault_current.Tie as tie
 
-decrement-factor-requires : tie.Need-decrement-factor-requires
-decrement-factor-requires c κs = search needs
+module _ (c : tie.After-struct-told) where
+  abbrev start : tie.Start
+  start = c .before .before .before
+
+  held : Held (start .args .factor)
+  held = search needs
+
+  span : Span (start .args .factor) billion 2236068000 500
+  span = rw (start .pre .1) (factor-span (start .pre .0))
 
 cast-result : tie.Need-cast-result
 cast-result c = search needs
 
 cast-result-2 : tie.Need-cast-result-2
-cast-result-2 c = search needs
-
--- the factor of the case
-factor-is : (c : tie.After-decrement-factor) → c .decrement-factor .result ≡ Df (c .before .args .c)
-factor-is c = c .decrement-factor .ensures
+cast-result-2 c = natural-cast (span c .b) (held c .1) (read-upper (held c) (span c))
 
 mul-result : tie.Need-mul-result
 mul-result c =
-    let f = c .before in
-    let b = f .before .pre in
-    rw (factor-is f) (fits-product (b .fault .high) (factor-bounds b .high) (lit< tt))
+    rw (read-upper (held c) (span c)) (fits-product (start c .pre .0 .fault .high) (span c .to) (lit< tt))
 
 returns : tie.Need-returns
-unfolding Df
-returns c = cc
+returns c = rw (toZ-ofZ (held c .1), start c .pre .1)
 
 pub fault-current-spec : {M : Type 1} → statement M
-fault-current-spec = tie.close (tie.spec decrement-factor-requires cast-result cast-result-2 mul-result returns)
+fault-current-spec = tie.close (tie.spec cast-result cast-result-2 mul-result returns)

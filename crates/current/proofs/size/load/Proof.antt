@@ -4,7 +4,7 @@ use mathlib.Core.Path.{_≡_}
 use borrow.Author.Needs.{needs}
 use lib.Dec.{lit<}
 use Rattle.formulas.specs.Size.{duty, Kf}
-use Rattle.formulas.proofs.Decrement.{factor-bounds}
+use Rattle.current.proofs.GridCurrent.{upper-bounds}
 use Rattle.formulas.proofs.Size.{kf-bounds}
 use Rattle.interval.proofs.Fits.{fits-triple}
 use Rattle.current.proofs.Metals.{kf-found, kf-missing}
@@ -26,7 +26,7 @@ enum-told c = search needs
 returns : tie.Need-returns
 returns c =
     let k = c .before .before in
-    absurd (kf-missing (k .before .before .pre .metal) (k .kf .ensures) (c .enum-told .given .1))
+    absurd (kf-missing (k .before .before .pre .0 .metal) (k .kf .ensures) (c .enum-told .given .1))
 
 cast-result : tie.Need-cast-result
 cast-result c = search needs
@@ -35,14 +35,14 @@ cast-result c = search needs
 kf-is : (c : tie.After-known-told) → c .before .constant .given .0 .0 ≡ Kf (c .before .before .before .before .before .args .c .metal)
 kf-is c =
     let k = c .before .before .before in
-    kf-found (k .before .before .pre .metal) (k .kf .ensures) (c .before .constant .given .1)
+    kf-found (k .before .before .pre .0 .metal) (k .kf .ensures) (c .before .constant .given .1)
 
 mul-result : tie.Need-mul-result
 mul-result c =
     let f = c .before .before .before .before in
-    let b = f .before .pre in
+    let b = f .before .pre .0 in
     rw (f .fault-current .ensures, kf-is c)
-    (fits-triple (b .fault .high) (factor-bounds b .high) (kf-bounds (b .metal) .high) (lit< tt))
+    (fits-triple (b .fault .high) (upper-bounds b .high) (kf-bounds (b .metal) .high) (lit< tt))
 
 returns-2 : tie.Need-returns-2
 unfolding duty

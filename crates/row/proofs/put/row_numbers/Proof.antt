@@ -4,6 +4,7 @@ use borrow.Author.Needs.{needs}
 use mir.Syntax.{w64}
 use mir.Val.{SFits}
 use mir.Facts.{toZ-ofZ}
+use Rattle.interval.proofs.Bits.{Held}
 use Rattle.row.specs.Row.{numbers}
 use Rattle.row.proofs.put.row_numbers.Statement.{statement}
 use Rattle.row.proofs.put.row_numbers.Tie as tie
@@ -11,11 +12,15 @@ use Rattle.row.proofs.put.row_numbers.Tie as tie
 told-held : (c : tie.After-verdict-number) → SFits w64 (c .verdict-number .result)
 told-held c = search needs
 
-held : (c : tie.After-struct-told) → SFits w64 (c .before .before .args .r .station) × SFits w64 (c .before .before .args .r .season) × SFits w64 (c .before .before .args .r .size) × SFits w64 (c .before .before .args .r .current) × SFits w64 (c .before .before .args .r .«tolerable_touch» .lower) × SFits w64 (c .before .before .args .r .«tolerable_touch» .upper) × SFits w64 (c .before .before .args .r .«tolerable_step» .lower) × SFits w64 (c .before .before .args .r .«tolerable_step» .upper) × SFits w64 (c .before .before .args .r .mesh .lower) × SFits w64 (c .before .before .args .r .mesh .upper) × SFits w64 (c .before .before .args .r .step .lower) × SFits w64 (c .before .before .args .r .step .upper) × SFits w64 (c .before .before .args .r .resistance .lower)
-held c = search needs
+module _ (c : tie.After-struct-told) where
+  numbers-held : let r = c .before .before .args .r in SFits w64 (r .station) × SFits w64 (r .season) × SFits w64 (r .size)
+  numbers-held = search needs
 
-held-last : (c : tie.After-struct-told) → SFits w64 (c .before .before .args .r .resistance .upper) × SFits w64 (c .before .before .args .r .rise .lower) × SFits w64 (c .before .before .args .r .rise .upper)
-held-last c = search (needs, c .before .before .good .0 .1 .1 .1 .1 .1 .1 .1 .1 .1)
+  first-held : let r = c .before .before .args .r in Held (r .current) × Held (r .factor) × Held (r .«tolerable_touch») × Held (r .«tolerable_step»)
+  first-held = search needs
+
+  last-held : let r = c .before .before .args .r in Held (r .mesh) × Held (r .step) × Held (r .resistance) × Held (r .rise)
+  last-held = search (needs, c .before .before .good .0 .1 .1 .1 .1 .1 .1 .1 .1)
 
 verdict-number-requires : tie.Need-verdict-number-requires
 verdict-number-requires c κs = search needs
@@ -23,9 +28,31 @@ verdict-number-requires c κs = search needs
 returns : tie.Need-returns
 unfolding numbers
 returns c =
-    let h = held c in
-    let l = held-last c in
-    simp (toZ-ofZ (told-held (c .before)), toZ-ofZ (h .0), toZ-ofZ (h .1), toZ-ofZ (h .2), toZ-ofZ (h .3), toZ-ofZ (h .4), toZ-ofZ (h .5), toZ-ofZ (h .6), toZ-ofZ (h .7), toZ-ofZ (h .8), toZ-ofZ (h .9), toZ-ofZ (h .10), toZ-ofZ (h .11), toZ-ofZ (h .12), toZ-ofZ (l .0), toZ-ofZ (l .1), toZ-ofZ (l .2)) (rw (c .before .verdict-number .ensures))
+    let n = numbers-held c in
+    let f = first-held c in
+    let l = last-held c in
+    simp (
+      toZ-ofZ (told-held (c .before)),
+      toZ-ofZ (n .0),
+      toZ-ofZ (n .1),
+      toZ-ofZ (n .2),
+      toZ-ofZ (f .0 .0),
+      toZ-ofZ (f .0 .1),
+      toZ-ofZ (f .1 .0),
+      toZ-ofZ (f .1 .1),
+      toZ-ofZ (f .2 .0),
+      toZ-ofZ (f .2 .1),
+      toZ-ofZ (f .3 .0),
+      toZ-ofZ (f .3 .1),
+      toZ-ofZ (l .0 .0),
+      toZ-ofZ (l .0 .1),
+      toZ-ofZ (l .1 .0),
+      toZ-ofZ (l .1 .1),
+      toZ-ofZ (l .2 .0),
+      toZ-ofZ (l .2 .1),
+      toZ-ofZ (l .3 .0),
+      toZ-ofZ (l .3 .1),
+    ) (rw (c .before .verdict-number .ensures))
 
 pub row-numbers-spec : {M : Type 1} → statement M
 row-numbers-spec = tie.close (tie.spec verdict-number-requires returns)

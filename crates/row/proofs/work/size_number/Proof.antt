@@ -1,8 +1,8 @@
 -- `size_number` is the number as a signed one; it fits.
 -- Assumes nothing.
 use Rattle.formulas.proofs.Size.{size-bound}
-use Prim.Native.Nat.{_<_, _^_}
-use mathlib.Core.Path.{_≡_, ap}
+use Rattle.current.proofs.GridCurrent.{upper-bounds}
+use mathlib.Core.Path.{ap}
 use native.Mathlib.Omega.{arith}
 use lib.IntN.{pos}
 use mir.Syntax.{w64}
@@ -13,7 +13,7 @@ use Rattle.row.proofs.work.size_number.Statement.{statement}
 use Rattle.row.proofs.work.size_number.Tie as tie
 
 fits : (c : tie.After-conductor-size) → SFits w64 (pos (c .conductor-size .result))
-fits c = record { sfits = rw (c .conductor-size .ensures) (omega (arith, size-bound (c .before .pre))) }
+fits c = record { sfits = rw (c .conductor-size .ensures) (omega (arith, size-bound (c .before .pre .0) (upper-bounds (c .before .pre .0)))) }
 
 conductor-size-requires : tie.Need-conductor-size-requires
 conductor-size-requires c κs = search needs

@@ -14,18 +14,21 @@ use Rattle.row.proofs.work.work_row.Tie as tie
 size-held : (c : tie.After-size-number) → SFits w64 (c .size-number .result)
 size-held c = search needs
 
-current-held : (c : tie.After-current-number) → SFits w64 (c .current-number .result)
-current-held c = search needs
+-- where the current was worked
+abbrev worked : tie.After-verdict-of → tie.After-grid-current
+worked c = c .before .before .before .before .before .before .before .before .before .before .before .before
 
--- where the function began
-abbrev start : tie.After-verdict-of → tie.Start
-start c = c .before .before .before .before .before .before .before .before .before .before .before .before
+factor-ends-requires : tie.Need-factor-ends-requires
+factor-ends-requires c κs = search needs
+
+grid-current-requires : tie.Need-grid-current-requires
+grid-current-requires c κs = search needs
 
 touch-and-step-requires : tie.Need-touch-and-step-requires
 touch-and-step-requires c κs = search needs
 
 effective-number-requires : tie.Need-effective-number-requires
-effective-number-requires c κs = counts (c .before .before .before .pre)
+effective-number-requires c κs = counts (c .before .before .before .before .before .pre)
 
 drive-requires : tie.Need-drive-requires
 drive-requires c κs = search needs
@@ -42,40 +45,38 @@ resistance-requires c κs = search needs
 potential-rise-requires : tie.Need-potential-rise-requires
 potential-rise-requires c κs = search needs
 
-cast-t11 : tie.Need-cast-t11
-cast-t11 c = search needs
+cast-t13 : tie.Need-cast-t13
+cast-t13 c = search needs
 
-cast-t12 : tie.Need-cast-t12
-cast-t12 c = search needs
+cast-t14 : tie.Need-cast-t14
+cast-t14 c = search needs
 
 verdict-of-requires : tie.Need-verdict-of-requires
 verdict-of-requires c κs = search needs
 
 size-number-requires : tie.Need-size-number-requires
-size-number-requires c κs = start c .pre
-
-current-number-requires : tie.Need-current-number-requires
-current-number-requires c κs = start (c .before) .pre
+size-number-requires c κs = let f = worked c .before in (f .before .pre, f .factor-ends .ensures)
 
 returns : tie.Need-returns
 unfolding rowOf caseVerdict touchAndStep
 returns c =
-    let z = c .before in
-    let o = z .before in
+    let o = c .before in
     let r = o .before .before .before in
     let p = r .before in
     let m = p .before in
     let k = m .before in
     let t = k .before .before .before .before .before in
-    let s = t .before in
-    let f = size-held z in
-    let i = current-held c in
-    rw (toZ-pos w64 {n = s .args .c .station} (omega arith), toZ-pos w64 {n = s .args .c .season} (omega arith), toZ-ofZ f, toZ-ofZ i, r .potential-rise .ensures, p .resistance .ensures, c .current-number .ensures, z .size-number .ensures, o .verdict-of .ensures, m .step-voltage .ensures, k .mesh-voltage .ensures, t .touch-and-step .ensures)
+    let i = t .before in
+    let f = i .before in
+    let s = f .before in
+    rw (toZ-pos w64 {n = s .args .c .station} (omega arith), toZ-pos w64 {n = s .args .c .season} (omega arith), toZ-ofZ (size-held c), r .potential-rise .ensures, p .resistance .ensures, c .size-number .ensures, o .verdict-of .ensures, m .step-voltage .ensures, k .mesh-voltage .ensures, t .touch-and-step .ensures, i .grid-current .ensures, f .factor-ends .ensures)
 
 pub work-row-spec : {M : Type 1} → statement M
 work-row-spec =
     tie.close
     (tie.spec
+    factor-ends-requires
+    grid-current-requires
     touch-and-step-requires
     effective-number-requires
     drive-requires
@@ -83,9 +84,8 @@ work-row-spec =
     step-voltage-requires
     resistance-requires
     potential-rise-requires
-    cast-t11
-    cast-t12
+    cast-t13
+    cast-t14
     verdict-of-requires
     size-number-requires
-    current-number-requires
     returns)

@@ -1,0 +1,17 @@
+-- The ends of the grid current, by whole-number intervals, and the upper end of the decrement factor. Names for the free part: callers use
+-- their laws.
+-- Assumes nothing.
+use Prim.Native.Nat.{ℕ, _*_, _^_}
+use lib.IntN.{natAbs}
+use Rattle.interval.specs.declared.Interval.{Interval}
+use Rattle.interval.specs.Operations.{outwardOf, scaledOf}
+use Rattle.case.specs.declared.Case.{Case}
+use Rattle.decrement.specs.Ends.{factorEnds}
+
+-- fault·split·Df in microamperes; fault·split is in 10^−3, Df in 10^−9
+unfoldable pub currentEnds : Case → Interval
+currentEnds c = outwardOf (scaledOf (factorEnds c) (c .fault * c .split)) (10 ^ 6)
+
+-- the factor's upper end, in billionths
+abbrev pub upperFactor : Case → ℕ
+upperFactor c = natAbs (factorEnds c .upper)
