@@ -39,6 +39,7 @@ BATCH_END = b"\0"
 BATCH_SHORT = 2000
 PORTFOLIO, SEASONS = 61, 4  # the stations of request (h), and the seasons of each
 PAIRS_EVERY = 29  # one case in so many of the pairs of counts, in a sheet of its own
+LESS_YARDS = 40  # yards at their limit with less and less fault current, in a sheet of their own
 BATCH_FILE = Path(__file__).parents[1] / "crates" / "batch" / "stdin"
 
 
@@ -130,6 +131,25 @@ def case_at_limit(rng):
         case = meeting(random_case(rng), *names)
         if case and undecided_for_all(case):
             return case
+
+
+def less_faults(fault):
+    """A fault current, 1 A less, half of it, and the least of the range."""
+    return (fault, fault - 1, fault // 2, span_of("fault")[0])
+
+
+def cases_of_less_current(seed):
+    """Yards at which mesh or step voltage is within 1 A of its limit, each as four seasons of one station
+    with less and less fault current, all else equal.
+    """
+    rng, cases = random.Random(seed), []
+    while len(cases) < LESS_YARDS * SEASONS:
+        case = meeting(random_case(rng), *rng.choice((("mesh", "tolerable_touch"), ("step", "tolerable_step"))))
+        if case and span_of("fault")[0] < case.fault // 2 and case.fault < span_of("fault")[1]:
+            station, most = 1 + len(cases) // SEASONS, case.fault + rng.choice((-1, 0, 1))
+            cases += [case._replace(station=station, season=season, fault=fault)
+                      for season, fault in enumerate(less_faults(most), start=1)]
+    return cases
 
 
 class Sheet:
@@ -463,13 +483,14 @@ def sheets_at_the_limits():
 
 
 def batch():
-    """Sheets, each ended by a byte 0, which none of them has in it; only those at the limits and
-    that of the pairs of counts are long.
+    """Sheets, each ended by a byte 0, which none of them has in it; only those at the limits, that of
+    the pairs of counts and that of less current are long.
     """
     sheets = [numbered_sheet(BATCH_SEED, number)[1] for number in range(BATCH_COUNT)]
     short = [sheet for sheet in sheets if BATCH_END not in sheet and len(sheet) <= BATCH_SHORT]
     pairs = sheet_of(cases_of_pairs(BATCH_SEED)[::PAIRS_EVERY])
-    return b"".join(sheet + BATCH_END for sheet in (*short, *sheets_at_the_limits(), pairs))
+    less = sheet_of(cases_of_less_current(BATCH_SEED))
+    return b"".join(sheet + BATCH_END for sheet in (*short, *sheets_at_the_limits(), pairs, less))
 
 
 # --------------------------------------------------------------------------

@@ -66,6 +66,11 @@ def old_columns(sheet):
     return found if is_sound(differential.with_frequency(sheet)) else {}
 
 
+def stays_safe(verdicts):
+    """Whether no verdict after a safe one is another."""
+    return all(later == calc.SAFE for told, later in zip(verdicts, verdicts[1:]) if told == calc.SAFE)
+
+
 class Batch(unittest.TestCase):
     @classmethod
     def setUpClass(cls):
@@ -207,6 +212,23 @@ class Coverage(Batch):
             self.assertTrue(any(case.across == case.along for case in there))
             found = {(case.space, case.depth) for case in there}
             self.assertLessEqual(set(product((2500, 30000), (250, 2500))), found)
+
+    def test_less_current_leaves_a_safe_yard_safe(self):
+        """Request (n): each station's seasons have less and less fault current, all else equal."""
+        cases = differential.cases_of_less_current(differential.BATCH_SEED)
+        verdicts = [row[2] for row in self.rows[self.wanted.index(cases)]]
+        seasons = [verdicts[at : at + differential.SEASONS]
+                   for at in range(0, len(verdicts), differential.SEASONS)]
+        self.assertEqual([], [told for told in seasons if not stays_safe(told)])
+        first = [told[0] for told in seasons]
+        self.assertGreaterEqual(min(first.count(calc.SAFE), first.count(calc.UNSAFE)), LEAST_OF_EACH)
+        self.assertIn(calc.SAFE, {told[1] for told in seasons if told[0] != calc.SAFE})
+
+    def test_a_yard_that_turns_red_is_told(self):
+        safe, unsafe, undecided = calc.SAFE, calc.UNSAFE, calc.UNDECIDED
+        self.assertTrue(stays_safe([unsafe, undecided, safe, safe]))
+        for told in ([safe, unsafe, safe, safe], [unsafe, safe, undecided, safe], [safe, safe, safe, unsafe]):
+            self.assertFalse(stays_safe(told))
 
     def test_one_sheet_is_of_the_pairs_of_counts(self):
         share = differential.cases_of_pairs(differential.BATCH_SEED)[:: differential.PAIRS_EVERY]

@@ -4,3 +4,4 @@ pub mod Check
 pub mod Bounds
 pub mod Parts
 pub mod Examples
+pub mod Fault

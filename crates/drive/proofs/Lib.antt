@@ -1,3 +1,4 @@
 pub mod Spans
 pub mod Reference
 pub mod Enclosed
+pub mod LessFault

@@ -16,3 +16,4 @@ pub mod Fits
 pub mod SpanFits
 pub mod Negated
 pub mod Relatives
+pub mod Below

@@ -6,3 +6,4 @@ pub mod DrivenWidths
 pub mod Widths
 pub mod FactorEnclosed
 pub mod Enclosed
+pub mod LessFault

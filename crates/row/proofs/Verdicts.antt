@@ -20,7 +20,7 @@ use Rattle.row.specs.Verdict.{safe, unsafe, verdict}
 
 -- ---- the tests that led to a verdict
 
-safe-tested : (s u : Bool) → cond s Safe (cond u Unsafe Undecided) ≡ Safe → T s
+pub safe-tested : (s u : Bool) → cond s Safe (cond u Unsafe Undecided) ≡ Safe → T s
 safe-tested true u e = tt
 safe-tested false true e = let z : _≡_ {A = ℕ} 0 1 = cc in absurd (omega arith)
 safe-tested false false e = let z : _≡_ {A = ℕ} 0 1 = cc in absurd (omega arith)

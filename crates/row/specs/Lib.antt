@@ -1,4 +1,5 @@
 pub mod Verdict
 pub mod Row
 pub mod Ends
+pub mod LessFault
 pub mod Examples

@@ -42,7 +42,7 @@ next-of n ls x rs q =
     let d : getD ls n [] ∷ drop (suc n) ls ≡ x ∷ rs = sym (drop-cons ls n [] m) ∙ q in
     record { within = m; is = cc; after = rw add-one (cc) }
 
-case-at : (at : List ℕ) (ls : List (List ℕ)) (n : ℕ) → n < length ls
+pub case-at : (at : List ℕ) (ls : List (List ℕ)) (n : ℕ) → n < length ls
     → getD (map (λ line. lineCase at (fieldsOf line)) ls) n (caseOf []) ≡ lineCase at (fieldsOf (getD ls n []))
 case-at at [] n h = absurd (omega arith)
 case-at at (l ∷ ls) zero h = refl

@@ -4,3 +4,4 @@ pub mod Ratios
 pub mod FactorEnclosed
 pub mod Enclosed
 pub mod Widths
+pub mod LessFault

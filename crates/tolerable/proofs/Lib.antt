@@ -3,3 +3,4 @@ pub mod Surface
 pub mod Spans
 pub mod Widths
 pub mod Enclosed
+pub mod LessFault
