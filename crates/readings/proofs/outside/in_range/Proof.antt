@@ -1,0 +1,17 @@
+-- `in_range` tests both ends of the range.
+-- Assumes nothing.
+use borrow.Author.Tests.{le-leb, lt-leb}
+use Rattle.readings.specs.Limits.{inRange}
+use Rattle.readings.proofs.outside.in_range.Statement.{statement}
+use Rattle.readings.proofs.outside.in_range.Tie as tie
+
+returns : tie.Need-returns
+unfolding inRange
+returns c = rw (le-leb _ _ (c .before .if1 .taken))
+
+returns-2 : tie.Need-returns-2
+unfolding inRange
+returns-2 c = rw (lt-leb _ _ (c .if1 .left))
+
+pub in-range-spec : {M : Type 1} → statement M
+in-range-spec = tie.close (tie.spec returns returns-2)

@@ -1,0 +1,9 @@
+pub mod Reading
+pub mod Limits
+pub mod Taken
+pub mod Resistivity
+pub mod Refusal
+pub mod Report
+pub mod Ends
+pub mod Answer
+pub mod Examples

@@ -1,0 +1,34 @@
+-- What a report is. Document 02 (g): "The report gives the ends of the least, the greatest and the mean over all pairs in micro-ohm metres, at
+-- most 1/1,000,000 of the lower end plus 2 apart, and the upper mean rounded up to whole ohm metres for the soil column."
+-- Assumes nothing.
+use Prim.Native.Nat.{ℕ}
+use mathlib.Core.Path.{_≡_}
+use mathlib.Core.List.{List}
+use lib.IntN.{natAbs}
+use Rattle.interval.specs.declared.Interval.{Interval}
+use Rattle.interval.specs.Whole.{ceilDiv}
+use Rattle.exact.specs.Fraction.{Fraction, decimal, _+f_, _·f_}
+use Rattle.exact.specs.Ends.{Ends}
+use Rattle.exact.specs.Reported.{Scale, ten, Reports}
+use Rattle.readings.specs.declared.Report.{Report}
+use Rattle.readings.specs.Reading.{Reading}
+use Rattle.readings.specs.Resistivity as Resistivity
+
+-- micro-ohm metres
+unfoldable pub μΩm : Scale
+μΩm = ten 6
+
+-- "at most 1/1,000,000 of the lower end plus 2 apart"
+unfoldable pub width : Ends → Fraction
+width A = decimal 1 6 ·f A .lower +f decimal 2 6
+
+-- "the upper mean rounded up to whole ohm metres"
+unfoldable pub soilOf : Interval → ℕ
+soilOf mean = ceilDiv (natAbs (mean .upper)) (μΩm .count)
+
+-- "A mean outside that column's range is still reported": nothing is asked of the soil but this
+pub record RightReport (ps : List Reading) (r : Report) : Type 0 where
+  pub least : Reports (Resistivity.least ps) μΩm width (r .least)
+  pub greatest : Reports (Resistivity.greatest ps) μΩm width (r .greatest)
+  pub mean : Reports (Resistivity.mean ps) μΩm width (r .mean)
+  pub soil : r .soil ≡ soilOf (r .mean)
