@@ -16,6 +16,8 @@ pub use row::Row;
 pub use row::Verdict;
 pub use sheet::Answer;
 pub use sheet::sheet;
+pub use staged::SplitAnswer;
+pub use staged::split;
 
 // A number that the rules settle, or a refusal with number, line and column.
 pub enum Number {
