@@ -13,11 +13,12 @@ from itertools import product
 from pathlib import Path
 
 import calculator as calc
+import fewest
 from calculator import Case
 from differential import FREQUENCIES, case_at_limit, clear_time, random_case, span_of
 
 FILE = Path(__file__).parents[1] / "crates" / "asked" / "stdin"
-MOST_BYTES = 262144  # what the program reads
+MOST_BYTES = 524288  # what the program reads
 SEED, RANDOM_RECORDS = 1, 50
 
 RECORD_KINDS = ("factor", "size", "tolerable", "resistance", "row")
@@ -302,6 +303,10 @@ def earlier_records(case):
         yield [number for name, number in zip(calc.NAMES, case) if name not in ("hz", *dropped)]
 
 
+def searches():
+    yield from (fewest.line(*question) for question in fewest.questions(YARD))
+
+
 def no_questions():
     """Lines that are broken: a kind that is none, too few or too many numbers, no number."""
     sound = line("factor", YARD)
@@ -317,7 +322,7 @@ def no_questions():
 def questions():
     """All of them, each once, in a fixed order."""
     series = (factors, sizes, tolerable, worked, clocks, resistances, counts, edges, broken,
-              random_records, logarithms, no_questions)
+              random_records, logarithms, searches, no_questions)
     return list(dict.fromkeys(question for make in series for question in make()))
 
 

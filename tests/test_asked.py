@@ -10,6 +10,7 @@ from fractions import Fraction
 from itertools import combinations, permutations, product
 
 import calculator as calc
+import fewest
 import questions
 from calculator import Case, Refusal
 from printed import lines_of, read_asked, whole
@@ -133,6 +134,8 @@ class Asked(unittest.TestCase):
         cls.questions = defaultdict(dict)  # by kind: what is asked, and its answer
         cls.broken = {}  # a line that is no question, and what it is answered
         for line, printed in zip(cls.lines, cls.printed):
+            if line.startswith(fewest.KIND + ","):
+                continue  # judged by test_fewest.py
             question, answer = read_question(line), printed[len(line) + 1 :]
             if question:
                 kind, asked = question

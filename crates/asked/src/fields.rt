@@ -9,10 +9,13 @@ enum Field {
     Value(u64),
 }
 
+// The most numbers of a question: a record and a side.
+pub const MOST: usize = NAMES + 1;
+
 // The first count numbers of v.
 pub struct Numbers {
     pub count: usize,
-    pub v: [u64; NAMES],
+    pub v: [u64; MOST],
 }
 
 // The number with one digit more after n, which a u64 may not hold.
@@ -53,11 +56,11 @@ fn number(s: &[u8]) -> Field {
 
 // The numbers of all fields; none where a field is no number, or where there are too many.
 pub fn read(s: &[u8]) -> Numbers {
-    let mut v = [0u64; NAMES];
+    let mut v = [0u64; MOST];
     let mut rest = s;
     let mut c: usize = 0;
     loop {
-        if NAMES <= c {
+        if MOST <= c {
             return Numbers { count: 0, v };
         }
         let e = find(rest, 44);
@@ -76,12 +79,12 @@ pub fn read(s: &[u8]) -> Numbers {
 }
 
 // n, or the largest number that a record holds, which is out of every range too.
-fn held(n: u64) -> u32 {
+pub fn held(n: u64) -> u32 {
     if 4294967295 < n { 4294967295 } else { n as u32 }
 }
 
 // The numbers as a record holds them.
-pub fn record(v: [u64; NAMES]) -> [u32; NAMES] {
+pub fn record(v: [u64; MOST]) -> [u32; NAMES] {
     let mut r = [0u32; NAMES];
     let mut i: usize = 0;
     while i < NAMES {

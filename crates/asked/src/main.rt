@@ -9,7 +9,7 @@ use question::ask;
 use text::find;
 use text::skip;
 
-const BYTES: usize = 262144;
+const BYTES: usize = 524288;
 
 // Every line of s.
 fn lines(s: &[u8]) {

@@ -4,7 +4,9 @@ use crate::answer::numbers;
 use crate::answer::settled;
 use crate::answer::unknown;
 use crate::answer::voltages;
+use crate::fields::MOST;
 use crate::fields::Numbers;
+use crate::fields::held;
 use crate::fields::read;
 use crate::fields::record;
 use case::NAMES;
@@ -41,11 +43,22 @@ fn on_two(kind: &[u8], p: u64, q: u64) {
     }
 }
 
+// A question on a record and a side.
+fn on_side(kind: &[u8], c: Case, side: u32) {
+    if same(kind, b"fewest") {
+        listing::fewest(hocsimbur::fewest_lines(c, side));
+    } else {
+        unknown();
+    }
+}
+
 fn answer(kind: &[u8], n: Numbers) {
     let count = n.count;
     let v = n.v;
     if count == NAMES {
         on_record(kind, case_of(record(v)));
+    } else if count == MOST {
+        on_side(kind, case_of(record(v)), held(v[NAMES]));
     } else if count == 2 {
         on_two(kind, v[0], v[1]);
     } else {

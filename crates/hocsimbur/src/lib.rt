@@ -18,6 +18,8 @@ pub use sheet::Answer;
 pub use sheet::sheet;
 pub use staged::SplitAnswer;
 pub use staged::split;
+pub use yards::FewestLines;
+pub use yards::fewest_lines;
 
 // A number that the rules settle, or a refusal with number, line and column.
 pub enum Number {

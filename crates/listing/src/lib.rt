@@ -1,5 +1,6 @@
-// The answer to a sheet as text: a line of names and a line for each row, or the refusal.
+// The answer to a sheet as text: a line of names and a line for each row, or the refusal; and the answer of a search.
 mod rows;
+mod search;
 mod verdicts;
 
 use judgement::BYTES;
@@ -10,6 +11,7 @@ ghost use Prim.Native.Nat.{_≤_, _*_};
 ghost use lib.ListN.{length};
 ghost use Rattle.row.specs.Row.{rowLength};
 pub use rows::numbers;
+pub use search::fewest;
 
 // A row for each of the most value lines.
 pub const TABLE: usize = LINES * ROW_LENGTH;

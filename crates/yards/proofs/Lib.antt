@@ -1,0 +1,4 @@
+pub mod Trying
+pub mod Sound
+pub mod Place
+pub mod Found

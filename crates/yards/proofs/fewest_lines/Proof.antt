@@ -1,0 +1,40 @@
+-- `fewest_lines` follows the checks of the case, then those of the side.
+-- Assumes nothing.
+use mathlib.Core.Path.{_≡_, sym, ap, _∙_}
+use Rattle.case.specs.Check.{recordJudged, recordAnswer}
+use Rattle.yards.specs.Yards.{trial}
+use Rattle.yards.specs.Fewest.{answer}
+use borrow.Author.Needs.{needs}
+use Rattle.yards.proofs.fewest_lines.Statement.{statement}
+use Rattle.yards.proofs.fewest_lines.Tie as tie
+
+trial-requires : tie.Need-trial-requires
+trial-requires c κs = search needs
+
+judge-requires : tie.Need-judge-requires
+judge-requires c κs = search needs
+
+-- what the match goes by
+judged : (c : tie.After-judge) → c .judge .result ≡ recordJudged (trial (c .before .before .args .c))
+judged c = c .judge .ensures ∙ ap recordJudged (c .before .trial .ensures)
+
+enum-told : tie.Need-enum-told
+enum-told c = search needs
+
+side-answer-requires : tie.Need-side-answer-requires
+side-answer-requires c κs = sym (judged (c .before .before)) ∙ c .enum-told .given .1
+
+enum-known-number : tie.Need-enum-known-number
+enum-known-number c = search needs
+
+returns : tie.Need-returns
+unfolding answer recordAnswer
+returns c = c .side-answer .ensures ∙ rw (sym (judged (c .before .before .before)) ∙ c .before .enum-told .given .1)
+
+returns-2 : tie.Need-returns-2
+unfolding answer recordAnswer
+returns-2 c = rw (sym (judged (c .before .before .before)) ∙ c .before .number .given .1)
+
+pub fewest-lines-spec : {M : Type 1} → statement M
+fewest-lines-spec =
+    tie.close (tie.spec trial-requires judge-requires enum-told side-answer-requires enum-known-number returns returns-2)

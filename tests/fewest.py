@@ -1,0 +1,190 @@
+"""The fewest lines for a given side, after request (k) of document 02, beside the program `asked`.
+
+    rt check asked rows && python3 tests/fewest.py [--seed S] [--count N] [--programs target/bin]
+
+The list of yards and the refusals are written from the document; the verdict of each yard is that of the
+program `rows`, or, for the stored questions, one that every right program gives.
+"""
+
+import argparse
+import random
+import subprocess
+from fractions import Fraction
+from pathlib import Path
+
+import calculator as calc
+import differential
+from calculator import Refusal
+from printed import lines_of
+
+KIND = "fewest"
+LINES = range(2, 26)  # "line counts 2 to 25 rising"
+RODS = range(0, 41, 4)  # "0, 4, 8 up to 40 rods"
+SIDES = (2500, 720000)
+MOST_YARDS = 264
+UNREAD = ("across", "along", "space", "rods", "place")
+CLEAR_OF = Fraction(1, 1000)  # how far a voltage is from its limit for every right program to tell
+DEPTH = 6
+SEED = 1
+
+
+def fits(name, value):
+    return any(low <= value <= high for low, high in dict(calc.COLUMNS)[name])
+
+
+def yards(case, side):
+    """The yards in the order in which they are tried."""
+    for lines in LINES:
+        space, rest = divmod(side, lines - 1)
+        if rest or not fits("space", space):
+            continue
+        for rods in RODS:
+            yield case._replace(across=lines, along=lines, space=space, rods=rods,
+                                rodlen=case.rodlen if rods else 0, place=1 if rods else 0)
+
+
+def refusal(case, side):
+    """Document 01's checks for one case, of what is read; then 15 and 16."""
+    for column, (name, value) in enumerate(zip(calc.NAMES, case), start=1):
+        if name not in UNREAD and not fits(name, value):
+            return Refusal(5, 0, column)
+    if (case.layer == 0) != (case.thick == 0):
+        return Refusal(6, 0, 1 + calc.NAMES.index("layer"))
+    if not SIDES[0] <= side <= SIDES[1]:
+        return Refusal(15, 0, 0)
+    return Refusal(16, 0, 0) if case.rodlen == 0 else None
+
+
+def answer(case, side, is_safe):
+    """What is answered where is_safe tells of each yard."""
+    wrong = refusal(case, side)
+    if wrong:
+        return wrong
+    tried = 0
+    for yard in yards(case, side):
+        tried += 1
+        if is_safe(yard):
+            return "found", yard.across, yard.rods, tried
+    return "none", tried
+
+
+def told_by_all(case):
+    """Whether every right program answers a yard safe; nothing where they may differ."""
+    ends = calc.exact_ends(case, DEPTH)
+    shares = (ends.mesh.upper / ends.tolerable_touch.lower, ends.step.upper / ends.tolerable_step.lower)
+    if max(shares) < 1 - CLEAR_OF:
+        return True
+    return False if max(shares) > 1 + CLEAR_OF or differential.undecided_for_all(case) else None
+
+
+class Unsure(Exception):
+    """A yard of which right programs may differ."""
+
+
+def sure(case):
+    told = told_by_all(case)
+    if told is None:
+        raise Unsure(case)
+    return told
+
+
+def read_answer(text):
+    fields = text.split(",")
+    if fields[0] == "refused":
+        return Refusal(*map(int, fields[1:]))
+    return (fields[0], *map(int, fields[1:]))
+
+
+def line(case, side):
+    return ",".join(map(str, (KIND, *case, side)))
+
+
+# --------------------------------------------------------------------------
+# Questions.
+# --------------------------------------------------------------------------
+
+def random_question(rng):
+    """A sound case whose unread values are anything, and a side that many counts divide."""
+    case = differential.random_case(rng)._replace(rodlen=rng.choice((1000, 2500, 7500, 10000)))
+    case = case._replace(fault=rng.choice((100, 1000, 3180, 10000, 40000)), split=rng.choice((50, 300, 600, 1000)))
+    case = case._replace(**{name: rng.choice((0, 1, 5, 999999)) for name in UNREAD})
+    side = rng.choice((2500, 5000, 7500, 27720, 30000, 55440, 60000, 70000, 83160, 166320, 720000,
+                       rng.randint(*SIDES), 12 * rng.randint(1000, 30000)))
+    return case, side
+
+
+def stored(count=60):
+    """Sound questions of which every right program answers the same."""
+    rng, questions = random.Random(SEED), []
+    while len(questions) < count:
+        question = random_question(rng)
+        try:
+            answer(*question, sure)
+        except Unsure:
+            continue
+        questions.append(question)
+    return questions
+
+
+def refused(case):
+    """Questions that are refused, alone and together, and unread values that are not."""
+    for name, spans in calc.COLUMNS:
+        for value in {spans[0][0] - 1, spans[-1][1] + 1, 2**32 - 1} - {-1}:
+            yield case._replace(**{name: value}), 70000
+    for side in (0, SIDES[0] - 1, SIDES[1] + 1, 2**32 - 1, 2**32):
+        yield case, side
+        yield case._replace(rodlen=0), side
+    yield case._replace(rodlen=0), 70000
+    yield case._replace(rodlen=999), 1
+    yield case._replace(rodlen=0, rods=7, place=2), 70000
+    yield case._replace(layer=0), 70000
+    yield case._replace(thick=0, rodlen=0), 1
+    yield case._replace(station=0, layer=0), 70000
+
+
+def questions(case):
+    """Each once, with a case that is sound and whose yards every right program tells."""
+    return list(dict.fromkeys((*stored(), *refused(case))))
+
+
+# --------------------------------------------------------------------------
+# Beside the programs.
+# --------------------------------------------------------------------------
+
+def asked(program, some):
+    text = "".join(line(*question) + "\n" for question in some)
+    printed = subprocess.run([program], input=text.encode("ascii"), stdout=subprocess.PIPE, check=True).stdout
+    return [read_answer(out[len(line(*question)) + 1 :])
+            for question, out in zip(some, lines_of(printed.decode("ascii")))]
+
+
+def by_rows(program, case, side):
+    """The answer with the verdicts of the program's own rows."""
+    if refusal(case, side):
+        return answer(case, side, None)
+    some = [yard._replace(station=place) for place, yard in enumerate(yards(case, side), start=1)]
+    verdicts = {}
+    for cases, rows in differential.rows_of(program, some):
+        verdicts.update({yard[2:]: row[2] == calc.SAFE for yard, row in zip(cases, rows)})
+    return answer(case, side, lambda yard: verdicts[yard[2:]])
+
+
+def main():
+    parser = argparse.ArgumentParser(description=__doc__.split("\n")[0])
+    parser.add_argument("--seed", type=int, default=1)
+    parser.add_argument("--count", type=int, default=300)
+    parser.add_argument("--programs", type=Path, default=Path("target/bin"))
+    options = parser.parse_args()
+    rng = random.Random(options.seed)
+    some = [random_question(rng) for _ in range(options.count)]
+    told = asked(options.programs / "asked", some)
+    wrong = [(question, got) for question, got in zip(some, told)
+             if got != by_rows(options.programs / "rows", *question)]
+    found = sum(got[0] == "found" for got in told)
+    print(f"{len(some)} searches, {found} found, most tried {max(got[-1] for got in told)}; {len(wrong)} differ")
+    for question, got in wrong[:5]:
+        print(*question, got)
+
+
+if __name__ == "__main__":
+    main()
