@@ -1,4 +1,6 @@
 // The numbers of a line.
+use numerals::Digits;
+use numerals::numeral;
 use text::find;
 
 // The most numbers of a line: more than a list may have.
@@ -17,36 +19,16 @@ pub struct Numbers {
     pub v: [u32; MOST],
 }
 
-// The number with one digit more after n, where 32 bits hold it.
-fn with_digit(n: u32, b: u8) -> Field {
-    if b < 48 {
-        return Field::Wrong;
-    }
-    if 57 < b {
-        return Field::Wrong;
-    }
-    let more = (n as u64) * 10 + ((b - 48) as u64);
-    if 4294967295 < more {
-        return Field::Wrong;
-    }
-    Field::Value(more as u32)
-}
-
+// The number that a field is, where 32 bits hold it.
 fn number(s: &[u8]) -> Field {
-    if s.len() == 0 {
+    let f = numeral(s);
+    let Digits::Value(n) = f else {
+        return Field::Wrong;
+    };
+    if 4294967295 < n {
         return Field::Wrong;
     }
-    let mut n: u32 = 0;
-    let mut i: usize = 0;
-    while i < s.len() {
-        let f = with_digit(n, s[i]);
-        let Field::Value(m) = f else {
-            return Field::Wrong;
-        };
-        n = m;
-        i += 1;
-    }
-    Field::Value(n)
+    Field::Value(n as u32)
 }
 
 // No list of numbers.

@@ -1,4 +1,6 @@
 // The numbers of a staged test, from the fields of its line.
+use numerals::Digits;
+use numerals::numeral;
 use text::find;
 
 // How many numbers a line may have here: more than a test may.
@@ -13,47 +15,11 @@ enum Field {
     Value(i64),
 }
 
-enum Digits {
-    Wrong,
-    Value(u64),
-}
-
 // The first count numbers of v, where every field is a number.
 pub struct Numbers {
     pub known: bool,
     pub count: usize,
     pub v: [i64; ROOM],
-}
-
-// The number with one digit more after n.
-fn with_digit(n: u64, b: u8) -> Digits {
-    if b < 48 {
-        return Digits::Wrong;
-    }
-    if 57 < b {
-        return Digits::Wrong;
-    }
-    if LIMIT <= n {
-        return Digits::Wrong;
-    }
-    Digits::Value(n * 10 + (b - 48) as u64)
-}
-
-fn value_of(s: &[u8]) -> Digits {
-    if s.len() == 0 {
-        return Digits::Wrong;
-    }
-    let mut n: u64 = 0;
-    let mut i: usize = 0;
-    while i < s.len() {
-        let f = with_digit(n, s[i]);
-        let Digits::Value(m) = f else {
-            return Digits::Wrong;
-        };
-        n = m;
-        i += 1;
-    }
-    Digits::Value(n)
 }
 
 // Digits after a minus sign, or without one.
@@ -62,10 +28,10 @@ fn number(s: &[u8]) -> Field {
         return Field::Wrong;
     }
     if s[0] == 45 {
-        let f = value_of(&s[1..]);
+        let f = numeral(&s[1..]);
         return below_zero(f);
     }
-    let f = value_of(s);
+    let f = numeral(s);
     above_zero(f)
 }
 

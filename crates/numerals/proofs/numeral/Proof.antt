@@ -1,10 +1,10 @@
--- `asked::fields::number` is safe and ends: the measure is what is left of the digits.
+-- `numeral` is safe and ends: the measure is what is left of the digits.
 -- Assumes nothing.
 use Prim.Native.Nat.{_-_}
 use borrow.Author.Needs.{needs}
 use lib.ListN.{length}
-use Rattle.asked.proofs.fields.number.Statement.{statement}
-use Rattle.asked.proofs.fields.number.Tie as tie
+use Rattle.numerals.proofs.numeral.Statement.{statement}
+use Rattle.numerals.proofs.numeral.Tie as tie
 
 abbrev Inv-loop : tie.InvT-loop
 Inv-loop s n₀ i₀ n i = Unit
@@ -45,8 +45,8 @@ loop-again c = search needs
 returns-3 : tie.Need-returns-3 Inv-loop μ-loop
 returns-3 c = search needs
 
-pub number-spec : {M : Type 1} → statement M
-number-spec =
+pub numeral-spec : {M : Type 1} → statement M
+numeral-spec =
     tie.close
     (tie.spec
     Inv-loop

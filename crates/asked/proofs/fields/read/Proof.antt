@@ -23,11 +23,11 @@ returns c = search needs
 find-requires : tie.Need-find-requires Inv-loop μ-loop
 find-requires c κs = search needs
 
-slice-aggregate-number : tie.Need-slice-aggregate-number Inv-loop μ-loop
-slice-aggregate-number c = part-length 44 _ _ (c .before .find .ensures)
+slice-aggregate-numeral : tie.Need-slice-aggregate-numeral Inv-loop μ-loop
+slice-aggregate-numeral c = part-length 44 _ _ (c .before .find .ensures)
 
-number-requires : tie.Need-number-requires Inv-loop μ-loop
-number-requires c κs = search needs
+numeral-requires : tie.Need-numeral-requires Inv-loop μ-loop
+numeral-requires c κs = search needs
 
 enum-known-f : tie.Need-enum-known-f Inv-loop μ-loop
 enum-known-f c = search needs
@@ -77,8 +77,8 @@ read-spec =
     loop-holds
     returns
     find-requires
-    slice-aggregate-number
-    number-requires
+    slice-aggregate-numeral
+    numeral-requires
     enum-known-f
     enum-told
     returns-2
