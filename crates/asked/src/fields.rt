@@ -1,5 +1,7 @@
 // The numbers of a question, from its fields.
+use case::Case;
 use case::NAMES;
+use case::case_of;
 use numerals::Digits;
 use numerals::numeral;
 use text::find;
@@ -43,13 +45,13 @@ pub fn held(n: u64) -> u32 {
     if 4294967295 < n { 4294967295 } else { n as u32 }
 }
 
-// The numbers as a record holds them.
-pub fn record(v: [u64; MOST]) -> [u32; NAMES] {
+// The record of the first numbers.
+pub fn record(v: [u64; MOST]) -> Case {
     let mut r = [0u32; NAMES];
     let mut i: usize = 0;
     while i < NAMES {
         r[i] = held(v[i]);
         i += 1;
     }
-    r
+    case_of(&r)
 }

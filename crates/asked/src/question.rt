@@ -10,7 +10,6 @@ use crate::fields::held;
 use crate::fields::read;
 use crate::fields::record;
 use case::NAMES;
-use case::case_of;
 use hocsimbur::Case;
 use print::bytes;
 use text::find;
@@ -56,9 +55,9 @@ fn answer(kind: &[u8], n: Numbers) {
     let count = n.count;
     let v = n.v;
     if count == NAMES {
-        on_record(kind, case_of(record(v)));
+        on_record(kind, record(v));
     } else if count == MOST {
-        on_side(kind, case_of(record(v)), held(v[NAMES]));
+        on_side(kind, record(v), held(v[NAMES]));
     } else if count == 2 {
         on_two(kind, v[0], v[1]);
     } else {

@@ -95,7 +95,7 @@ bounded c r g =
       hz = either-of 50 60 (c .hz) (at "hz");
     }
 
-pub bounds : {at : List ℕ} {c : Case} → Placed columns at → caseFinding at c ≡ Sound → Bounds c
+pub bounds : {at : List ℕ} {c : Case} → Placed (length columns) at → caseFinding at c ≡ Sound → Bounds c
 bounds {at} {c} p h =
     bounded c (in-range columns at (values c) (p .count) (some-columns at (length columns) (p .count) (p .some)) (tests at c h .ranges))
     (agreements at c (tests at c h .agrees))
@@ -119,7 +119,7 @@ count-within first zero i h = omega arith
 count-within first (suc n) zero h = omega arith
 count-within first (suc n) (suc i) h = omega (arith, count-within (suc first) n i (omega arith))
 
-own-placed : Placed columns ownPlaces
+own-placed : Placed (length columns) ownPlaces
 unfolding ownPlaces
 own-placed =
     record {

@@ -2,7 +2,9 @@ pub mod Tests
 pub mod Ranges
 pub mod Agreement
 pub mod Bounds
+pub mod Places
 pub mod RangeTable
 pub mod Leftmost
 pub mod Findings
 pub mod Values
+pub mod Order

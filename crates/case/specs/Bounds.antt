@@ -6,13 +6,12 @@ use mathlib.Core.Logic.{_⊎_}
 use mathlib.Core.List.{List}
 use lib.ListN.{length, getD}
 use Rattle.case.specs.declared.Case.{Case}
-use Rattle.case.specs.Columns.{Form}
 
--- columns that a sound header gives: one for each name of its form, each from 1 on
-pub record Placed (form : Form) (at : List ℕ) : Type 0 where
-  pub count : length at ≡ length form
-  pub some : (i : ℕ) → i < length form → 1 ≤ getD at i 0
-  pub within : (i : ℕ) → getD at i 0 ≤ length form
+-- columns that a sound header gives: one for each of n names, each from 1 to n
+pub record Placed (n : ℕ) (at : List ℕ) : Type 0 where
+  pub count : length at ≡ n
+  pub some : (i : ℕ) → i < n → 1 ≤ getD at i 0
+  pub within : (i : ℕ) → getD at i 0 ≤ n
 
 pub record Between (a x b : ℕ) : Type 0 where
   pub low : a ≤ x

@@ -31,41 +31,94 @@ Form = List Column
 abbrev column : String → Range → Column
 column name range = record { name = bytes name; range = range }
 
--- document 01's names with their ranges; request (a) of document 02: "ms gives place to shock, clear and wire in that order, each 9..3000";
--- request (c): "The column lines becomes across and along in that order, each 2..25"; request (d): "A column hz, 50 or 60, is added last"
+-- the columns, each with its range: document 01's, and those that requests (a), (c) and (d) of document 02 put in the place of ms and lines or added
+abbrev station : Column
+station = column "station" (from 1 65535)
+
+abbrev season : Column
+season = column "season" (from 1 4)
+
+abbrev soil : Column
+soil = column "soil" (from 10 5000)
+
+abbrev layer : Column
+layer = column "layer" (zeroOr 100 10000)
+
+abbrev thick : Column
+thick = column "thick" (zeroOr 20 300)
+
+-- "each 9..3000", as ms was
+abbrev time : String → Column
+time name = column name (from 9 3000)
+
+abbrev body : Column
+body = column "body" (either 50 70)
+
+abbrev fault : Column
+fault = column "fault" (from 100 80000)
+
+abbrev split : Column
+split = column "split" (from 1 1000)
+
+abbrev xr : Column
+xr = column "xr" (from 1 40)
+
+-- "each 2..25", as lines was
+abbrev conductors : String → Column
+conductors name = column name (from 2 25)
+
+abbrev space : Column
+space = column "space" (from 2500 30000)
+
+abbrev depth : Column
+depth = column "depth" (from 250 2500)
+
+abbrev dia : Column
+dia = column "dia" (from 50 300)
+
+abbrev rods : Column
+rods = column "rods" (from 0 200)
+
+abbrev rodlen : Column
+rodlen = column "rodlen" (zeroOr 1000 10000)
+
+abbrev place : Column
+place = column "place" (from 0 2)
+
+abbrev metal : Column
+metal = column "metal" (from 1 11)
+
+-- "A column hz, 50 or 60"
+abbrev hz : Column
+hz = column "hz" (either 50 60)
+
+-- document 01's own names, in its order: the former form
+unfoldable pub formerColumns : Form
+formerColumns =
+    station ∷ season ∷ soil ∷ layer ∷ thick ∷ time "ms" ∷ body ∷ fault ∷ split ∷ xr ∷ conductors "lines" ∷ space ∷ depth ∷ dia ∷ rods ∷ rodlen ∷ place
+    ∷ metal ∷ []
+
+-- the names of today; request (a) of document 02: "ms gives place to shock, clear and wire in that order"; request (c): "The column lines becomes
+-- across and along in that order"; request (d): "A column hz, 50 or 60, is added last"
 unfoldable pub columns : Form
 columns =
-    column "station" (from 1 65535)
-    ∷ column "season" (from 1 4)
-    ∷ column "soil" (from 10 5000)
-    ∷ column "layer" (zeroOr 100 10000)
-    ∷ column "thick" (zeroOr 20 300)
-    ∷ column "shock" (from 9 3000)
-    ∷ column "clear" (from 9 3000)
-    ∷ column "wire" (from 9 3000)
-    ∷ column "body" (either 50 70)
-    ∷ column "fault" (from 100 80000)
-    ∷ column "split" (from 1 1000)
-    ∷ column "xr" (from 1 40)
-    ∷ column "across" (from 2 25)
-    ∷ column "along" (from 2 25)
-    ∷ column "space" (from 2500 30000)
-    ∷ column "depth" (from 250 2500)
-    ∷ column "dia" (from 50 300)
-    ∷ column "rods" (from 0 200)
-    ∷ column "rodlen" (zeroOr 1000 10000)
-    ∷ column "place" (from 0 2)
-    ∷ column "metal" (from 1 11)
-    ∷ column "hz" (either 50 60)
-    ∷ []
+    station ∷ season ∷ soil ∷ layer ∷ thick ∷ time "shock" ∷ time "clear" ∷ time "wire" ∷ body ∷ fault ∷ split ∷ xr ∷ conductors "across"
+    ∷ conductors "along" ∷ space ∷ depth ∷ dia ∷ rods ∷ rodlen ∷ place ∷ metal ∷ hz ∷ []
 
 -- how many they are
 abbrev pub nameCount : ℕ
 nameCount = 22
 
+abbrev pub formerNameCount : ℕ
+formerNameCount = 18
+
 pub name-count : length columns ≡ nameCount
 unfolding columns
 name-count = refl
+
+pub former-name-count : length formerColumns ≡ formerNameCount
+unfolding formerColumns
+former-name-count = refl
 
 -- the index of a name in a form, from 0, or the form's length where it is none of the names
 unfoldable pub nameIndex : Form → List ℕ → ℕ

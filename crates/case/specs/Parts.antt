@@ -1,9 +1,12 @@
 -- What the parts of the checks promise, by the table of names.
 -- Assumes nothing.
-use Prim.Native.Nat.{ℕ}
+use Prim.Native.Nat.{ℕ, _+_, _≤_, _<_}
+use mathlib.Core.Path.{_≡_}
 use mathlib.Core.List.{[]}
-use lib.ListN.{getD}
-use Rattle.case.specs.Columns.{Range, from, zeroOr, either, Column, Form}
+use lib.ListN.{length, getD}
+use Rattle.case.specs.Columns.{Range, from, zeroOr, either, Column, Form, columns, nameCount, formerColumns}
+use Rattle.case.specs.declared.Form.{Form as CodeForm}
+use Rattle.case.specs.declared.Form.the-variants.{Present, Former}
 use Rattle.case.specs.declared.range.Range.{Range as CodeRange}
 use Rattle.case.specs.declared.range.Range.the-variants.{From, ZeroOr, Either}
 
@@ -20,3 +23,25 @@ noColumn = record { name = []; range = from 0 0 }
 -- the range of the name with index k
 unfoldable pub rangeAt : Form → ℕ → Range
 rangeAt form k = getD form k noColumn .range
+
+-- the table of names that the code's form stands for
+unfoldable pub formOf : CodeForm → Form
+formOf Present = columns
+formOf Former = formerColumns
+
+-- the place of rods in each form, from 0
+unfoldable pub rodsPlace : CodeForm → ℕ
+rodsPlace Present = 17
+rodsPlace Former = 14
+
+-- the name with index k of a form has the range of the name with index r of today's
+pub record SameRange (form : CodeForm) (k r : ℕ) : Type 0 where
+  pub within : r < nameCount
+  pub is : rangeAt columns r ≡ rangeAt (formOf form) k
+
+-- r is that place; rodlen and place follow it, and layer and thick stand before it
+pub record RodsPlace (form : CodeForm) (r : ℕ) : Type 0 where
+  pub is : r ≡ rodsPlace form
+  pub thick : 4 < length (formOf form)
+  pub place : r + 2 < length (formOf form)
+  pub most : length (formOf form) ≤ nameCount

@@ -3,15 +3,26 @@ mod parts;
 mod range;
 
 ghost use mathlib.Core.Path.{_≡_};
+ghost use lib.ListN.{length};
+ghost use Rattle.case.specs.Columns.{nameCount};
 ghost use Rattle.case.specs.Case.{values, caseOf};
-ghost use Rattle.case.specs.Check.{caseFinding, recordFinding, recordJudged};
+ghost use Rattle.case.specs.Check.{finding, recordFinding, recordJudged};
+ghost use Rattle.case.specs.Parts.{formOf};
 use parts::disagreement;
 use parts::out_of_range;
 
-// How many names document 01's table has.
+// The forms of a sheet: that of today, and document 01's own.
+pub enum Form {
+    Present,
+    Former,
+}
+
+// How many names the table of each form has.
 pub const NAMES: usize = 22;
 
-// The numbers of document 01's table of names, in its order and units.
+pub const FORMER_NAMES: usize = 18;
+
+// The numbers of the table of names, in its order and units.
 pub struct Case {
     pub station: u32,
     pub season: u32,
@@ -50,9 +61,20 @@ pub enum Judged {
     Refused(u32, usize, usize),
 }
 
+// How many names a form has.
+pub fn name_count(form: Form) -> usize
+    ensures { λ r. ⌜ r ≡ length (formOf form) ⌝ }
+{
+    match form {
+        Form::Present => NAMES,
+        Form::Former => FORMER_NAMES,
+    }
+}
+
 // The case of the values in the order of the names.
-pub fn case_of(v: [u32; NAMES]) -> Case
-    ensures { λ r. ⌜ r ≡ caseOf v ⌝ }
+pub fn case_of(v: &[u32]) -> Case
+    requires { ⌜ length (now v) ≡ nameCount ⌝ }
+    ensures { λ r. ⌜ r ≡ caseOf (now (v .entry)) ⌝ }
 {
     Case {
         station: v[0],
@@ -110,49 +132,52 @@ fn values_of(c: Case) -> [u32; NAMES]
     ]
 }
 
-// Refusals 5 and 6 of a case; at holds the columns of the names.
-pub fn check_case(at: [usize; NAMES], c: Case) -> Finding
-    ensures { λ r. ⌜ r ≡ caseFinding at c ⌝ }
+// Refusals 5 and 6 of the values of a form; at holds the columns of the names.
+pub fn check_values<'a>(form: Form, at: &'a [usize], v: &'a [u32]) -> Finding
+    requires { ⌜ length (now at) ≡ length (formOf form) ⌝ }
+    requires { ⌜ length (now v) ≡ length (formOf form) ⌝ }
+    ensures { λ r. ⌜ r ≡ finding (formOf form) (now (at .entry)) (now (v .entry)) ⌝ }
 {
-    let v = values_of(c);
-    let column = out_of_range(at, v);
+    let column = out_of_range(form, at, v);
     if column != 0 {
         return Finding::OutOfRange(column);
     }
-    disagreement(at, c)
+    disagreement(form, at, v)
 }
+
+// The places of the names, from 1.
+const PLACES: [usize; NAMES] = [
+    1,
+    2,
+    3,
+    4,
+    5,
+    6,
+    7,
+    8,
+    9,
+    10,
+    11,
+    12,
+    13,
+    14,
+    15,
+    16,
+    17,
+    18,
+    19,
+    20,
+    21,
+    22,
+];
 
 // Refusals 5 and 6 of a record, whose columns are the places of the names.
 fn check(c: Case) -> Finding
     ensures { λ r. ⌜ r ≡ recordFinding c ⌝ }
 {
-    check_case(
-        [
-            1,
-            2,
-            3,
-            4,
-            5,
-            6,
-            7,
-            8,
-            9,
-            10,
-            11,
-            12,
-            13,
-            14,
-            15,
-            16,
-            17,
-            18,
-            19,
-            20,
-            21,
-            22,
-        ],
-        c,
-    )
+    let at = PLACES;
+    let v = values_of(c);
+    check_values(Form::Present, &at, &v)
 }
 
 // The refusal of a record, if its checks find a fault.

@@ -1,20 +1,29 @@
-// The checks of a case: ranges, and which values must agree.
+// The checks of the values of a form: ranges, and which values must agree.
 ghost use mathlib.Core.Path.{_≡_};
 ghost use mathlib.Core.Bool.{cond};
 ghost use Prim.Native.Nat.{_<_};
-ghost use Rattle.case.specs.Columns.{columns, nameCount, inRange};
-ghost use Rattle.case.specs.Case.{values};
+ghost use lib.ListN.{length};
+ghost use Rattle.case.specs.Columns.{inRange};
 ghost use Rattle.case.specs.Check.{leftOf, outOfRange, agree as agreeing, disagreement as disagreeing};
-ghost use Rattle.case.specs.Parts.{rangeAt};
-use crate::Case;
+ghost use Rattle.case.specs.Parts.{rangeAt, formOf, RodsPlace};
 use crate::Finding;
-use crate::NAMES;
+use crate::Form;
 use crate::range::in_range;
 
-// The places of layer and rods among the names.
+// The places of layer and thick among the names of either form, from 0.
 const LAYER: usize = 3;
 
-const RODS: usize = 17;
+const THICK: usize = 4;
+
+// The place of rods; rodlen and place follow it.
+fn rods_place(form: Form) -> usize
+    ensures { λ r. ⌜ RodsPlace form r ⌝ }
+{
+    match form {
+        Form::Present => 17,
+        Form::Former => 14,
+    }
+}
 
 // The lesser of two columns, where 0 is none.
 fn left_of(a: usize, c: usize) -> usize
@@ -30,25 +39,27 @@ fn left_of(a: usize, c: usize) -> usize
 }
 
 // The leftmost column at fault from name k on: a is its column, v its value, c the leftmost after it.
-fn worse(k: usize, v: u32, a: usize, c: usize) -> usize
-    requires { ⌜ k < nameCount ⌝ }
-    ensures { λ r. ⌜ r ≡ cond (inRange (rangeAt columns k) v) c (leftOf a c) ⌝ }
+fn worse(form: Form, k: usize, v: u32, a: usize, c: usize) -> usize
+    requires { ⌜ k < length (formOf form) ⌝ }
+    ensures { λ r. ⌜ r ≡ cond (inRange (rangeAt (formOf form) k) v) c (leftOf a c) ⌝ }
 {
-    if in_range(k, v) {
+    if in_range(form, k, v) {
         return c;
     }
     left_of(a, c)
 }
 
 // The leftmost column whose value is out of its range, or 0.
-pub fn out_of_range(at: [usize; NAMES], v: [u32; NAMES]) -> usize
-    ensures { λ r. ⌜ r ≡ outOfRange columns at v ⌝ }
+pub fn out_of_range<'a>(form: Form, at: &'a [usize], v: &'a [u32]) -> usize
+    requires { ⌜ length (now at) ≡ length (formOf form) ⌝ }
+    requires { ⌜ length (now v) ≡ length (formOf form) ⌝ }
+    ensures { λ r. ⌜ r ≡ outOfRange (formOf form) (now (at .entry)) (now (v .entry)) ⌝ }
 {
     let mut c: usize = 0;
-    let mut k: usize = NAMES;
+    let mut k: usize = v.len();
     while 0 < k {
         k -= 1;
-        c = worse(k, v[k], at[k], c);
+        c = worse(form, k, v[k], at[k], c);
     }
     c
 }
@@ -61,17 +72,25 @@ fn agree(a: u32, b: u32) -> bool
 }
 
 // Layer and thick agree, then rods, rodlen and place.
-pub fn disagreement(at: [usize; NAMES], c: Case) -> Finding
-    ensures { λ r. ⌜ r ≡ disagreeing columns at (values c) ⌝ }
+pub fn disagreement<'a>(form: Form, at: &'a [usize], v: &'a [u32]) -> Finding
+    requires { ⌜ length (now at) ≡ length (formOf form) ⌝ }
+    requires { ⌜ length (now v) ≡ length (formOf form) ⌝ }
+    ensures { λ r. ⌜ r ≡ disagreeing (formOf form) (now (at .entry)) (now (v .entry)) ⌝ }
 {
-    if !agree(c.layer, c.thick) {
+    let r = rods_place(form);
+    let layer = v[LAYER];
+    let thick = v[THICK];
+    let rods = v[r];
+    let rodlen = v[r + 1];
+    let place = v[r + 2];
+    if !agree(layer, thick) {
         return Finding::Disagreement(at[LAYER]);
     }
-    if !agree(c.rods, c.rodlen) {
-        return Finding::Disagreement(at[RODS]);
+    if !agree(rods, rodlen) {
+        return Finding::Disagreement(at[r]);
     }
-    if agree(c.rods, c.place) {
+    if agree(rods, place) {
         return Finding::Sound;
     }
-    Finding::Disagreement(at[RODS])
+    Finding::Disagreement(at[r])
 }

@@ -2,7 +2,10 @@
 ghost use mathlib.Core.Path.{_≡_};
 ghost use Prim.Native.Nat.{_<_};
 ghost use Rattle.case.specs.Columns.{columns, nameCount, inRange};
-ghost use Rattle.case.specs.Parts.{rangeOf, rangeAt};
+ghost use lib.ListN.{length};
+ghost use Rattle.case.specs.Parts.{rangeOf, rangeAt, formOf, SameRange};
+use crate::FORMER_NAMES;
+use crate::Form;
 use crate::NAMES;
 
 // The three kinds of range: "1..4", "0 or 20..300", "50 or 70".
@@ -56,10 +59,43 @@ fn within(r: Range, v: u32) -> bool
     }
 }
 
-// Whether v is in the range of the name with index k.
-pub fn in_range(k: usize, v: u32) -> bool
-    requires { ⌜ k < nameCount ⌝ }
-    ensures { λ b. ⌜ b ≡ inRange (rangeAt columns k) v ⌝ }
+// The places in the table of the former form's names: ms has the range of shock, lines that of across.
+const FORMER: [usize; FORMER_NAMES] = [
+    0,
+    1,
+    2,
+    3,
+    4,
+    5,
+    8,
+    9,
+    10,
+    11,
+    12,
+    14,
+    15,
+    16,
+    17,
+    18,
+    19,
+    20,
+];
+
+// The place in the table of the name with index k of a form.
+fn place(form: Form, k: usize) -> usize
+    requires { ⌜ k < length (formOf form) ⌝ }
+    ensures { λ r. ⌜ SameRange form k r ⌝ }
 {
-    within(entry(k), v)
+    match form {
+        Form::Present => k,
+        Form::Former => FORMER[k],
+    }
+}
+
+// Whether v is in the range of the name with index k of a form.
+pub fn in_range(form: Form, k: usize, v: u32) -> bool
+    requires { ⌜ k < length (formOf form) ⌝ }
+    ensures { λ b. ⌜ b ≡ inRange (rangeAt (formOf form) k) v ⌝ }
+{
+    within(entry(place(form, k)), v)
 }

@@ -33,7 +33,7 @@ fresh-name form at t c r h = go (ltb (nameIndex form t) (length form)) refl (eqb
     go false e q f z = absurd (omega arith)
 
 placed-from : (form : Form) (all fs : List (List ℕ)) (at : List ℕ) (c : ℕ) → HeaderAt form all at fs c → wrongName form c at fs ≡ 0
-    → Placed form (columnsFrom form c at fs)
+    → Placed (length form) (columnsFrom form c at fs)
 unfolding wrongName columnsFrom
 placed-from form all [] at c a e = header-placed a (past (leb c (length form)) refl e)
   where
@@ -45,6 +45,6 @@ placed-from form all (t ∷ fs) at c a e =
     rw (← add-one c)
     (placed-from form all fs (set at (nameIndex form t) c) (c + 1) (header-step a refl (q .found) (q .first)) (rw (add-one c) (q .then)))
 
-pub header-accepted : (form : Form) (all : List (List ℕ)) → wrongName form 1 (noColumns form) all ≡ 0 → Placed form (columnsOf form all)
+pub header-accepted : (form : Form) (all : List (List ℕ)) → wrongName form 1 (noColumns form) all ≡ 0 → Placed (length form) (columnsOf form all)
 unfolding columnsOf
 header-accepted form all e = placed-from form all all (noColumns form) 1 (header-start form all) e

@@ -1,33 +1,54 @@
 -- The table of names as the code has it: each place spells the bytes of the name there, and their number.
 -- Assumes nothing.
-use Prim.Native.Nat.{ℕ, zero, suc, _-_, _<_}
-use mathlib.Core.List.{List, [], _∷_, _++_}
+use Prim.Native.Nat.{ℕ, zero, suc, _+_, _-_, _<_}
+use mathlib.Core.Path.{_≡_, refl}
+use mathlib.Core.List.{List, [], _∷_, _++_, map}
 use native.Mathlib.Omega.{arith}
 use lib.ListN.{length, getD, replicate, length-append}
 use lib.Seq.{take-append-seam}
-use Rattle.case.specs.Columns.{Form, columns, nameCount, name-count}
-use Rattle.case.specs.Parts.{noColumn}
+use Rattle.case.specs.Columns.{Form, columns, nameCount, name-count, formerColumns}
+use Rattle.case.specs.Parts.{noColumn, formOf}
+use Rattle.case.specs.declared.Form.the-variants.{Present, Former}
+use Rattle.case.proofs.Places.{allBelow, place-at}
 use Rattle.header.specs.declared.names.Name.{Name}
-use Rattle.header.specs.Parts.{Spells, nameAt}
+use Rattle.header.specs.Parts.{Spells, nameAt, allNames, spelledCount, spelled, SameName}
 
 -- a name, filled up with spaces to seven bytes
 unfoldable pub inCode : List ℕ → Name
 inCode t = (t ++ replicate (7 - length t) 32, length t)
 
-abbrev pub tableOf : Form → List Name
-tableOf [] = []
-tableOf (c ∷ cs) = inCode (c .name) ∷ tableOf cs
-
 spells : (t : List ℕ) → Spells (inCode t .0) (inCode t .1) t
 unfolding inCode
 spells t = record { fits = omega (arith, length-append t (replicate (7 - length t) 32)); is = take-append-seam t _ }
 
-entry-of : (cs : Form) (k : ℕ) (d : Name) → k < length cs
-    → Spells (getD (tableOf cs) k d .0) (getD (tableOf cs) k d .1) (getD cs k noColumn .name)
-entry-of [] k d h = absurd (omega arith)
-entry-of (c ∷ cs) zero d h = spells (c .name)
-entry-of (c ∷ cs) (suc k) d h = entry-of cs k d (omega arith)
+entry-of : (ns : List (List ℕ)) (i : ℕ) (d : Name) → i < length ns → Spells (getD (map inCode ns) i d .0) (getD (map inCode ns) i d .1) (getD ns i [])
+entry-of [] i d h = absurd (omega arith)
+entry-of (n ∷ ns) zero d h = spells n
+entry-of (n ∷ ns) (suc i) d h = entry-of ns i d (omega arith)
 
-pub table-entry : (k : ℕ) (d : Name) → k < nameCount → Spells (getD (tableOf columns) k d .0) (getD (tableOf columns) k d .1) (nameAt columns k)
-unfolding nameAt
-table-entry k d h = entry-of columns k d (omega (arith, name-count))
+all-count : length allNames ≡ spelledCount
+unfolding allNames columns
+all-count = refl
+
+pub table-entry : (i : ℕ) (d : Name) → i < spelledCount → Spells (getD (map inCode allNames) i d .0) (getD (map inCode allNames) i d .1) (spelled i)
+unfolding spelled
+table-entry i d h = entry-of allNames i d (omega (arith, all-count))
+
+-- ---- the places of the names of a form
+
+unfoldable pub formerPlaces : List ℕ
+formerPlaces = 0 ∷ 1 ∷ 2 ∷ 3 ∷ 4 ∷ 22 ∷ 8 ∷ 9 ∷ 10 ∷ 11 ∷ 23 ∷ 14 ∷ 15 ∷ 16 ∷ 17 ∷ 18 ∷ 19 ∷ 20 ∷ []
+
+pub former-place : (k : ℕ) → k < length formerColumns → SameName Former k (getD formerPlaces k 0)
+unfolding allBelow allNames spelled columns formerColumns nameAt formerPlaces formOf
+former-place k h = let p = place-at spelled (λ c. c .name) spelledCount formerPlaces formerColumns k refl tt h in record { within = p .0; is = p .1 }
+
+-- today's names are the first
+first-names : (cs : Form) (more : List (List ℕ)) (k : ℕ) → k < length cs → getD (map (λ c. c .name) cs ++ more) k [] ≡ getD cs k noColumn .name
+first-names [] more k h = absurd (omega arith)
+first-names (c ∷ cs) more zero h = refl
+first-names (c ∷ cs) more (suc k) h = first-names cs more k (omega arith)
+
+pub present-place : (k : ℕ) → k < length columns → SameName Present k k
+unfolding allNames spelled nameAt formOf
+present-place k h = record { within = omega (arith, name-count); is = first-names columns _ k h }

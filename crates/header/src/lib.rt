@@ -1,43 +1,43 @@
 // The line of names: each name's column.
 mod names;
 
-ghost use Rattle.case.specs.Columns.{columns};
+ghost use mathlib.Core.Path.{_≡_};
+ghost use lib.ListN.{length};
+ghost use Rattle.case.specs.Parts.{formOf};
+ghost use Rattle.header.specs.Header.{noColumns};
 ghost use Rattle.header.specs.Parts.{Header};
-use case::NAMES;
+use case::Form;
 use names::Found;
 use names::name_of;
 use text::find;
 
-// For each name the column, from 1, where it stands; wrong is the leftmost wrong column, or 0.
-pub struct Columns {
-    pub wrong: usize,
-    pub at: [usize; NAMES],
-}
-
-pub fn read_header(line: &[u8]) -> Columns
-    ensures { λ r. ⌜ Header columns (now (line .entry)) (r .wrong) (r .at) ⌝ }
+// Puts for each name the column, from 1, where it stands, and for each column the index of its name; answers the leftmost wrong column, or 0.
+pub fn read_header(form: Form, line: &[u8], at: &mut [usize], order: &mut [usize]) -> usize
+    requires { ⌜ now at ≡ noColumns (formOf form) ⌝ }
+    requires { ⌜ length (now order) ≡ length (formOf form) ⌝ }
+    ensures { λ r. ⌜ Header (formOf form) (now (line .entry)) r (now (at .exit)) (now (order .exit)) ⌝ }
 {
-    let mut at = [0usize; NAMES];
     let mut rest = line;
     let mut c: usize = 1;
     loop {
         let e = find(rest, 44);
-        let found = name_of(&rest[..e]);
+        let found = name_of(form, &rest[..e]);
         let Found::At(k) = found else {
-            return Columns { wrong: c, at };
+            return c;
         };
         if at[k] != 0 {
-            return Columns { wrong: c, at };
+            return c;
         }
         at[k] = c;
+        order[c - 1] = k;
         c += 1;
         if rest.len() <= e {
             break;
         }
         rest = &rest[e + 1..];
     }
-    if c <= NAMES {
-        return Columns { wrong: c, at };
+    if c <= at.len() {
+        return c;
     }
-    Columns { wrong: 0, at }
+    0
 }

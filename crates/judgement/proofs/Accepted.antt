@@ -1,26 +1,23 @@
 -- A sheet that is judged by the count of its value lines has passed every check.
 -- Assumes nothing.
-use Prim.Native.Nat.{ℕ, _<_}
-use mathlib.Core.Path.{_≡_, refl, _∙_}
+use Prim.Native.Nat.{ℕ}
+use mathlib.Core.Path.{_≡_, refl}
 use mathlib.Core.Bool.{Bool, true, false, cond}
 use mathlib.Core.List.{List, []}
 use native.Mathlib.Omega.{arith}
-use lib.ListN.{length, getD, take}
+use lib.ListN.{length}
 use lib.Dec.{eqb, ltb}
 use borrow.Author.Tests.{eqb-true, eqb-false, ltb-false}
-use Rattle.text.specs.Text.{indexOf}
 use Rattle.case.specs.Columns.{Form}
 use Rattle.header.specs.Header.{noColumns, wrongName, columnsOf}
-use Rattle.header.specs.Parts.{Header}
 use Rattle.header.proofs.HeaderAccepted.{header-accepted}
 use Rattle.judgement.specs.declared.Judgement.{Judgement}
 use Rattle.judgement.specs.declared.Judgement.the-variants.{Lines, Refused}
 use Rattle.judgement.specs.Limits.{mostLines}
 use Rattle.judgement.specs.Refusal.{textRefused, nameRefused, noLineRefused, manyLinesRefused}
 use Rattle.judgement.specs.Sheet.{names, valueLines, badText, valuesJudgement, namesJudgement, judgement}
-use Rattle.judgement.specs.Accepted.{SoundLines, Accepted}
+use Rattle.judgement.specs.Accepted.{Accepted}
 use Rattle.judgement.proofs.LinesAccepted.{lines-sound}
-use Rattle.judgement.proofs.Whole.{names-are}
 
 -- what a count says of a step of the judgement
 first-refused : (b : Bool) (k l c n : ℕ) (a : Judgement) → cond b (Refused k l c) a ≡ Lines n → (b ≡ false) × (a ≡ Lines n)
@@ -53,13 +50,3 @@ accepted form s n e =
   where
     lines-same : {a b : ℕ} → Lines a ≡ Lines b → b ≡ a
     lines-same h = cc
-
--- ---- for a second reading of the header, which ends at e
-
-module _ {form : Form} {s : List ℕ} {n : ℕ} {at : List ℕ} {c : ℕ} (e : ℕ) (a : Accepted form s n) (ends : e ≡ indexOf 10 s)
-    (h : Header form (take e s) c at) where
-  accepted-wrong : c ≡ 0
-  accepted-wrong = h .wrong-is ∙ rw (← names-are s e (a .text) ends) (a .names-sound)
-
-  pub accepted-columns : at ≡ columnsOf form (names s)
-  accepted-columns = h .at-is accepted-wrong ∙ rw (← names-are s e (a .text) ends)

@@ -2,7 +2,7 @@
 -- Assumes nothing.
 use Prim.Native.Nat.{ℕ, zero, suc, _+_, _-_, _≤_, _<_}
 use mathlib.Core.Path.{_≡_, refl, sym, _∙_}
-use mathlib.Core.Bool.{true, false, _||_, and-false}
+use mathlib.Core.Bool.{true, false, _&&_, _||_, and-false}
 use mathlib.Core.List.{List, [], _∷_, map}
 use native.Mathlib.Numerals.{add-one, sub-one}
 use native.Mathlib.Omega.{arith}
@@ -11,18 +11,22 @@ use lib.Seq.{getD-set-same, getD-set-other}
 use lib.Dec.{eqb}
 use borrow.Author.Tests.{eq-eqb, ne-eqb}
 use Rattle.text.specs.Text.{bytes, same}
-use Rattle.case.specs.Columns.{Form, columns, nameIndex, named}
+use Rattle.case.specs.declared.Form.{Form as CodeForm}
+use Rattle.case.specs.declared.Form.the-variants.{Present, Former}
+use Rattle.case.specs.Columns.{Form, columns, formerColumns, nameIndex, named}
+use Rattle.case.specs.Parts.{formOf}
 use Rattle.judgement.specs.Findings.{sameKey, repeats, lineFinding}
-use Rattle.judgement.specs.Parts.{keyOf, keysOf}
+use Rattle.judgement.specs.Parts.{keyOf, keysOf, seenIn}
 
 -- a form whose first two names are station and season
 pub record Keyed (form : Form) : Type 0 where
   pub first : nameIndex form (bytes "station") ≡ 0
   pub second : nameIndex form (bytes "season") ≡ 1
 
-pub columns-keyed : Keyed columns
-unfolding columns nameIndex same
-columns-keyed = record { first = refl; second = refl }
+pub form-keyed : (form : CodeForm) → Keyed (formOf form)
+unfolding columns formerColumns nameIndex same formOf
+form-keyed Present = record { first = refl; second = refl }
+form-keyed Former = record { first = refl; second = refl }
 
 module _ {form : Form} (keyed : Keyed form) (a b : ℕ) where
   key-station : named form (keyOf a b) "station" ≡ a
@@ -33,55 +37,47 @@ module _ {form : Form} (keyed : Keyed form) (a b : ℕ) where
   unfolding named keyOf
   key-season = rw (keyed .second)
 
--- the search: what holds when the keys from j on are none of v's
-pub record Seeking (form : Form) (v stations seasons : List ℕ) (n j : ℕ) : Type 0 where
+-- the search: what holds when the keys from j on are none of the station and season
+pub record Seeking (station season : ℕ) (stations seasons : List ℕ) (n j : ℕ) : Type 0 where
   pub within : j ≤ n
-  pub passed : repeats form v (keysOf stations seasons n) ≡ repeats form v (keysOf stations seasons j)
+  pub passed : seenIn station season stations seasons n ≡ seenIn station season stations seasons j
 
-pub seeking-start : (form : Form) (v stations seasons : List ℕ) (n : ℕ) → Seeking form v stations seasons n n
-seeking-start form v stations seasons n = record { within = omega arith; passed = refl }
+pub seeking-start : (station season : ℕ) (stations seasons : List ℕ) (n : ℕ) → Seeking station season stations seasons n n
+seeking-start station season stations seasons n = record { within = omega arith; passed = refl }
 
-module _ {form : Form} {v stations seasons : List ℕ} {n j : ℕ} (keyed : Keyed form) (a : Seeking form v stations seasons n j) where
-  -- v's key against the key at j - 1
-  here : 0 < j → repeats form v (keysOf stations seasons n)
-      ≡ (sameKey form v (keyOf (getD stations (j - 1) 0) (getD seasons (j - 1) 0)) || repeats form v (keysOf stations seasons (j - 1)))
-  unfolding repeats keysOf
+module _ {station season : ℕ} {stations seasons : List ℕ} {n j : ℕ} (a : Seeking station season stations seasons n j) where
+  -- the key at j - 1
+  here : 0 < j → seenIn station season stations seasons n
+      ≡ ((eqb station (getD stations (j - 1) 0) && eqb season (getD seasons (j - 1) 0)) || seenIn station season stations seasons (j - 1))
+  unfolding seenIn
   here h = a .passed ∙ at j h
     where
-      at : (i : ℕ) → 0 < i → repeats form v (keysOf stations seasons i)
-          ≡ (sameKey form v (keyOf (getD stations (i - 1) 0) (getD seasons (i - 1) 0)) || repeats form v (keysOf stations seasons (i - 1)))
+      at : (i : ℕ) → 0 < i → seenIn station season stations seasons i
+          ≡ ((eqb station (getD stations (i - 1) 0) && eqb season (getD seasons (i - 1) 0)) || seenIn station season stations seasons (i - 1))
       at zero p = absurd (omega arith)
       at (suc i) p = rw sub-one
 
-  pub seeking-station : 0 < j → (named form v "station" ≡ getD stations (j - 1) 0 → ⊥) → Seeking form v stations seasons n (j - 1)
-  unfolding sameKey
-  seeking-station h p =
-      record {
-        within = omega (arith, a .within);
-        passed = here h ∙ rw (key-station keyed (getD stations (j - 1) 0) (getD seasons (j - 1) 0), ne-eqb (named form v "station") _ p);
-      }
+  pub seeking-station : 0 < j → (station ≡ getD stations (j - 1) 0 → ⊥) → Seeking station season stations seasons n (j - 1)
+  seeking-station h p = record { within = omega (arith, a .within); passed = here h ∙ rw (ne-eqb station _ p) }
 
-  pub seeking-season : 0 < j → (named form v "season" ≡ getD seasons (j - 1) 0 → ⊥) → Seeking form v stations seasons n (j - 1)
-  unfolding sameKey
+  pub seeking-season : 0 < j → (season ≡ getD seasons (j - 1) 0 → ⊥) → Seeking station season stations seasons n (j - 1)
   seeking-season h p =
-      record {
-        within = omega (arith, a .within);
-        passed =
-            here h
-            ∙ rw (key-season keyed (getD stations (j - 1) 0) (getD seasons (j - 1) 0), ne-eqb (named form v "season") _ p, and-false (eqb (named form v "station") _));
-      }
+      record { within = omega (arith, a .within); passed = here h ∙ rw (ne-eqb season _ p, and-false (eqb station (getD stations (j - 1) 0))) }
 
-  pub seeking-found : 0 < j → named form v "station" ≡ getD stations (j - 1) 0 → named form v "season" ≡ getD seasons (j - 1) 0
-      → true ≡ repeats form v (keysOf stations seasons n)
-  unfolding sameKey
-  seeking-found h p q =
-      sym
-      (here h
-      ∙ rw (key-station keyed (getD stations (j - 1) 0) (getD seasons (j - 1) 0), key-season keyed (getD stations (j - 1) 0) (getD seasons (j - 1) 0), eq-eqb (named form v "station") _ p, eq-eqb (named form v "season") _ q))
+  pub seeking-found : 0 < j → station ≡ getD stations (j - 1) 0 → season ≡ getD seasons (j - 1) 0 → true ≡ seenIn station season stations seasons n
+  seeking-found h p q = sym (here h ∙ rw (eq-eqb station _ p, eq-eqb season _ q))
 
-  pub seeking-end : j ≤ 0 → false ≡ repeats form v (keysOf stations seasons n)
-  unfolding repeats keysOf
+  pub seeking-end : j ≤ 0 → false ≡ seenIn station season stations seasons n
+  unfolding seenIn
   seeking-end h = let z : j ≡ 0 = omega arith in sym (a .passed ∙ rw z)
+
+-- what the search finds is whether the key repeats
+pub seen-repeats : {form : Form} (keyed : Keyed form) (v stations seasons : List ℕ) (n : ℕ)
+    → seenIn (getD v 0 0) (getD v 1 0) stations seasons n ≡ repeats form v (keysOf stations seasons n)
+unfolding seenIn repeats keysOf sameKey named
+seen-repeats keyed v stations seasons zero = refl
+seen-repeats keyed v stations seasons (suc n) =
+    rw (seen-repeats keyed v stations seasons n, key-station keyed (getD stations n 0) (getD seasons n 0), key-season keyed (getD stations n 0) (getD seasons n 0), keyed .first, keyed .second)
 
 -- ---- keys and the values that they were kept of
 

@@ -1,57 +1,45 @@
--- The judgement of one line: its form, then its case.
+-- The judgement of one line: its form, then its values.
 -- Assumes nothing.
 use Prim.Native.Nat.{ℕ}
-use mathlib.Core.Path.{_≡_, refl, sym, ap, _∙_}
+use mathlib.Core.Path.{_≡_, refl, sym, _∙_}
 use mathlib.Core.Bool.{cond}
-use mathlib.Core.List.{List, map}
+use mathlib.Core.List.{List}
 use native.Mathlib.Omega.{arith}
-use lib.ListN.{length, getD, length-map}
+use lib.ListN.{length, getD}
 use borrow.Author.Tests.{eq-eqb, ne-eqb}
-use Rattle.text.specs.Text.{fieldsOf, same}
-use Rattle.case.specs.declared.Case.{Case}
-use Rattle.case.specs.Columns.{columns, name-count, nameIndex, named}
-use Rattle.case.specs.Case.{values, caseOf}
-use Rattle.case.specs.Check.{caseFinding}
-use Rattle.case.specs.Bounds.{Placed}
-use Rattle.case.proofs.Values.{values-of-case}
+use Rattle.text.specs.Text.{fieldsOf}
+use Rattle.case.specs.Columns.{Form}
+use Rattle.case.specs.Check.{finding}
 use Rattle.line.specs.Line.{lineValues}
-use Rattle.line.specs.Parts.{LineValues, arranged}
-use Rattle.line.proofs.Arranging.{arranged-values}
+use Rattle.line.specs.Parts.{LineValues}
 use Rattle.judgement.specs.declared.Judgement.{Judgement}
 use Rattle.judgement.specs.declared.Judgement.the-variants.{Lines, Refused}
 use Rattle.judgement.specs.declared.LineFinding.{LineFinding}
-use Rattle.judgement.specs.declared.LineFinding.the-variants.{Sound, Form, OutOfRange, Disagreement, Repeated}
+use Rattle.judgement.specs.declared.LineFinding.the-variants.{Sound, Form as WrongForm, OutOfRange, Disagreement, Repeated}
 use Rattle.judgement.specs.Refusal.{lineJudgement}
-use Rattle.judgement.specs.Findings.{repeats, orFinding, lineFinding}
-use Rattle.judgement.specs.Parts.{Checks}
+use Rattle.judgement.specs.Findings.{orFinding, lineFinding}
+use Rattle.judgement.specs.Parts.{keysOf, seenIn, Checks}
+use Rattle.judgement.proofs.Keys.{Keyed, seen-repeats}
 
--- the values of the case of a line
-pub case-values : {at line v w : List ℕ} {c : ℕ} {r : Case} → Placed columns at → LineValues columns line c v → c ≡ 0 → w ≡ arranged at v → r ≡ caseOf w
-    → values r ≡ lineValues at (fieldsOf line)
-unfolding lineValues
-case-values {at} {line} {w = w} {r = r} p l z e q =
-    let m : w ≡ lineValues at (fieldsOf line) = e ∙ arranged-values at l z in
-    ap values q ∙ values-of-case w (rw m (length-map at _ ∙ p .count ∙ name-count)) ∙ m
-
-module _ {line v : List ℕ} {c : ℕ} (at : List ℕ) (earlier : List (List ℕ)) (l : LineValues columns line c v) where
-  pub judged-form : (c ≡ 0 → ⊥) → Checks columns at earlier line (Form c) 0 0
+module _ {form : Form} {order line row : List ℕ} {c : ℕ} (at : List ℕ) (l : LineValues (length form) order line c row) where
+  pub judged-form : (earlier : List (List ℕ)) → (c ≡ 0 → ⊥) → Checks form at earlier line (WrongForm c) row
   unfolding lineFinding
-  judged-form h =
+  judged-form earlier h =
       record {
         found-is = rw (← l .wrong-is, ne-eqb c 0 h);
-        station-is = λ e. let z : _≡_ {A = ℕ} 0 1 = cc in absurd (omega arith);
-        season-is = λ e. let z : _≡_ {A = ℕ} 0 1 = cc in absurd (omega arith);
+        row-is = λ e. let z : _≡_ {A = ℕ} 0 1 = cc in absurd (omega arith);
+        count = l .count;
       }
 
-  pub judged-case : {r : Case} {f : LineFinding} → c ≡ 0 → values r ≡ lineValues at (fieldsOf line)
-      → f ≡ orFinding (caseFinding at r) (cond (repeats columns (values r) earlier) Repeated Sound)
-      → Checks columns at earlier line f (r .station) (r .season)
-  unfolding lineFinding caseFinding named nameIndex columns same
-  judged-case h p q =
+  pub judged-values : {f : LineFinding} (stations seasons : List ℕ) (n : ℕ) → Keyed form → c ≡ 0 → row ≡ lineValues at (fieldsOf line)
+      → f ≡ orFinding (finding form at row) (cond (seenIn (getD row 0 0) (getD row 1 0) stations seasons n) Repeated Sound)
+      → Checks form at (keysOf stations seasons n) line f row
+  unfolding lineFinding
+  judged-values stations seasons n keyed h p q =
       record {
-        found-is = rw (← l .wrong-is, eq-eqb c 0 h, ← p) q;
-        station-is = λ e. ap (λ (x : List ℕ). named columns x "station") p;
-        season-is = λ e. ap (λ (x : List ℕ). named columns x "season") p;
+        found-is = rw (← l .wrong-is, eq-eqb c 0 h, ← p, ← seen-repeats keyed row stations seasons n) q;
+        row-is = λ e. p;
+        count = l .count;
       }
 
 -- ---- what the refusal of a line says of its finding
@@ -61,7 +49,7 @@ pub refused-line : {k l c : ℕ} {a : Judgement} (n : ℕ) (sound : Judgement) (
     → lineJudgement n sound f ≡ Refused k l c
 unfolding lineJudgement
 refused-line n sound Sound p q = let z : _≡_ {A = ℕ} 0 1 = cc in absurd (omega arith)
-refused-line n sound (Form column) p q = cc
+refused-line n sound (WrongForm column) p q = cc
 refused-line n sound (OutOfRange column) p q = cc
 refused-line n sound (Disagreement column) p q = cc
 refused-line n sound Repeated p q = cc
@@ -71,7 +59,7 @@ pub sound-line : {m : ℕ} {a : Judgement} (n : ℕ) (sound : Judgement) (f : Li
     → (f ≡ Sound) × (sound ≡ Lines m)
 unfolding lineJudgement
 sound-line n sound Sound p q = (refl, sym p ∙ q)
-sound-line n sound (Form column) p q = let z : _≡_ {A = ℕ} 0 1 = cc in absurd (omega arith)
+sound-line n sound (WrongForm column) p q = let z : _≡_ {A = ℕ} 0 1 = cc in absurd (omega arith)
 sound-line n sound (OutOfRange column) p q = let z : _≡_ {A = ℕ} 0 1 = cc in absurd (omega arith)
 sound-line n sound (Disagreement column) p q = let z : _≡_ {A = ℕ} 0 1 = cc in absurd (omega arith)
 sound-line n sound Repeated p q = let z : _≡_ {A = ℕ} 0 1 = cc in absurd (omega arith)

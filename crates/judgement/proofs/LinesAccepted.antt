@@ -35,7 +35,7 @@ sound-case (found.Disagreement c) next e = let z : _≡_ {A = ℕ} 0 1 = cc in a
 sound-checks : (form : Form) (at line : List ℕ) (earlier : List (List ℕ)) → lineFinding form at earlier (fieldsOf line) ≡ Sound → SoundLine form at line
 unfolding lineFinding
 sound-checks form at line earlier e =
-    let q = sound-form (eqb (wrongForm form 1 (fieldsOf line)) 0) _ _ e in
+    let q = sound-form (eqb (wrongForm (length form) 1 (fieldsOf line)) 0) _ _ e in
     record { form-sound = eqb-true _ 0 (q .0); values-sound = sound-case _ _ (q .1) }
 
 pub record LinesSound (form : Form) (at : List ℕ) (ls : List (List ℕ)) (sound : Judgement) (m : ℕ) : Type 0 where

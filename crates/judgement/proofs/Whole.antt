@@ -1,7 +1,7 @@
 -- The whole sheet: its text, its header, its value lines.
 -- Assumes nothing.
 use Prim.Native.Nat.{ℕ, _+_, _-_, _≤_, _<_}
-use mathlib.Core.Path.{_≡_}
+use mathlib.Core.Path.{_≡_, refl, _∙_}
 use mathlib.Core.Bool.{true, false, not}
 use mathlib.Core.List.{List, [], _∷_}
 use native.Mathlib.Omega.{arith}
@@ -12,10 +12,13 @@ use Rattle.text.specs.Text.{indexOf, linesOf, fieldsOf}
 use Rattle.text.specs.Parts.{Skipped}
 use Rattle.case.specs.Columns.{Form}
 use Rattle.text.proofs.Lines.{lines-next}
+use Rattle.judgement.specs.declared.Judgement.{Judgement}
 use Rattle.judgement.specs.declared.Judgement.the-variants.{Lines, Refused}
 use Rattle.judgement.specs.Limits.{mostBytes, mostLines}
 use Rattle.judgement.specs.Refusal.{textRefused, nameRefused, noLineRefused, manyLinesRefused}
 use Rattle.judgement.specs.Sheet.{names, valueLines, badText, linesJudgement, valuesJudgement, namesJudgement, judgement}
+use Rattle.judgement.specs.Read.{LinesRead, ValuesRead, Read}
+use Rattle.header.specs.Header.{columnsOf}
 use Rattle.header.specs.Parts.{Header}
 use Rattle.text.proofs.LineTurns.{line-turn}
 
@@ -39,9 +42,20 @@ unfolding badText
 text-some [] e = let z : _≡_ {A = ℕ} 0 1 = cc in absurd (omega arith)
 text-some (b ∷ s) e = omega arith
 
-pub judge-text : (form : Form) (s : List ℕ) → badText s ≡ true → Refused 1 0 0 ≡ judgement form s
+-- a refusal stores nothing
+not-lines : {n k l c : ℕ} → Refused k l c ≡ Lines n → ⊥
+not-lines e = let z : _≡_ {A = ℕ} 0 1 = cc in omega arith
+
+read-refused : {form : Form} {s : List ℕ} {k l c : ℕ} (store : List ℕ) → Refused k l c ≡ judgement form s → Read form s store store (Refused k l c)
+read-refused store e = record { answer-is = e; size = refl; stored = λ n q. absurd (not-lines q) }
+
+lines-refused : {form : Form} {at : List ℕ} {ls : List (List ℕ)} {k l c : ℕ} (store : List ℕ) → Refused k l c ≡ valuesJudgement form at ls
+    → ValuesRead form at ls store store (Refused k l c)
+lines-refused store e = record { answer-is = e; size = refl; stored = λ n q. absurd (not-lines q) }
+
+pub read-text : (form : Form) (s store : List ℕ) → badText s ≡ true → Read form s store store (Refused 1 0 0)
 unfolding judgement textRefused
-judge-text form s b = rw b
+read-text form s store b = read-refused store (rw b)
 
 -- ---- the header, which ends at e, and the value lines, which begin at r
 
@@ -54,26 +68,37 @@ pub values-are : (s : List ℕ) (e r : ℕ) → badText s ≡ false → e ≡ in
 unfolding valueLines
 values-are s e r b ends k = rw (line-turn s e r (text-some s b) ends k)
 
-module _ {form : Form} (s : List ℕ) {at : List ℕ} {c : ℕ} (e : ℕ) (b : badText s ≡ false) (ends : e ≡ indexOf 10 s) (h : Header form (take e s) c at) where
-  pub judge-names : (c ≡ 0 → ⊥) → Refused 2 1 c ≡ judgement form s
+module _ {form : Form} (s : List ℕ) {at order : List ℕ} {c : ℕ} (e : ℕ) (b : badText s ≡ false) (ends : e ≡ indexOf 10 s)
+    (h : Header form (take e s) c at order) where
+  pub read-names : (store : List ℕ) → (c ≡ 0 → ⊥) → Read form s store store (Refused 2 1 c)
   unfolding judgement namesJudgement nameRefused
-  judge-names z = rw (b, names-are s e b ends, ← h .wrong-is, ne-eqb c 0 z)
+  read-names store z = read-refused store (rw (b, names-are s e b ends, ← h .wrong-is, ne-eqb c 0 z))
 
-  pub judge-values : (r : ℕ) → c ≡ 0 → Skipped e (length s) r → valuesJudgement form at (linesOf (take (length s - r) (drop r s))) ≡ judgement form s
+  pub read-values : {before after : List ℕ} {j : Judgement} (r : ℕ) → c ≡ 0 → Skipped e (length s) r
+      → ValuesRead form at (linesOf (take (length s - r) (drop r s))) before after j → Read form s before after j
   unfolding judgement namesJudgement
-  judge-values r z k = rw (b, names-are s e b ends, ← h .wrong-is, eq-eqb c 0 z, values-are s e r b ends k, ← h .at-is z)
+  read-values r z k v =
+      let q : at ≡ columnsOf form (names s) = h .at-is z ∙ rw (← names-are s e b ends) in
+      let l = values-are s e r b ends k in
+      record {
+        answer-is = v .answer-is ∙ rw (b, names-are s e b ends, ← h .wrong-is, eq-eqb c 0 z, l, ← h .at-is z);
+        size = v .size;
+        stored = λ n t. rw (l, ← q) (v .stored n t);
+      }
 
 -- ---- the number of value lines
 
 module _ (form : Form) (at : List ℕ) (ls : List (List ℕ)) (n : ℕ) (count : n ≡ length ls) where
-  pub values-none : n ≡ 0 → Refused 4 2 0 ≡ valuesJudgement form at ls
+  pub values-none : (store : List ℕ) → n ≡ 0 → ValuesRead form at ls store store (Refused 4 2 0)
   unfolding valuesJudgement noLineRefused
-  values-none h = rw (← count, eq-eqb n 0 h)
+  values-none store h = lines-refused store (rw (← count, eq-eqb n 0 h))
 
-  pub values-many : mostLines < n → Refused 4 (mostLines + 2) 0 ≡ valuesJudgement form at ls
+  pub values-many : (store : List ℕ) → mostLines < n → ValuesRead form at ls store store (Refused 4 (mostLines + 2) 0)
   unfolding valuesJudgement manyLinesRefused
-  values-many h = rw (← count, ne-eqb n 0 (λ e. omega (arith, e)), lt-ltb mostLines n h)
+  values-many store h = lines-refused store (rw (← count, ne-eqb n 0 (λ e. omega (arith, e)), lt-ltb mostLines n h))
 
-  pub values-some : (n ≡ 0 → ⊥) → n ≤ mostLines → linesJudgement form at [] 2 (Lines n) ls ≡ valuesJudgement form at ls
+  pub values-some : {before after : List ℕ} {j : Judgement} → (n ≡ 0 → ⊥) → n ≤ mostLines → LinesRead form at ls (Lines n) before after j
+      → ValuesRead form at ls before after j
   unfolding valuesJudgement
-  values-some z h = rw (← count, ne-eqb n 0 z, le-ltb mostLines n h)
+  values-some z h l =
+      record { answer-is = l .answer-is ∙ rw (← count, ne-eqb n 0 z, le-ltb mostLines n h); size = l .size; stored = l .stored }

@@ -17,7 +17,7 @@ use Rattle.judgement.specs.Sheet.{names, valueLines, badText}
 
 -- a line of sound form with sound values
 pub record SoundLine (form : Form) (at line : List ℕ) : Type 0 where
-  pub form-sound : wrongForm form 1 (fieldsOf line) ≡ 0
+  pub form-sound : wrongForm (length form) 1 (fieldsOf line) ≡ 0
   pub values-sound : finding form at (lineValues at (fieldsOf line)) ≡ found.Sound
 
 pub record SoundLines (form : Form) (at : List ℕ) (lines : List (List ℕ)) : Type 0 where
@@ -26,7 +26,7 @@ pub record SoundLines (form : Form) (at : List ℕ) (lines : List (List ℕ)) : 
 pub record Accepted (form : Form) (s : List ℕ) (n : ℕ) : Type 0 where
   pub text : badText s ≡ false
   pub names-sound : wrongName form 1 (noColumns form) (names s) ≡ 0
-  pub placed : Placed form (columnsOf form (names s))
+  pub placed : Placed (length form) (columnsOf form (names s))
   pub count : n ≡ length (valueLines s)
   pub some : 1 ≤ n
   pub most : n ≤ mostLines

@@ -4,6 +4,7 @@ use Prim.Native.Nat.{ℕ}
 use mathlib.Core.Bool.{Bool, false, cond, _&&_, _||_}
 use mathlib.Core.List.{List, [], _∷_}
 use lib.Dec.{eqb}
+use lib.ListN.{length}
 use Rattle.case.specs.declared.Finding.{Finding}
 use Rattle.case.specs.declared.Finding.the-variants as found
 use Rattle.case.specs.Columns.{Form, named}
@@ -31,6 +32,6 @@ module _ (form : Form) where
   -- 3, 5, 6, 7 of a line's fields, after the values of earlier lines
   unfoldable pub lineFinding : List ℕ → List (List ℕ) → List (List ℕ) → LineFinding
   lineFinding at earlier fields =
-      cond (eqb (wrongForm form 1 fields) 0)
+      cond (eqb (wrongForm (length form) 1 fields) 0)
       (orFinding (finding form at (lineValues at fields)) (cond (repeats (lineValues at fields) earlier) Repeated Sound))
-      (WrongForm (wrongForm form 1 fields))
+      (WrongForm (wrongForm (length form) 1 fields))

@@ -3,4 +3,5 @@ pub mod Refusal
 pub mod Findings
 pub mod Sheet
 pub mod Parts
+pub mod Read
 pub mod Accepted

@@ -2,32 +2,29 @@
 ghost use mathlib.Core.Path.{_≡_};
 ghost use mathlib.Core.Bool.{cond};
 ghost use Prim.Native.Nat.{_≤_};
-ghost use lib.ListN.{length};
-ghost use Rattle.case.specs.Columns.{columns};
-ghost use Rattle.case.specs.Case.{values};
-ghost use Rattle.case.specs.Check.{caseFinding};
+ghost use lib.ListN.{length, getD};
+ghost use Rattle.case.specs.Check.{finding};
 ghost use Rattle.case.specs.Bounds.{Placed};
-ghost use Rattle.judgement.specs.Findings.{repeats, orFinding};
-ghost use Rattle.judgement.specs.Parts.{keysOf, Checks};
+ghost use Rattle.case.specs.Order.{Ordered};
+ghost use Rattle.case.specs.Parts.{formOf};
+ghost use Rattle.judgement.specs.Findings.{orFinding};
+ghost use Rattle.judgement.specs.Parts.{keysOf, seenIn, Checks};
 use crate::LineFinding;
-use case::Case;
 use case::Finding;
-use case::NAMES;
-use case::case_of;
-use case::check_case;
-use line::arrange;
+use case::Form;
+use case::check_values;
 use line::read_values;
 
-// Whether station and season of c are among the first n of the two lists.
-fn seen<'a>(stations: &'a [u32], seasons: &'a [u32], n: usize, c: Case) -> bool
+// Whether a station and season are among the first n of the two lists.
+fn seen<'a>(stations: &'a [u32], seasons: &'a [u32], n: usize, station: u32, season: u32) -> bool
     requires { ⌜ (n ≤ length (now stations)) × (n ≤ length (now seasons)) ⌝ }
-    ensures { λ r. ⌜ r ≡ repeats columns (values c) (keysOf (now (stations .entry)) (now (seasons .entry)) n) ⌝ }
+    ensures { λ r. ⌜ r ≡ seenIn station season (now (stations .entry)) (now (seasons .entry)) n ⌝ }
 {
     let mut j = n;
     while 0 < j {
         j -= 1;
-        if c.station == stations[j] {
-            if c.season == seasons[j] {
+        if station == stations[j] {
+            if season == seasons[j] {
                 return true;
             }
         }
@@ -35,22 +32,25 @@ fn seen<'a>(stations: &'a [u32], seasons: &'a [u32], n: usize, c: Case) -> bool
     false
 }
 
-// Refusals 5, 6 and 7 of a case; the lists hold the keys of the n lines before.
-fn case_finding<'a>(
-    at: [usize; NAMES],
-    c: Case,
+// Refusals 5, 6 and 7 of a line's values; the lists hold the keys of the n lines before.
+fn values_finding<'a>(
+    form: Form,
+    at: &'a [usize],
+    v: &'a [u32],
     stations: &'a [u32],
     seasons: &'a [u32],
     n: usize,
 ) -> LineFinding
+    requires { ⌜ length (now at) ≡ length (formOf form) ⌝ }
+    requires { ⌜ length (now v) ≡ length (formOf form) ⌝ }
     requires { ⌜ (n ≤ length (now stations)) × (n ≤ length (now seasons)) ⌝ }
-    ensures { λ r. ⌜ r ≡ orFinding (caseFinding at c) (cond (repeats columns (values c) (keysOf (now (stations .entry)) (now (seasons .entry)) n)) LineFinding.Repeated LineFinding.Sound) ⌝ }
+    ensures { λ r. ⌜ r ≡ orFinding (finding (formOf form) (now (at .entry)) (now (v .entry))) (cond (seenIn (getD (now (v .entry)) 0 0) (getD (now (v .entry)) 1 0) (now (stations .entry)) (now (seasons .entry)) n) LineFinding.Repeated LineFinding.Sound) ⌝ }
 {
-    match check_case(at, c) {
+    match check_values(form, at, v) {
         Finding::OutOfRange(column) => LineFinding::OutOfRange(column),
         Finding::Disagreement(column) => LineFinding::Disagreement(column),
         Finding::Sound => {
-            if seen(stations, seasons, n, c) {
+            if seen(stations, seasons, n, v[0], v[1]) {
                 LineFinding::Repeated
             } else {
                 LineFinding::Sound
@@ -59,40 +59,26 @@ fn case_finding<'a>(
     }
 }
 
-// What the checks of a line find, and its station and season.
-pub struct Checked {
-    pub found: LineFinding,
-    pub station: u32,
-    pub season: u32,
-}
-
-// Refusals 3, 5, 6 and 7 of one line.
+// Refusals 3, 5, 6 and 7 of one line, whose values go into row.
 pub fn check_line<'a>(
+    form: Form,
     line: &'a [u8],
-    at: [usize; NAMES],
+    at: &'a [usize],
+    order: &'a [usize],
     stations: &'a [u32],
     seasons: &'a [u32],
     n: usize,
-) -> Checked
-    requires { ⌜ Placed columns at ⌝ }
+    row: &mut [u32],
+) -> LineFinding
+    requires { ⌜ Placed (length (formOf form)) (now at) ⌝ }
+    requires { ⌜ Ordered (length (formOf form)) (now at) (now order) ⌝ }
     requires { ⌜ (n ≤ length (now stations)) × (n ≤ length (now seasons)) ⌝ }
-    ensures { λ r. ⌜ Checks columns at (keysOf (now (stations .entry)) (now (seasons .entry)) n) (now (line .entry)) (r .found) (r .station) (r .season) ⌝ }
+    requires { ⌜ length (now row) ≡ length (formOf form) ⌝ }
+    ensures { λ r. ⌜ Checks (formOf form) (now (at .entry)) (keysOf (now (stations .entry)) (now (seasons .entry)) n) (now (line .entry)) r (now (row .exit)) ⌝ }
 {
-    let r = read_values(line);
-    let column = r.wrong;
+    let column = read_values(line, order, row);
     if column != 0 {
-        return Checked {
-            found: LineFinding::Form(column),
-            station: 0,
-            season: 0,
-        };
+        return LineFinding::Form(column);
     }
-    let v = r.v;
-    let c = case_of(arrange(at, v));
-    let found = case_finding(at, c, stations, seasons, n);
-    Checked {
-        found,
-        station: c.station,
-        season: c.season,
-    }
+    values_finding(form, at, row, stations, seasons, n)
 }

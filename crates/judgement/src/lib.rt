@@ -1,12 +1,20 @@
-// The judgement of a sheet: how many value lines it has, or why it is refused. Nothing is written.
+// The reading of a sheet: how many value lines it has, and their values, or why it is refused.
 mod check;
 mod pass;
 
 ghost use mathlib.Core.Path.{_≡_};
+ghost use Prim.Native.Nat.{_*_, _≤_};
+ghost use lib.ListN.{length};
 ghost use Rattle.text.specs.Text.{linesOf};
-ghost use Rattle.case.specs.Columns.{columns};
 ghost use Rattle.case.specs.Bounds.{Placed};
-ghost use Rattle.judgement.specs.Sheet.{badText, valuesJudgement, judgement};
+ghost use Rattle.case.specs.Order.{Ordered};
+ghost use Rattle.case.specs.Parts.{formOf};
+ghost use Rattle.header.specs.Header.{noColumns};
+ghost use Rattle.judgement.specs.Limits.{mostLines};
+ghost use Rattle.judgement.specs.Sheet.{badText};
+ghost use Rattle.judgement.specs.Read.{ValuesRead, Read};
+use case::FORMER_NAMES;
+use case::Form;
 use case::NAMES;
 use header::read_header;
 use pass::check_lines;
@@ -18,6 +26,9 @@ use text::skip;
 pub const LINES: usize = 256;
 
 pub const BYTES: usize = 65536;
+
+// The numbers of a store for the most value lines of today's form.
+pub const VALUES: usize = LINES * NAMES;
 
 // The line named where there are too many.
 const PAST_LINES: usize = LINES + 2;
@@ -51,10 +62,18 @@ fn bad_text(s: &[u8]) -> bool
     s[n - 1] != 10
 }
 
-// Refusals 4, 3, 5, 6 and 7; s holds the value lines.
-fn judge_values(s: &[u8], at: [usize; NAMES]) -> Judgement
-    requires { ⌜ Placed columns at ⌝ }
-    ensures { λ r. ⌜ r ≡ valuesJudgement columns at (linesOf (now (s .entry))) ⌝ }
+// Refusals 4, 3, 5, 6 and 7; s holds the value lines, whose values go into the store.
+fn judge_values<'a>(
+    form: Form,
+    s: &'a [u8],
+    at: &'a [usize],
+    order: &'a [usize],
+    values: &mut [u32],
+) -> Judgement
+    requires { ⌜ Placed (length (formOf form)) (now at) ⌝ }
+    requires { ⌜ Ordered (length (formOf form)) (now at) (now order) ⌝ }
+    requires { ⌜ length (formOf form) * mostLines ≤ length (now values) ⌝ }
+    ensures { λ r. ⌜ ValuesRead (formOf form) (now (at .entry)) (linesOf (now (s .entry))) (now (values .entry)) (now (values .exit)) r ⌝ }
 {
     let n = count_lines(s);
     if n == 0 {
@@ -63,23 +82,49 @@ fn judge_values(s: &[u8], at: [usize; NAMES]) -> Judgement
     if LINES < n {
         return Judgement::Refused(4, PAST_LINES, 0);
     }
-    check_lines(s, at, n)
+    check_lines(form, s, at, order, n, values)
 }
 
-// The judgement of a sheet of document 01's form.
-pub fn judge(s: &[u8]) -> Judgement
-    ensures { λ r. ⌜ r ≡ judgement columns (now (s .entry)) ⌝ }
+// The judgement of a sheet, and its values in the store; the other two slices have a place for each name of the form.
+fn read_by(
+    form: Form,
+    s: &[u8],
+    at: &mut [usize],
+    order: &mut [usize],
+    values: &mut [u32],
+) -> Judgement
+    requires { ⌜ now at ≡ noColumns (formOf form) ⌝ }
+    requires { ⌜ length (now order) ≡ length (formOf form) ⌝ }
+    requires { ⌜ length (formOf form) * mostLines ≤ length (now values) ⌝ }
+    ensures { λ r. ⌜ Read (formOf form) (now (s .entry)) (now (values .entry)) (now (values .exit)) r ⌝ }
 {
     if bad_text(s) {
         return Judgement::Refused(1, 0, 0);
     }
     let e = find(s, 10);
-    let h = read_header(&s[..e]);
-    let c = h.wrong;
+    let c = read_header(form, &s[..e], at, order);
     if c != 0 {
         return Judgement::Refused(2, 1, c);
     }
-    let at = h.at;
     let next = skip(e, s.len());
-    judge_values(&s[next..], at)
+    judge_values(form, &s[next..], at, order, values)
+}
+
+// The judgement of a sheet of a form, and its values in the store, line after line in the order of the names.
+pub fn read(form: Form, s: &[u8], values: &mut [u32]) -> Judgement
+    requires { ⌜ length (formOf form) * mostLines ≤ length (now values) ⌝ }
+    ensures { λ r. ⌜ Read (formOf form) (now (s .entry)) (now (values .entry)) (now (values .exit)) r ⌝ }
+{
+    match form {
+        Form::Present => {
+            let mut at = [0usize; NAMES];
+            let mut order = [0usize; NAMES];
+            read_by(form, s, &mut at, &mut order, values)
+        }
+        Form::Former => {
+            let mut at = [0usize; FORMER_NAMES];
+            let mut order = [0usize; FORMER_NAMES];
+            read_by(form, s, &mut at, &mut order, values)
+        }
+    }
 }

@@ -1,19 +1,20 @@
 // The pass over the value lines.
 ghost use mathlib.Core.Path.{_≡_};
-ghost use mathlib.Core.List.{[]};
-ghost use Prim.Native.Nat.{_≤_};
+ghost use Prim.Native.Nat.{_+_, _*_, _≤_};
 ghost use lib.ListN.{length};
 ghost use Rattle.text.specs.Text.{linesOf};
-ghost use Rattle.case.specs.Columns.{columns};
 ghost use Rattle.case.specs.Bounds.{Placed};
+ghost use Rattle.case.specs.Order.{Ordered};
+ghost use Rattle.case.specs.Parts.{formOf};
 ghost use Rattle.judgement.specs.Limits.{mostLines};
 ghost use Rattle.judgement.specs.Refusal.{lineJudgement};
-ghost use Rattle.judgement.specs.Sheet.{linesJudgement};
+ghost use Rattle.judgement.specs.Parts.{keysOf, LineStored};
+ghost use Rattle.judgement.specs.Read.{LinesRead};
 use crate::Judgement;
 use crate::LINES;
 use crate::LineFinding;
 use crate::check::check_line;
-use case::NAMES;
+use case::Form;
 use text::find;
 use text::skip;
 
@@ -30,27 +31,69 @@ fn refusal(line: usize, f: LineFinding) -> Judgement
     }
 }
 
-// Line by line; s holds the value lines, of which there are count.
-pub fn check_lines(s: &[u8], at: [usize; NAMES], count: usize) -> Judgement
-    requires { ⌜ Placed columns at ⌝ }
+// The checks of a line, whose values are part n of the store.
+fn store_line<'a>(
+    form: Form,
+    line: &'a [u8],
+    at: &'a [usize],
+    order: &'a [usize],
+    stations: &'a [u32],
+    seasons: &'a [u32],
+    n: usize,
+    values: &mut [u32],
+) -> LineFinding
+    requires { ⌜ Placed (length (formOf form)) (now at) ⌝ }
+    requires { ⌜ Ordered (length (formOf form)) (now at) (now order) ⌝ }
+    requires { ⌜ (n ≤ length (now stations)) × (n ≤ length (now seasons)) ⌝ }
+    requires { ⌜ length (formOf form) * n + length (formOf form) ≤ length (now values) ⌝ }
+    ensures { λ r. ⌜ LineStored (formOf form) (now (at .entry)) (keysOf (now (stations .entry)) (now (seasons .entry)) n) (now (line .entry)) n (now (values .entry)) (now (values .exit)) r ⌝ }
+{
+    let k = at.len();
+    let a = k * n;
+    let b = a + k;
+    check_line(
+        form,
+        line,
+        at,
+        order,
+        stations,
+        seasons,
+        n,
+        &mut values[a..b],
+    )
+}
+
+// Line by line; s holds the value lines, of which there are count, and their values go into the store.
+pub fn check_lines<'a>(
+    form: Form,
+    s: &'a [u8],
+    at: &'a [usize],
+    order: &'a [usize],
+    count: usize,
+    values: &mut [u32],
+) -> Judgement
+    requires { ⌜ Placed (length (formOf form)) (now at) ⌝ }
+    requires { ⌜ Ordered (length (formOf form)) (now at) (now order) ⌝ }
     requires { ⌜ count ≡ length (linesOf (now s)) ⌝ }
     requires { ⌜ count ≤ mostLines ⌝ }
-    ensures { λ r. ⌜ r ≡ linesJudgement columns at [] 2 (Judgement.Lines count) (linesOf (now (s .entry))) ⌝ }
+    requires { ⌜ length (formOf form) * mostLines ≤ length (now values) ⌝ }
+    ensures { λ r. ⌜ LinesRead (formOf form) (now (at .entry)) (linesOf (now (s .entry))) (Judgement.Lines count) (now (values .entry)) (now (values .exit)) r ⌝ }
 {
+    let k = at.len();
     let mut stations = [0u32; LINES];
     let mut seasons = [0u32; LINES];
     let mut rest = s;
     let mut n: usize = 0;
     while 0 < rest.len() {
         let e = find(rest, 10);
-        let r = check_line(&rest[..e], at, &stations, &seasons, n);
-        let f = r.found;
-        let a = refusal(n + 2, f);
-        if let Judgement::Refused(number, line, column) = a {
+        let f = store_line(form, &rest[..e], at, order, &stations, &seasons, n, values);
+        let j = refusal(n + 2, f);
+        if let Judgement::Refused(number, line, column) = j {
             return Judgement::Refused(number, line, column);
         }
-        stations[n] = r.station;
-        seasons[n] = r.season;
+        let a = k * n;
+        stations[n] = values[a];
+        seasons[n] = values[a + 1];
         n += 1;
         let next = skip(e, rest.len());
         rest = &rest[next..];

@@ -1,13 +1,15 @@
--- The reading of a value line: what holds while the fields fs are left, and the values of c columns are in v.
+-- The reading of a value line of n columns: what holds while the fields fs are left, and the values of c columns are put.
 -- Assumes nothing.
-use Prim.Native.Nat.{ℕ, _+_, _≤_, _<_}
+use Prim.Native.Nat.{ℕ, suc, _+_, _≤_, _<_}
 use mathlib.Core.Path.{_≡_, refl, sym, ap, _∙_}
 use mathlib.Core.Bool.{Bool, true, false, cond}
-use mathlib.Core.List.{List, [], _∷_, _++_, map, append-assoc, append-nil}
+use mathlib.Core.List.{List, [], _∷_, map}
 use native.Mathlib.Numerals.{add-one}
+use native.Mathlib.Nat.{add-zero, zero-add}
+use native.Mathlib.Decide.{ℕ-discrete}
 use native.Mathlib.Omega.{arith}
-use lib.ListN.{length, take, set, replicate, length-set, length-replicate}
-use lib.Seq.{take-all, take-suc-set}
+use lib.ListN.{length, getD, set, length-set}
+use lib.Seq.{getD-set-same, getD-set-other}
 use borrow.Author.Tests.{le-leb, lt-leb}
 use Rattle.text.specs.Text.{fieldsOf}
 use Rattle.text.specs.Value.{isValue, valueOf, fieldValue}
@@ -15,7 +17,7 @@ use Rattle.text.specs.declared.Field.{Field}
 use Rattle.text.specs.declared.Field.the-variants.{Wrong, Value}
 use Rattle.line.specs.Line.{wrongForm}
 use Rattle.line.specs.Parts.{LineValues}
-use Rattle.case.specs.Columns.{Form}
+use Rattle.case.specs.Order.{Distinct}
 
 -- what a field's value says of its form
 wrong-form : (b : Bool) (n : ℕ) → cond b (Value n) Wrong ≡ Wrong → b ≡ false
@@ -26,56 +28,72 @@ right-form : (b : Bool) (n x : ℕ) → cond b (Value n) Wrong ≡ Value x → (
 right-form true n x e = (refl, cc)
 right-form false n x e = let z : _≡_ {A = ℕ} 0 1 = cc in absurd (omega arith)
 
-pub record ValuesAt (form : Form) (all : List (List ℕ)) (v : List ℕ) (fs : List (List ℕ)) (c : ℕ) : Type 0 where
-  pub count : length v ≡ length form
-  pub most : c ≤ length form
-  pub wrong-left : wrongForm form 1 all ≡ wrongForm form (c + 1) fs
-  pub values-left : map valueOf all ≡ take c v ++ map valueOf fs
+pub record ValuesAt (n : ℕ) (order : List ℕ) (all : List (List ℕ)) (row : List ℕ) (fs : List (List ℕ)) (c : ℕ) : Type 0 where
+  pub count : length row ≡ n
+  pub most : c ≤ n
+  pub wrong-left : wrongForm n 1 all ≡ wrongForm n (c + 1) fs
+  pub values-left : (i : ℕ) → getD (map valueOf all) (c + i) 0 ≡ getD (map valueOf fs) i 0
+  pub values-put : (i : ℕ) → i < c → getD row (getD order i 0) 0 ≡ getD (map valueOf all) i 0
 
-pub values-start : {form : Form} {n : ℕ} (all : List (List ℕ)) → length form ≡ n → ValuesAt form all (replicate n 0) all 0
-values-start {n = n} all e = record { count = length-replicate n 0 ∙ sym e; most = omega arith; wrong-left = refl; values-left = refl }
+pub values-start : (order : List ℕ) (all : List (List ℕ)) (row : List ℕ) → ValuesAt (length row) order all row all 0
+values-start order all row =
+    record {
+      count = refl;
+      most = omega arith;
+      wrong-left = refl;
+      values-left = λ i. ap (λ (k : ℕ). getD (map valueOf all) k 0) (zero-add i);
+      values-put = λ i h. absurd (omega arith);
+    }
 
 -- a turn: the next field is t, which holds f
-module _ {form : Form} {all : List (List ℕ)} {v : List ℕ} {fs : List (List ℕ)} {t : List ℕ} {ts : List (List ℕ)} {c : ℕ} {f : Field}
-    (a : ValuesAt form all v fs c) (next : fs ≡ t ∷ ts) (held : f ≡ fieldValue t) where
-  pub values-wrong : c < length form → f ≡ Wrong → wrongForm form 1 all ≡ c + 1
+module _ {n : ℕ} {order : List ℕ} {all : List (List ℕ)} {row : List ℕ} {fs : List (List ℕ)} {t : List ℕ} {ts : List (List ℕ)} {c : ℕ} {f : Field}
+    (a : ValuesAt n order all row fs c) (next : fs ≡ t ∷ ts) (held : f ≡ fieldValue t) (h : c < n) where
+  pub values-wrong : f ≡ Wrong → wrongForm n 1 all ≡ c + 1
   unfolding wrongForm fieldValue
-  values-wrong h e =
-      a .wrong-left ∙ rw (next, le-leb (c + 1) (length form) (omega arith), wrong-form (isValue t) (valueOf t) (sym held ∙ e))
+  values-wrong e = a .wrong-left ∙ rw (next, le-leb (c + 1) n (omega arith), wrong-form (isValue t) (valueOf t) (sym held ∙ e))
 
-  pub values-step : (x : ℕ) → c < length form → f ≡ Value x → ValuesAt form all (set v c x) ts (c + 1)
+  pub values-step : (x : ℕ) → Distinct n order → f ≡ Value x → ValuesAt n order all (set row (getD order c 0) x) ts (c + 1)
   unfolding wrongForm fieldValue
-  values-step x h e =
+  values-step x d e =
       let q = right-form (isValue t) (valueOf t) x (sym held ∙ e) in
+      let k = getD order c 0 in
       record {
-        count = length-set v c x ∙ a .count;
+        count = length-set row k x ∙ a .count;
         most = omega arith;
         wrong-left =
-            a .wrong-left
-            ∙ rw (next, le-leb (c + 1) (length form) (omega arith), q .0) (ap (λ (n : ℕ). wrongForm form n ts) (sym (add-one (c + 1))));
-        values-left = a .values-left ∙ rw (next, add-one, take-suc-set v c x (omega (arith, a .count)), q .1, append-assoc);
+            a .wrong-left ∙ rw (next, le-leb (c + 1) n (omega arith), q .0) (ap (λ (m : ℕ). wrongForm n m ts) (sym (add-one (c + 1))));
+        values-left = λ i. ap (λ (m : ℕ). getD (map valueOf all) m 0) (omega arith) ∙ a .values-left (suc i) ∙ rw next;
+        values-put = λ i l. put (q .1) i (ℕ-discrete i c) l;
       }
+    where
+      put : x ≡ valueOf t → (i : ℕ) → Dec (i ≡ c) → i < c + 1 → getD (set row (getD order c 0) x) (getD order i 0) 0 ≡ getD (map valueOf all) i 0
+      put q i (yes p) l =
+          rw (p, getD-set-same row (getD order c 0) x 0 (omega (arith, d .within c h, a .count)), q)
+          (sym (ap (λ (m : ℕ). getD (map valueOf all) m 0) (sym (add-zero c)) ∙ a .values-left 0 ∙ rw next))
+      put q i (no p) l =
+          getD-set-other row (getD order c 0) (getD order i 0) x 0 (λ z. p (d .distinct i c (omega arith) h z)) ∙ a .values-put i (omega (arith, p))
 
--- what is returned: a wrong column, or the values
-pub values-refused : {form : Form} {line v : List ℕ} (c : ℕ) → wrongForm form 1 (fieldsOf line) ≡ c + 1 → LineValues form line (c + 1) v
-values-refused c e = record { wrong-is = sym e; v-is = λ z. absurd (omega arith) }
+-- ---- what is returned: a wrong column, or the values
 
-pub values-many : {form : Form} {n : ℕ} {line v t : List ℕ} {fs ts : List (List ℕ)} {c : ℕ} → length form ≡ n → ValuesAt form (fieldsOf line) v fs c
-    → fs ≡ t ∷ ts → n ≤ c → LineValues form line (n + 1) v
+pub values-refused : {n : ℕ} {order line row : List ℕ} (c : ℕ) → length row ≡ n → wrongForm n 1 (fieldsOf line) ≡ c + 1 → LineValues n order line (c + 1) row
+values-refused c k e = record { wrong-is = sym e; count = k; values = λ z. absurd (omega arith) }
+
+pub values-many : {n : ℕ} {order line row t : List ℕ} {fs ts : List (List ℕ)} {c : ℕ} → ValuesAt n order (fieldsOf line) row fs c → fs ≡ t ∷ ts → n ≤ c
+    → LineValues n order line (n + 1) row
 unfolding wrongForm
-values-many {form} {line = line} {c = c} k a next h =
-    let e : wrongForm form 1 (fieldsOf line) ≡ c + 1 = a .wrong-left ∙ rw (next, lt-leb (c + 1) (length form) (omega arith)) in
-    record { wrong-is = omega (arith, a .most); v-is = λ z. absurd (omega arith) }
+values-many {n} {c = c} a next h =
+    values-refused n (a .count) (a .wrong-left ∙ rw (next, lt-leb (c + 1) n (omega arith)) (omega (arith, a .most)))
 
-module _ {form : Form} {line v : List ℕ} {c : ℕ} (a : ValuesAt form (fieldsOf line) v [] c) where
-  pub values-few : c < length form → LineValues form line (c + 1) v
+module _ {n : ℕ} {order line row : List ℕ} {c : ℕ} (a : ValuesAt n order (fieldsOf line) row [] c) where
+  pub values-few : c < n → LineValues n order line (c + 1) row
   unfolding wrongForm
-  values-few h = values-refused c (a .wrong-left ∙ rw (le-leb (c + 1) (length form) (omega arith)))
+  values-few h = values-refused c (a .count) (a .wrong-left ∙ rw (le-leb (c + 1) n (omega arith)))
 
-  pub values-end : length form ≤ c → LineValues form line 0 v
+  pub values-end : n ≤ c → LineValues n order line 0 row
   unfolding wrongForm
   values-end h =
       record {
-        wrong-is = sym (a .wrong-left ∙ rw (lt-leb (c + 1) (length form) (omega arith)));
-        v-is = λ z. sym (a .values-left ∙ append-nil _ ∙ take-all c v (omega (arith, a .count)));
+        wrong-is = sym (a .wrong-left ∙ rw (lt-leb (c + 1) n (omega arith)));
+        count = a .count;
+        values = λ z i l. a .values-put i (omega arith);
       }

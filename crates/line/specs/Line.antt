@@ -3,23 +3,22 @@
 use Prim.Native.Nat.{ℕ, suc, _-_}
 use mathlib.Core.Bool.{cond, _&&_}
 use mathlib.Core.List.{List, [], _∷_, map}
-use lib.ListN.{length, getD}
+use lib.ListN.{getD}
 use lib.Dec.{leb}
 use Rattle.text.specs.Value.{isValue, valueOf}
 use Rattle.case.specs.declared.Case.{Case}
-use Rattle.case.specs.Columns.{Form}
 use Rattle.case.specs.Case.{caseOf}
 
--- "value of a wrong form; too few values (first missing column); too many (19)": the leftmost wrong column from column c on, or 0;
--- the surplus column is one past the names of the form
-unfoldable pub wrongForm : Form → ℕ → List (List ℕ) → ℕ
-wrongForm form c [] = cond (leb c (length form)) c 0
-wrongForm form c (field ∷ fields) = cond (leb c (length form) && isValue field) (wrongForm form (suc c) fields) c
+-- "value of a wrong form; too few values (first missing column); too many (19)": the leftmost wrong column from column c on of a form of n names,
+-- or 0; the surplus column is one past the names
+unfoldable pub wrongForm : ℕ → ℕ → List (List ℕ) → ℕ
+wrongForm n c [] = cond (leb c n) c 0
+wrongForm n c (field ∷ fields) = cond (leb c n && isValue field) (wrongForm n (suc c) fields) c
 
 -- the values of a line's fields in the order of the form, where `at` lists the columns of its names
 unfoldable pub lineValues : List ℕ → List (List ℕ) → List ℕ
 lineValues at fields = map (λ c. getD (map valueOf fields) (c - 1) 0) at
 
--- the case of a line of document 01's form
+-- the case of a line of today's form
 unfoldable pub lineCase : List ℕ → List (List ℕ) → Case
 lineCase at fields = caseOf (lineValues at fields)

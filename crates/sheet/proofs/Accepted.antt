@@ -47,7 +47,7 @@ accepted s room n e =
     record { sheet = judging.accepted columns s n (c .lines); fits = ltb-false room (rowLength * n) (c .room-left) }
 
 -- the case of a sound line is within its bounds
-pub sound-bounds : {at line : List ℕ} → Placed columns at → SoundLine columns at line → Bounds (lineCase at (fieldsOf line))
+pub sound-bounds : {at line : List ℕ} → Placed (length columns) at → SoundLine columns at line → Bounds (lineCase at (fieldsOf line))
 unfolding lineCase lineValues caseFinding
 sound-bounds {at} {line} p l =
     bounds p (rw (values-of-case (lineValues at (fieldsOf line)) (length-map at _ ∙ p .count ∙ name-count)) (l .values-sound))

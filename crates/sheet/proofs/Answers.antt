@@ -1,27 +1,19 @@
 -- The claim about a sheet and its table, from the answer and the rows.
 -- Assumes nothing.
 use Prim.Native.Nat.{ℕ, _*_, _≤_, _<_}
-use mathlib.Core.Path.{_≡_, refl, sym, _∙_}
+use mathlib.Core.Path.{_≡_, refl}
 use mathlib.Core.List.{List}
 use lib.IntN.{ℤ}
 use lib.ListN.{length}
 use borrow.Author.Tests.{lt-ltb, le-ltb}
 use Rattle.row.specs.Row.{rowLength}
-use Rattle.judgement.proofs.Accepted.{accepted}
 use Rattle.sheet.specs.declared.Answer.the-variants.{Rows, Refused}
 use Rattle.case.specs.Columns.{columns}
-use Rattle.header.specs.Header.{columnsOf}
 use Rattle.judgement.specs.declared.Judgement.{Judgement}
 use Rattle.judgement.specs.declared.Judgement.the-variants as judged
-use Rattle.judgement.specs.Sheet.{names, valueLines, judgement}
+use Rattle.judgement.specs.Sheet.{judgement}
 use Rattle.sheet.specs.Answer.{tableRefused, answerBy, cases, answer}
-use Rattle.sheet.specs.Accepted.{Accepted}
 use Rattle.sheet.specs.Table.{Filled, TableAfter, Answered}
-use Rattle.sheet.specs.Rows.{casesOf}
-
-pub cases-are : (s : List ℕ) → casesOf (columnsOf columns (names s)) (valueLines s) ≡ cases s
-unfolding casesOf cases
-cases-are s = refl
 
 module _ {j : Judgement} (s : List ℕ) (t : List ℤ) (judged-is : j ≡ judgement columns s) where
   -- refused by its judgement
@@ -37,9 +29,3 @@ module _ {j : Judgement} (s : List ℕ) (t : List ℤ) (judged-is : j ≡ judgem
   pub answered-rows : {n : ℕ} {u : List ℤ} → j ≡ judged.Lines n → rowLength * n ≤ length t → Filled (cases s) t u → Answered s t u (Rows n)
   unfolding TableAfter answer answerBy
   answered-rows {n} e h f = record { answer-is = rw (← judged-is, e, le-ltb (length t) (rowLength * n) h); table-is = f }
-
-  -- what the writer of the rows needs
-  pub room-accepted : {n : ℕ} → j ≡ judged.Lines n → rowLength * n ≤ length t → Accepted s (length t) (length (valueLines s))
-  room-accepted {n} e h =
-      let a = accepted columns s n (sym judged-is ∙ e) in
-      record { sheet = rw (← a .count) a; fits = rw (← a .count) h }

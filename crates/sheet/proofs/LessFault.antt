@@ -26,7 +26,7 @@ use Rattle.sheet.specs.declared.Answer.the-variants.{Rows}
 use Rattle.sheet.specs.Answer.{cases}
 use Rattle.sheet.specs.Table.{rowAt, Filled, TableAfter, Answered}
 use Rattle.sheet.proofs.Accepted.{accepted, sound-bounds}
-use Rattle.sheet.proofs.Writing.{case-at}
+use Rattle.sheet.proofs.StoredCases.{case-at}
 
 -- the verdict in row i of a table, by its number
 abbrev pub verdictAt : List ℤ → ℕ → ℤ

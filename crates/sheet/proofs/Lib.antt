@@ -1,5 +1,5 @@
 pub mod Accepted
 pub mod RowParts
-pub mod Writing
+pub mod StoredCases
 pub mod Answers
 pub mod LessFault

@@ -1,23 +1,17 @@
--- Rows written one after the other.
+-- Rows written one after the other, from the values of a sheet's lines.
 -- Assumes nothing.
-use Prim.Native.Nat.{ℕ, _+_, _*_, _<_}
+use Prim.Native.Nat.{ℕ, _*_, _<_}
 use mathlib.Core.Path.{_≡_}
 use mathlib.Core.List.{List, [], map}
 use lib.IntN.{ℤ}
-use lib.ListN.{length, getD, take, drop}
-use Rattle.text.specs.Text.{fieldsOf}
+use lib.ListN.{length, getD, drop}
+use Rattle.tables.specs.Parts.{partAt, partsOf}
 use Rattle.case.specs.declared.Case.{Case}
 use Rattle.case.specs.Case.{caseOf}
+use Rattle.case.specs.Columns.{nameCount}
+use Rattle.case.specs.Bounds.{Bounds}
 use Rattle.row.specs.Row.{rowLength}
-use Rattle.line.specs.Line.{lineCase}
 use Rattle.sheet.specs.Table.{rowAt, RowOf}
-
--- row i of a table is written, and nothing else of it
-pub record Written (i : ℕ) (row before after : List ℤ) : Type 0 where
-  pub size : length after ≡ length before
-  pub row-is : rowAt after i ≡ row
-  pub front : take (rowLength * i) after ≡ take (rowLength * i) before
-  pub back : drop (rowLength * i + rowLength) after ≡ drop (rowLength * i + rowLength) before
 
 -- the first n rows are written, and nothing past them
 pub record FilledTo (cs : List Case) (n : ℕ) (before after : List ℤ) : Type 0 where
@@ -25,6 +19,10 @@ pub record FilledTo (cs : List Case) (n : ℕ) (before after : List ℤ) : Type 
   pub rows : (i : ℕ) → i < n → RowOf (getD cs i (caseOf [])) (rowAt after i)
   pub rest : drop (rowLength * n) after ≡ drop (rowLength * n) before
 
--- the cases of some lines
-unfoldable pub casesOf : List ℕ → List (List ℕ) → List Case
-casesOf at lines = map (λ line. lineCase at (fieldsOf line)) lines
+-- the cases of n lines of values that stand one after the other
+unfoldable pub storedCases : List ℕ → ℕ → List Case
+storedCases values n = map caseOf (partsOf nameCount n values)
+
+-- each is within its bounds
+abbrev pub StoredBounds : List ℕ → ℕ → Type 0
+StoredBounds values n = (i : ℕ) → i < n → Bounds (caseOf (partAt nameCount values i))

@@ -4,7 +4,8 @@ use Prim.Native.Nat.{ℕ, _*_, _<_}
 use mathlib.Core.Path.{_≡_}
 use mathlib.Core.List.{List, []}
 use lib.IntN.{ℤ}
-use lib.ListN.{length, getD, take, drop}
+use lib.ListN.{length, getD, drop}
+use Rattle.tables.specs.Parts.{partAt}
 use Rattle.case.specs.declared.Case.{Case}
 use Rattle.case.specs.Case.{caseOf}
 use Rattle.row.specs.Row.{RightRow, numbers, rowLength}
@@ -15,7 +16,7 @@ use Rattle.sheet.specs.Answer.{answer, cases}
 
 -- the numbers of row i
 abbrev pub rowAt : List ℤ → ℕ → List ℤ
-rowAt table i = take rowLength (drop (rowLength * i) table)
+rowAt table i = partAt rowLength table i
 
 -- some numbers are the row of a case, the same as the case asked alone has, and that row is right
 pub record RowOf (c : Case) (row : List ℤ) : Type 0 where

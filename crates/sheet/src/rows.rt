@@ -1,29 +1,25 @@
 // The rows of the table.
-ghost use mathlib.Core.Path.{_≡_};
 ghost use Prim.Native.Nat.{_≤_, _+_, _*_};
 ghost use lib.ListN.{length};
-ghost use Rattle.text.specs.Text.{linesOf};
-ghost use Rattle.case.specs.Columns.{columns};
-ghost use Rattle.case.specs.Bounds.{Bounds, Placed};
+ghost use Rattle.tables.specs.Parts.{Written};
+ghost use Rattle.case.specs.Columns.{nameCount};
+ghost use Rattle.case.specs.Bounds.{Bounds};
 ghost use Rattle.row.specs.Row.{numbers, rowLength};
 ghost use Rattle.row.specs.Ends.{rowOf};
-ghost use Rattle.judgement.specs.Accepted.{SoundLines};
-ghost use Rattle.sheet.specs.Rows.{Written, casesOf};
+ghost use Rattle.sheet.specs.Rows.{StoredBounds, storedCases};
 ghost use Rattle.sheet.specs.Table.{Filled};
 use case::Case;
 use case::NAMES;
-use line::case_line;
+use case::case_of;
 use row::ROW_LENGTH;
 use row::put_row;
 use row::work_row;
-use text::find;
-use text::skip;
 
 // Row i of the table.
 fn write_row(c: Case, table: &mut [i64], i: usize)
     requires { ⌜ Bounds c ⌝ }
     requires { ⌜ rowLength * i + rowLength ≤ length (now table) ⌝ }
-    ensures { λ _. ⌜ Written i (numbers (rowOf c)) (now (table .entry)) (now (table .exit)) ⌝ }
+    ensures { λ _. ⌜ Written rowLength i (numbers (rowOf c)) (now (table .entry)) (now (table .exit)) ⌝ }
 {
     let row = work_row(c);
     let a = ROW_LENGTH * i;
@@ -31,21 +27,19 @@ fn write_row(c: Case, table: &mut [i64], i: usize)
     put_row(row, &mut table[a..b]);
 }
 
-// The rows of the lines of s, which are sound.
-pub fn write_rows(s: &[u8], at: [usize; NAMES], table: &mut [i64])
-    requires { ⌜ Placed columns at ⌝ }
-    requires { ⌜ SoundLines columns at (linesOf (now s)) ⌝ }
-    requires { ⌜ rowLength * length (linesOf (now s)) ≤ length (now table) ⌝ }
-    ensures { λ _. ⌜ Filled (casesOf at (linesOf (now (s .entry)))) (now (table .entry)) (now (table .exit)) ⌝ }
+// The rows of n lines of values, which are sound.
+pub fn write_rows(values: &[u32], n: usize, table: &mut [i64])
+    requires { ⌜ StoredBounds (now values) n ⌝ }
+    requires { ⌜ nameCount * n ≤ length (now values) ⌝ }
+    requires { ⌜ rowLength * n ≤ length (now table) ⌝ }
+    ensures { λ _. ⌜ Filled (storedCases (now (values .entry)) n) (now (table .entry)) (now (table .exit)) ⌝ }
 {
-    let mut rest = s;
-    let mut n: usize = 0;
-    while 0 < rest.len() {
-        let e = find(rest, 10);
-        let c = case_line(&rest[..e], at);
-        write_row(c, table, n);
-        let next = skip(e, rest.len());
-        rest = &rest[next..];
-        n += 1;
+    let mut i: usize = 0;
+    while i < n {
+        let a = NAMES * i;
+        let b = a + NAMES;
+        let c = case_of(&values[a..b]);
+        write_row(c, table, i);
+        i += 1;
     }
 }

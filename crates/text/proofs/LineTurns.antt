@@ -3,12 +3,13 @@
 use Prim.Native.Nat.{ℕ, suc, _+_, _-_, _≤_, _<_}
 use mathlib.Core.Path.{_≡_, sym, ap, _∙_}
 use mathlib.Core.Logic.{⊎-elim}
-use mathlib.Core.List.{List, _∷_}
+use mathlib.Core.List.{List, [], _∷_}
 use native.Mathlib.Numerals.{add-one}
 use native.Mathlib.Nat.{eq-or-lt-of-le, lt-of-not-le}
 use native.Mathlib.Decide.{decLe}
 use native.Mathlib.Omega.{arith}
-use lib.ListN.{length, take, drop, length-drop, drop-of-length-le}
+use lib.ListN.{length, getD, take, drop, length-drop, drop-of-length-le}
+use lib.Seq.{drop-cons}
 use Rattle.text.specs.Text.{indexOf, linesOf}
 use Rattle.text.proofs.Searching.{index-within}
 use Rattle.text.proofs.Lines.{lines-next, lines-none}
@@ -57,3 +58,15 @@ counting-step {rest = rest} e r a some ends k =
 
 pub counting-end : {s rest : List ℕ} {n : ℕ} → Counting s rest n → length rest ≤ 0 → n ≡ length (linesOf s)
 counting-end {rest = rest} a h = omega (arith, a .lines, ap length (lines-none rest h))
+
+-- the line with index n of some lines is the first of those from n on
+pub record Next (n : ℕ) (ls : List (List ℕ)) (x : List ℕ) (rs : List (List ℕ)) : Type 0 where
+  pub within : n < length ls
+  pub is : getD ls n [] ≡ x
+  pub after : drop (n + 1) ls ≡ rs
+
+pub next-of : (n : ℕ) (ls : List (List ℕ)) (x : List ℕ) (rs : List (List ℕ)) → drop n ls ≡ x ∷ rs → Next n ls x rs
+next-of n ls x rs q =
+    let m : n < length ls = omega (arith, length-drop n ls, ap length q) in
+    let d : getD ls n [] ∷ drop (suc n) ls ≡ x ∷ rs = sym (drop-cons ls n [] m) ∙ q in
+    record { within = m; is = cc; after = rw add-one (cc) }

@@ -1,17 +1,37 @@
 -- `case::check` meets its contract: its columns are the places of the names.
 -- Assumes nothing.
+use mathlib.Core.Path.{sym, ap, _∙_}
+use lib.ListN.{length}
 use borrow.Author.Needs.{needs}
-use Rattle.case.specs.Columns.{columns}
-use Rattle.case.specs.Check.{countFrom, ownPlaces, recordFinding}
+use Rattle.case.specs.Columns.{columns, name-count}
+use Rattle.case.specs.Check.{countFrom, ownPlaces, finding, caseFinding, recordFinding}
+use Rattle.case.specs.Parts.{formOf}
 use Rattle.case.proofs.check.Statement.{statement}
 use Rattle.case.proofs.check.Tie as tie
 
-check-case-requires : tie.Need-check-case-requires
-check-case-requires c κs = search needs
+values-of-requires : tie.Need-values-of-requires
+values-of-requires c κs = search needs
+
+slice-aggregate-check-values : tie.Need-slice-aggregate-check-values
+slice-aggregate-check-values c = search needs
+
+slice-aggregate-check-values-2 : tie.Need-slice-aggregate-check-values-2
+slice-aggregate-check-values-2 c = search needs
+
+check-values-requires : tie.Need-check-values-requires
+unfolding formOf
+check-values-requires c κs = (sym name-count, ap length (c .before .before .values-of .ensures) ∙ sym name-count)
 
 returns : tie.Need-returns
-unfolding recordFinding ownPlaces countFrom columns
-returns c = c .check-case .ensures
+unfolding recordFinding caseFinding ownPlaces countFrom columns formOf
+returns c = c .check-values .ensures ∙ ap (finding columns _) (c .before .before .before .values-of .ensures)
 
 pub check-spec : {M : Type 1} → statement M
-check-spec = tie.close (tie.spec check-case-requires returns)
+check-spec =
+    tie.close
+    (tie.spec
+    values-of-requires
+    slice-aggregate-check-values
+    slice-aggregate-check-values-2
+    check-values-requires
+    returns)

@@ -1,7 +1,12 @@
--- `on_sheet` hands over the columns of a line of names that is not refused: each name has its own.
+-- `on_sheet` hands over the names of the columns of a line of names that is not refused: each column has its own.
 -- Assumes nothing.
-use Rattle.text.proofs.FieldTurns.{part-length}
+use mathlib.Core.Path.{sym, _∙_}
 use borrow.Author.Needs.{needs}
+use Rattle.text.proofs.FieldTurns.{part-length}
+use Rattle.case.specs.Columns.{name-count}
+use Rattle.case.specs.Parts.{formOf}
+use Rattle.case.proofs.Order.{distinct}
+use Rattle.header.specs.Header.{noColumns}
 use Rattle.fewest.proofs.on_sheet.Statement.{statement}
 use Rattle.fewest.proofs.on_sheet.Tie as tie
 
@@ -11,8 +16,15 @@ find-requires c κs = search needs
 slice-aggregate-read-header : tie.Need-slice-aggregate-read-header
 slice-aggregate-read-header c = part-length 10 _ _ (c .before .find .ensures)
 
+slice-aggregate-read-header-2 : tie.Need-slice-aggregate-read-header-2
+slice-aggregate-read-header-2 c = search needs
+
+slice-aggregate-read-header-3 : tie.Need-slice-aggregate-read-header-3
+slice-aggregate-read-header-3 c = search needs
+
 read-header-requires : tie.Need-read-header-requires
-read-header-requires c κs = search needs
+unfolding formOf noColumns
+read-header-requires c κs = (rw name-count, sym name-count)
 
 refused-requires : tie.Need-refused-requires
 refused-requires c κs = search needs
@@ -32,8 +44,15 @@ part-on-values-start c = search needs
 part-on-values-end : tie.Need-part-on-values-end
 part-on-values-end c = search needs
 
+slice-aggregate-on-values : tie.Need-slice-aggregate-on-values
+unfolding formOf
+slice-aggregate-on-values c = sym (c .before .before .before .before .before .before .read-header .ensures .order-all ∙ name-count)
+
 on-values-requires : tie.Need-on-values-requires
-on-values-requires c κs = let e = c .before .before in e .before .before .read-header .ensures .placed (e .if1 .left)
+unfolding formOf
+on-values-requires c κs =
+    let e = c .before .before .before in
+    rw (← name-count) (distinct (e .before .before .before .read-header .ensures .ordered (e .if1 .left)))
 
 returns-2 : tie.Need-returns-2
 returns-2 c = search needs
@@ -44,6 +63,8 @@ on-sheet-spec =
     (tie.spec
     find-requires
     slice-aggregate-read-header
+    slice-aggregate-read-header-2
+    slice-aggregate-read-header-3
     read-header-requires
     refused-requires
     returns
@@ -51,5 +72,6 @@ on-sheet-spec =
     sub-on-values
     part-on-values-start
     part-on-values-end
+    slice-aggregate-on-values
     on-values-requires
     returns-2)

@@ -1,29 +1,33 @@
 -- `header::read_header` meets its contract: the reading of proofs/HeaderReading.antt.
 -- Assumes nothing.
-use Prim.Native.Nat.{_≤_, _<_}
-use mathlib.Core.Path.{_≡_, sym, _∙_}
+use Prim.Native.Nat.{_+_, _-_, _≤_, _<_}
+use mathlib.Core.Path.{_≡_, sym, ap, _∙_}
+use mathlib.Core.List.{[]}
 use native.Mathlib.Omega.{arith}
 use borrow.Author.Needs.{needs}
-use lib.ListN.{length, take}
+use lib.ListN.{length, take, set}
 use Rattle.text.specs.Text.{fieldsOf}
 use Rattle.text.proofs.FieldTurns.{part-length, field-first, field-last, field-next}
-use Rattle.case.specs.Columns.{columns, nameCount, name-count}
+use Rattle.case.specs.Parts.{formOf}
+use Rattle.case.proofs.Findings.{form-most}
 use Rattle.header.specs.declared.names.Found.the-variants.{At}
 use Rattle.header.specs.Parts.{foundName}
-use Rattle.header.specs.Header.{noColumns}
-use Rattle.header.proofs.HeaderReading.{HeaderAt, header-start, header-unknown, header-within, header-again, header-step, header-few, header-refused, header-end}
+use Rattle.header.proofs.HeaderReading.{HeaderAt, no-columns-count, OrderAt, HeaderTurn, turn-start, header-unknown, header-within, header-room, header-again, header-step, order-step, header-few, header-refused, header-end}
 use Rattle.header.proofs.read_header.Statement.{statement}
 use Rattle.header.proofs.read_header.Tie as tie
 
 abbrev Inv-loop : tie.InvT-loop
-Inv-loop line at₀ rest₀ c₀ at rest c = HeaderAt columns (fieldsOf line) at (fieldsOf rest) c × (length rest ≤ length line)
+Inv-loop form line at₀ order₀ rest₀ c₀ at order rest c = HeaderTurn (formOf form) line at order rest c
 
 abbrev μ-loop : tie.MeasureT-loop
-μ-loop line at₀ rest₀ c₀ at rest c = length rest
+μ-loop form line at₀ order₀ rest₀ c₀ at order rest c = length rest
 
 loop-holds : tie.Need-loop-holds Inv-loop μ-loop
-unfolding noColumns
-loop-holds c = (rw name-count at (header-start columns (fieldsOf (c .before .args .line .now))), search needs)
+loop-holds c = let s = c .before .before .before in rw (s .pre .0) (turn-start _ _ _ (s .pre .1))
+
+-- the table of columns has one for each name
+columns-all : (s : tie.Start Inv-loop μ-loop) → length (s .args .at .now) ≡ length (formOf (s .args .form))
+columns-all s = ap length (s .pre .0) ∙ no-columns-count _
 
 find-requires : tie.Need-find-requires Inv-loop μ-loop
 find-requires c κs = search needs
@@ -40,46 +44,91 @@ enum-known-found c = search needs
 enum-told : tie.Need-enum-told Inv-loop μ-loop
 enum-told c = search needs
 
+-- the lengths of both tables stay
+at-kept : (l : tie.At-loop Inv-loop μ-loop) → length (l .loop .at) ≡ length (l .before .before .before .before .args .at .now)
+at-kept l = l .loop .inv .header .count ∙ sym (columns-all (l .before .before .before .before))
+
+order-kept : (l : tie.At-loop Inv-loop μ-loop) → length (l .loop .order) ≡ length (l .before .before .before .before .args .order .now)
+order-kept l = l .loop .inv .named .count ∙ sym (l .before .before .before .before .pre .1)
+
+same-length : tie.Need-same-length Inv-loop μ-loop
+same-length c = at-kept (c .before .before .before .before .before)
+
+same-length-2 : tie.Need-same-length-2 Inv-loop μ-loop
+same-length-2 c = order-kept (c .before .before .before .before .before)
+
 returns : tie.Need-returns Inv-loop μ-loop
 returns c =
     let m = c .before .before in
     let l = m .before .before .before in
-    header-refused (l .loop .inv .0)
-    (header-unknown (l .loop .inv .0) (field-first _ _ (m .before .before .find .ensures)) (sym (m .name-of .ensures) ∙ c .enum-told .given .1))
+    let a = l .loop .inv in
+    header-refused (a .header) (a .named)
+    (header-unknown (a .header) (field-first _ _ (m .before .before .find .ensures)) (sym (m .name-of .ensures) ∙ c .enum-told .given .1))
 
 -- the name that was found
 found-is : (c : tie.After-known-told Inv-loop μ-loop)
-    → foundName columns (take (c .before .before .before .before .before .find .result) (c .before .before .before .before .before .before .loop .rest .now))
+    → foundName (formOf (c .before .before .before .before .before .before .before .before .before .before .args .form)) (take (c .before .before .before .before .before .find .result) (c .before .before .before .before .before .before .loop .rest .now))
     ≡ At (c .before .found .given .0 .0)
 found-is c = sym (c .before .before .before .name-of .ensures) ∙ c .before .found .given .1
 
-within : (c : tie.After-known-told Inv-loop μ-loop) → c .before .found .given .0 .0 < nameCount
+within : (c : tie.After-known-told Inv-loop μ-loop) → c .before .found .given .0 .0 < length (formOf (c .before .before .before .before .before .before .before .before .before .before .args .form))
 within c =
     let m = c .before .before .before in
     let l = m .before .before .before in
-    rw (← name-count) (header-within (l .loop .inv .0) (field-first _ _ (m .before .before .find .ensures)) (found-is c))
+    header-within (l .loop .inv .header) (field-first _ _ (m .before .before .find .ensures)) (found-is c)
 
 mul-if1 : tie.Need-mul-if1 Inv-loop μ-loop
-mul-if1 c = omega (arith, within c)
+mul-if1 c = omega (arith, within c, form-most (c .before .before .before .before .before .before .before .before .before .before .args .form))
 
-array-read-if1 : tie.Need-array-read-if1 Inv-loop μ-loop
-array-read-if1 c = within c
+slice-read-if1 : tie.Need-slice-read-if1 Inv-loop μ-loop
+slice-read-if1 c = omega (arith, within (c .before), c .before .before .before .before .before .before .before .loop .inv .header .count)
+
+same-length-3 : tie.Need-same-length-3 Inv-loop μ-loop
+same-length-3 c = at-kept (c .before .before .before .before .before .before .before .before)
+
+same-length-4 : tie.Need-same-length-4 Inv-loop μ-loop
+same-length-4 c = order-kept (c .before .before .before .before .before .before .before .before)
 
 returns-2 : tie.Need-returns-2 Inv-loop μ-loop
 returns-2 c =
-    let m = c .before .before .before .before in
-    let l = m .before .before .before in
-    header-refused (l .loop .inv .0)
-    (header-again (l .loop .inv .0) (field-first _ _ (m .before .before .find .ensures)) (found-is (c .before)) (c .if1 .taken))
+    let k = c .before .before in
+    let m = k .before .before .before in
+    let a = m .before .before .before .loop .inv in
+    header-refused (a .header) (a .named) (header-again (a .header) (field-first _ _ (m .before .before .find .ensures)) (found-is k) (c .if1 .taken))
+
+-- the turn in which a name without a column gets one
+abbrev turn : (c : tie.Else1 Inv-loop μ-loop) → tie.At-loop Inv-loop μ-loop
+turn c = c .before .before .before .before .before .before .before .before
+
+room : (c : tie.Else1 Inv-loop μ-loop) → turn c .loop .c ≤ length (formOf (turn c .before .before .before .before .args .form))
+room c =
+    let k = c .before .before in
+    let m = k .before .before .before in
+    let a = m .before .before .before .loop .inv in
+    header-room (a .header) (field-first _ _ (m .before .before .find .ensures)) (found-is k) (c .if1 .left)
+
+-- the names of the columns after it
+named : (c : tie.Else1 Inv-loop μ-loop)
+    → OrderAt (formOf (turn c .before .before .before .before .args .form)) (set (turn c .loop .at) (c .before .before .before .found .given .0 .0) (turn c .loop .c)) (set (turn c .loop .order) (turn c .loop .c - 1) (c .before .before .before .found .given .0 .0)) (turn c .loop .c + 1)
+named c = order-step _ (turn c .loop .inv .header) (turn c .loop .inv .named) (within (c .before .before)) (room c) (c .if1 .left)
 
 mul-at : tie.Need-mul-at Inv-loop μ-loop
-mul-at c = omega (arith, within (c .before))
+mul-at c = omega (arith, within (c .before .before), form-most (turn c .before .before .before .before .args .form))
 
-array-write-at : tie.Need-array-write-at Inv-loop μ-loop
-array-write-at c = within (c .before)
+slice-write-at : tie.Need-slice-write-at Inv-loop μ-loop
+slice-write-at c = omega (arith, within (c .before .before), turn c .loop .inv .header .count)
+
+sub-order : tie.Need-sub-order Inv-loop μ-loop
+sub-order c = turn c .loop .inv .header .first
+
+mul-order : tie.Need-mul-order Inv-loop μ-loop
+mul-order c = omega (arith, room c, form-most (turn c .before .before .before .before .args .form))
+
+slice-write-order : tie.Need-slice-write-order Inv-loop μ-loop
+slice-write-order c = omega (arith, room c, turn c .loop .inv .header .first, turn c .loop .inv .named .count)
 
 add-c : tie.Need-add-c Inv-loop μ-loop
-add-c c = omega (arith, c .before .before .before .before .before .before .before .loop .inv .0 .left, name-count)
+add-c c = omega (arith, room c, form-most (turn c .before .before .before .before .args .form))
 
 add-rest : tie.Need-add-rest Inv-loop μ-loop
 add-rest c = search needs
@@ -98,28 +147,41 @@ loop-less c = search needs
 
 loop-again : tie.Need-loop-again Inv-loop μ-loop
 loop-again c =
-    let k = c .before .before .before in
-    let m = k .before .before .before in
-    let l = m .before .before .before in (
-      header-step (l .loop .inv .0) (field-next _ _ (m .before .before .find .ensures) (c .before .if2 .left)) (found-is k) (search needs),
-      omega (arith, c .rest .given .2),
-    )
+    let k = c .before .before in
+    let f = k .before .before .before .before .before .before .before in
+    record {
+      header = header-step (turn k .loop .inv .header) (field-next _ _ (f .find .ensures) (c .before .if2 .left)) (found-is (k .before .before)) (k .if1 .left);
+      named = named k;
+      short = omega (arith, c .rest .given .2, turn k .loop .inv .short);
+    }
+
+-- the last name
+stepped : (c : tie.Then2 Inv-loop μ-loop)
+    → HeaderAt (formOf (turn (c .before) .before .before .before .before .args .form)) (fieldsOf (turn (c .before) .before .before .before .before .args .line .now)) (set (turn (c .before) .loop .at) (c .before .before .before .before .found .given .0 .0) (turn (c .before) .loop .c)) [] (turn (c .before) .loop .c + 1)
+stepped c =
+    let k = c .before in
+    let f = k .before .before .before .before .before .before .before in
+    header-step (turn k .loop .inv .header) (field-last _ _ (f .find .ensures) (c .if2 .taken)) (found-is (k .before .before)) (k .if1 .left)
+
+same-length-5 : tie.Need-same-length-5 Inv-loop μ-loop
+same-length-5 c = stepped (c .before) .count ∙ sym (columns-all (turn (c .before .before) .before .before .before .before))
+
+same-length-6 : tie.Need-same-length-6 Inv-loop μ-loop
+same-length-6 c = named (c .before .before) .count ∙ sym (turn (c .before .before) .before .before .before .before .pre .1)
 
 returns-3 : tie.Need-returns-3 Inv-loop μ-loop
 returns-3 c =
-    let k = c .before .before .before in
-    let m = k .before .before .before in
-    let l = m .before .before .before in
-    let h = header-step (l .loop .inv .0) (field-last _ _ (m .before .before .find .ensures) (c .before .if2 .taken)) (found-is k) (search needs) in
-    header-refused h (header-few h (omega (arith, name-count)))
+    let h = stepped (c .before) in
+    header-refused h (named (c .before .before)) (header-few h (omega (arith, c .if3 .taken, h .count)))
+
+same-length-7 : tie.Need-same-length-7 Inv-loop μ-loop
+same-length-7 c = stepped (c .before) .count ∙ sym (columns-all (turn (c .before .before) .before .before .before .before))
+
+same-length-8 : tie.Need-same-length-8 Inv-loop μ-loop
+same-length-8 c = named (c .before .before) .count ∙ sym (turn (c .before .before) .before .before .before .before .pre .1)
 
 returns-4 : tie.Need-returns-4 Inv-loop μ-loop
-returns-4 c =
-    let k = c .before .before .before in
-    let m = k .before .before .before in
-    let l = m .before .before .before in
-    header-end (header-step (l .loop .inv .0) (field-last _ _ (m .before .before .find .ensures) (c .before .if2 .taken)) (found-is k) (search needs))
-    (omega (arith, name-count))
+returns-4 c = header-end (stepped (c .before)) (named (c .before .before)) (omega (arith, c .if3 .left, stepped (c .before) .count))
 
 pub read-header-spec : {M : Type 1} → statement M
 read-header-spec =
@@ -133,12 +195,19 @@ read-header-spec =
     name-of-requires
     enum-known-found
     enum-told
+    same-length
+    same-length-2
     returns
     mul-if1
-    array-read-if1
+    slice-read-if1
+    same-length-3
+    same-length-4
     returns-2
     mul-at
-    array-write-at
+    slice-write-at
+    sub-order
+    mul-order
+    slice-write-order
     add-c
     add-rest
     sub-rest
@@ -146,5 +215,9 @@ read-header-spec =
     part-rest-end
     loop-less
     loop-again
+    same-length-5
+    same-length-6
     returns-3
+    same-length-7
+    same-length-8
     returns-4)

@@ -1,28 +1,34 @@
 -- `line::read_values` meets its contract: the reading of proofs/ValuesReading.antt.
 -- Assumes nothing.
-use Prim.Native.Nat.{_≤_}
-use mathlib.Core.Path.{refl}
+use Prim.Native.Nat.{_+_, _≤_, _<_}
+use mathlib.Core.Path.{_≡_, refl, _∙_}
+use mathlib.Core.List.{List, []}
 use native.Mathlib.Omega.{arith}
 use borrow.Author.Needs.{needs}
-use lib.ListN.{length}
+use lib.ListN.{length, getD, set}
 use Rattle.text.specs.Text.{fieldsOf}
-use Rattle.case.specs.Columns.{columns, name-count}
 use Rattle.text.proofs.FieldTurns.{part-length, field-first, field-last, field-next}
 use Rattle.line.proofs.ValuesReading.{ValuesAt, values-start, values-wrong, values-step, values-refused, values-many, values-few, values-end}
 use Rattle.line.proofs.read_values.Statement.{statement}
 use Rattle.line.proofs.read_values.Tie as tie
 
 abbrev Inv-loop : tie.InvT-loop
-Inv-loop line v₀ rest₀ c₀ v rest c = ValuesAt columns (fieldsOf line) v (fieldsOf rest) c × (length rest ≤ length line)
+Inv-loop line order row₀ n rest₀ c₀ row rest c = ValuesAt n order (fieldsOf line) row (fieldsOf rest) c × (length rest ≤ length line)
 
 abbrev μ-loop : tie.MeasureT-loop
-μ-loop line v₀ rest₀ c₀ v rest c = length rest
+μ-loop line order row₀ n rest₀ c₀ row rest c = length rest
 
 loop-holds : tie.Need-loop-holds Inv-loop μ-loop
-loop-holds c = (values-start _ name-count, search needs)
+loop-holds c = (values-start _ _ _, search needs)
+
+add-result : tie.Need-add-result Inv-loop μ-loop
+add-result c = search needs
+
+same-length : tie.Need-same-length Inv-loop μ-loop
+same-length c = c .before .loop .inv .0 .count
 
 returns : tie.Need-returns Inv-loop μ-loop
-returns c = values-many name-count (c .before .loop .inv .0) (field-first (c .before .loop .rest .now) _ refl) (c .if1 .taken)
+returns c = values-many (c .before .loop .inv .0) (field-first (c .before .loop .rest .now) _ refl) (c .if1 .taken)
 
 find-requires : tie.Need-find-requires Inv-loop μ-loop
 find-requires c κs = search needs
@@ -39,20 +45,38 @@ enum-known-f c = search needs
 enum-told : tie.Need-enum-told Inv-loop μ-loop
 enum-told c = search needs
 
-add-t12 : tie.Need-add-t12 Inv-loop μ-loop
-add-t12 c = search needs
+add-result-2 : tie.Need-add-result-2 Inv-loop μ-loop
+add-result-2 c = search needs
+
+same-length-2 : tie.Need-same-length-2 Inv-loop μ-loop
+same-length-2 c = c .before .before .before .before .before .before .loop .inv .0 .count
 
 returns-2 : tie.Need-returns-2 Inv-loop μ-loop
 returns-2 c =
     let m = c .before .before in
-    let l = m .before .before .before .before in
-    values-refused _ (values-wrong (l .loop .inv .0) (field-first _ _ (m .before .before .find .ensures)) (m .value .ensures) (omega (arith, name-count)) (c .enum-told .given .1))
+    let f = m .before .before in
+    let a = f .before .before .loop .inv .0 in
+    values-refused _ (a .count) (values-wrong a (field-first _ _ (f .find .ensures)) (m .value .ensures) (f .before .if1 .left) (c .enum-told .given .1))
 
-mul-v : tie.Need-mul-v Inv-loop μ-loop
-mul-v c = search needs
+mul-k : tie.Need-mul-k Inv-loop μ-loop
+mul-k c = search needs
 
-array-write-v : tie.Need-array-write-v Inv-loop μ-loop
-array-write-v c = search needs
+-- the turn of the loop, and the index of the next column's name
+abbrev turn : tie.After-shared-slice-known3 Inv-loop μ-loop → tie.Else1 Inv-loop μ-loop
+turn c = c .before .before .before .before .before .before .before
+
+shared-slice-read-k : tie.Need-shared-slice-read-k Inv-loop μ-loop
+shared-slice-read-k c = omega (arith, turn c .if1 .left, turn c .before .before .before .before .before .pre .count)
+
+within : (c : tie.After-shared-slice-known3 Inv-loop μ-loop)
+    → getD (turn c .before .before .before .before .before .args .order .now) (turn c .before .loop .c) 0 < length (turn c .before .before .before .before .before .args .row .now)
+within c = turn c .before .before .before .before .before .pre .within _ (turn c .if1 .left)
+
+mul-row : tie.Need-mul-row Inv-loop μ-loop
+mul-row c = omega (arith, within c)
+
+slice-write-row : tie.Need-slice-write-row Inv-loop μ-loop
+slice-write-row c = omega (arith, within c, turn c .before .loop .inv .0 .count)
 
 add-c : tie.Need-add-c Inv-loop μ-loop
 add-c c = search needs
@@ -74,28 +98,36 @@ loop-less c = search needs
 
 loop-again : tie.Need-loop-again Inv-loop μ-loop
 loop-again c =
-    let m = c .before .before .before .before .before in
-    let l = m .before .before .before .before in (
-      values-step (l .loop .inv .0) (field-next _ _ (m .before .before .find .ensures) (c .before .if2 .left)) (m .value .ensures) _ (omega (arith, name-count)) (c .before .before .before .f .given .1),
+    let k = c .before .before in
+    let m = k .before .before .before .before in
+    let f = m .before .before in (
+      values-step (turn k .before .loop .inv .0) (field-next _ _ (f .find .ensures) (c .before .if2 .left)) (m .value .ensures) (turn k .if1 .left) _ (turn k .before .before .before .before .before .pre) (k .before .before .f .given .1),
       omega (arith, c .rest .given .2),
     )
 
-add-t21 : tie.Need-add-t21 Inv-loop μ-loop
-add-t21 c = search needs
+-- the last value
+stepped : (c : tie.Then2 Inv-loop μ-loop)
+    → ValuesAt (length (turn (c .before) .before .before .before .before .before .args .row .now)) (turn (c .before) .before .before .before .before .before .args .order .now) (fieldsOf (turn (c .before) .before .before .before .before .before .args .line .now)) (set (turn (c .before) .before .loop .row) (getD (turn (c .before) .before .before .before .before .before .args .order .now) (turn (c .before) .before .loop .c) 0) (c .before .before .before .f .given .0 .0)) [] (turn (c .before) .before .loop .c + 1)
+stepped c =
+    let k = c .before in
+    let m = k .before .before .before .before in
+    let f = m .before .before in
+    values-step (turn k .before .loop .inv .0) (field-last _ _ (f .find .ensures) (c .if2 .taken)) (m .value .ensures) (turn k .if1 .left) _ (turn k .before .before .before .before .before .pre) (k .before .before .f .given .1)
+
+add-result-3 : tie.Need-add-result-3 Inv-loop μ-loop
+add-result-3 c = search needs
+
+same-length-3 : tie.Need-same-length-3 Inv-loop μ-loop
+same-length-3 c = stepped (c .before) .count
 
 returns-3 : tie.Need-returns-3 Inv-loop μ-loop
-returns-3 c =
-    let m = c .before .before .before .before .before in
-    let l = m .before .before .before .before in
-    values-few (values-step (l .loop .inv .0) (field-last _ _ (m .before .before .find .ensures) (c .before .if2 .taken)) (m .value .ensures) _ (omega (arith, name-count)) (c .before .before .before .f .given .1))
-    (omega (arith, name-count))
+returns-3 c = values-few (stepped (c .before)) (c .if3 .taken)
+
+same-length-4 : tie.Need-same-length-4 Inv-loop μ-loop
+same-length-4 c = stepped (c .before) .count
 
 returns-4 : tie.Need-returns-4 Inv-loop μ-loop
-returns-4 c =
-    let m = c .before .before .before .before .before in
-    let l = m .before .before .before .before in
-    values-end (values-step (l .loop .inv .0) (field-last _ _ (m .before .before .find .ensures) (c .before .if2 .taken)) (m .value .ensures) _ (omega (arith, name-count)) (c .before .before .before .f .given .1))
-    (omega (arith, name-count))
+returns-4 c = values-end (stepped (c .before)) (c .if3 .left)
 
 pub read-values-spec : {M : Type 1} → statement M
 read-values-spec =
@@ -104,16 +136,21 @@ read-values-spec =
     Inv-loop
     μ-loop
     loop-holds
+    add-result
+    same-length
     returns
     find-requires
     slice-aggregate-value
     value-requires
     enum-known-f
     enum-told
-    add-t12
+    add-result-2
+    same-length-2
     returns-2
-    mul-v
-    array-write-v
+    mul-k
+    shared-slice-read-k
+    mul-row
+    slice-write-row
     add-c
     add-rest
     sub-rest
@@ -121,6 +158,8 @@ read-values-spec =
     part-rest-end
     loop-less
     loop-again
-    add-t21
+    add-result-3
+    same-length-3
     returns-3
+    same-length-4
     returns-4)

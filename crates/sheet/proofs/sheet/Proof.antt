@@ -1,17 +1,34 @@
--- `sheet` judges, then writes where the table has room.
+-- `sheet` reads, then writes where the table has room.
 -- Assumes nothing.
+use Prim.Native.Nat.{ℕ, _*_, _≤_}
 use mathlib.Core.Path.{_≡_, sym, _∙_}
 use native.Mathlib.Omega.{arith}
-use Rattle.case.specs.Columns.{columns}
-use Rattle.judgement.specs.declared.Judgement.the-variants.{Lines}
-use Rattle.judgement.proofs.Accepted.{accepted}
-use Rattle.sheet.proofs.Answers.{answered-refused, answered-short, answered-rows, room-accepted}
+use lib.ListN.{length}
 use borrow.Author.Needs.{needs}
+use Rattle.case.specs.Columns.{columns, nameCount, name-count}
+use Rattle.case.specs.Parts.{formOf}
+use Rattle.judgement.specs.declared.Judgement.the-variants.{Lines}
+use Rattle.judgement.specs.Limits.{mostLines}
+use Rattle.judgement.specs.Accepted as judged
+use Rattle.judgement.specs.Sheet.{names, valueLines, judgement}
+use Rattle.judgement.specs.Read.{Stored}
+use Rattle.header.specs.Header.{columnsOf}
+use Rattle.judgement.proofs.Accepted.{accepted}
+use Rattle.sheet.proofs.Answers.{answered-refused, answered-short, answered-rows}
+use Rattle.sheet.proofs.StoredCases.{stored-cases, stored-bounds}
 use Rattle.sheet.proofs.sheet.Statement.{statement}
 use Rattle.sheet.proofs.sheet.Tie as tie
 
-judge-requires : tie.Need-judge-requires
-judge-requires c κs = search needs
+slice-aggregate-read : tie.Need-slice-aggregate-read
+slice-aggregate-read c = search needs
+
+-- a store for the most lines of today's form
+store-room : length columns * mostLines ≤ nameCount * mostLines
+store-room = omega (arith, name-count)
+
+read-requires : tie.Need-read-requires
+unfolding formOf
+read-requires c κs = store-room
 
 enum-known-number : tie.Need-enum-known-number
 enum-known-number c = search needs
@@ -19,43 +36,72 @@ enum-known-number c = search needs
 enum-known-n : tie.Need-enum-known-n
 enum-known-n c = search needs
 
+-- ---- the sheet as it was read
+
+abbrev start : tie.After-read → tie.Start
+start r = r .before .before .before
+
+judged-is : (r : tie.After-read) → r .read .result ≡ judgement columns (start r .args .s .now)
+unfolding formOf
+judged-is r = r .read .ensures .answer-is
+
+store-count : (r : tie.After-read) → length (r .read .last .1 .1 .0) ≡ nameCount * mostLines
+store-count r = r .read .ensures .size
+
+-- n lines
+module _ (r : tie.After-read) {n : ℕ} (e : r .read .result ≡ Lines n) where
+  lines-accepted : judged.Accepted columns (start r .args .s .now) n
+  lines-accepted = accepted columns _ _ (sym (judged-is r) ∙ e)
+
+  lines-stored : Stored columns (columnsOf columns (names (start r .args .s .now))) (valueLines (start r .args .s .now)) (r .read .last .1 .1 .0)
+  unfolding formOf
+  lines-stored = r .read .ensures .stored _ e
+
 mul-if1 : tie.Need-mul-if1
-mul-if1 c =
-    let j = c .before .before .before in
-    omega (arith, accepted columns _ _ (sym (j .judge .ensures) ∙ c .before .n .given .1) .most)
+mul-if1 c = omega (arith, lines-accepted (c .before .before .before .before) (c .before .n .given .1) .most)
 
 returns : tie.Need-returns
 returns c =
     let n = c .before .before in
-    answered-short _ _ (n .before .before .judge .ensures) (n .n .given .1) (c .if1 .taken)
+    answered-short _ _ (judged-is (n .before .before .before)) (n .n .given .1) (c .if1 .taken)
 
-fill-requires : tie.Need-fill-requires
-fill-requires c κs =
-    let n = c .before .before .before in
-    let s = n .before .before .before .before in
-    room-accepted _ (s .args .table .now) (n .before .before .judge .ensures) (n .n .given .1) (c .before .if1 .left)
+slice-aggregate-write-rows : tie.Need-slice-aggregate-write-rows
+slice-aggregate-write-rows c = sym (store-count (c .before .before .before .before .before .before))
+
+write-rows-requires : tie.Need-write-rows-requires
+write-rows-requires c κs =
+    let e = c .before .before in
+    let n = e .before .before in
+    let r = n .before .before .before in
+    let a = lines-accepted r (n .n .given .1) in
+    (stored-bounds _ a (lines-stored r (n .n .given .1)), (omega (arith, store-count r, a .most), e .if1 .left))
 
 returns-2 : tie.Need-returns-2
-returns-2 c = answered-refused _ _ (c .before .before .before .judge .ensures) (c .before .number .given .1)
+returns-2 c = answered-refused _ _ (judged-is (c .before .before .before .before)) (c .before .number .given .1)
 
 same-length : tie.Need-same-length
 same-length c = search needs
 
 returns-3 : tie.Need-returns-3
 returns-3 c =
-    let n = c .before .before .before .before .before in
-    answered-rows _ _ (n .before .before .judge .ensures) (n .n .given .1) (c .before .before .before .if1 .left) (c .before .fill .ensures)
+    let e = c .before .before .before .before in
+    let n = e .before .before in
+    let r = n .before .before .before in
+    answered-rows _ _ (judged-is r) (n .n .given .1) (e .if1 .left)
+    (rw (← stored-cases _ (lines-accepted r (n .n .given .1)) (lines-stored r (n .n .given .1))) (c .before .write-rows .ensures))
 
 pub sheet-spec : {M : Type 1} → statement M
 sheet-spec =
     tie.close
     (tie.spec
-    judge-requires
+    slice-aggregate-read
+    read-requires
     enum-known-number
     enum-known-n
     mul-if1
     returns
-    fill-requires
+    slice-aggregate-write-rows
+    write-rows-requires
     returns-2
     same-length
     returns-3)

@@ -1,19 +1,21 @@
--- `asked::fields::record` is safe and ends: the measure is what is left of the numbers.
+-- `asked::fields::record` is safe and ends: the measure is what is left of the numbers, and the record keeps its length.
 -- Assumes nothing.
 use Prim.Native.Nat.{_-_}
-use lib.ListN.{length}
+use mathlib.Core.Path.{_≡_, refl, sym}
+use lib.ListN.{length, length-set}
 use borrow.Author.Needs.{needs}
+use Rattle.case.specs.Columns.{nameCount}
 use Rattle.asked.proofs.fields.record.Statement.{statement}
 use Rattle.asked.proofs.fields.record.Tie as tie
 
 abbrev Inv-loop : tie.InvT-loop
-Inv-loop v r₀ i₀ r i = Unit
+Inv-loop v r₀ i₀ r i = length r ≡ nameCount
 
 abbrev μ-loop : tie.MeasureT-loop
 μ-loop v r₀ i₀ r i = length v - i
 
 loop-holds : tie.Need-loop-holds Inv-loop μ-loop
-loop-holds c = search needs
+loop-holds c = refl
 
 mul-held : tie.Need-mul-held Inv-loop μ-loop
 mul-held c = search needs
@@ -37,7 +39,13 @@ loop-less : tie.Need-loop-less Inv-loop μ-loop
 loop-less c = search needs
 
 loop-again : tie.Need-loop-again Inv-loop μ-loop
-loop-again c = search needs
+loop-again c = rw length-set (c .before .before .loop .inv)
+
+slice-aggregate-case-of : tie.Need-slice-aggregate-case-of Inv-loop μ-loop
+slice-aggregate-case-of c = sym (c .before .before .loop .inv)
+
+case-of-requires : tie.Need-case-of-requires Inv-loop μ-loop
+case-of-requires c κs = c .before .before .loop .inv
 
 returns : tie.Need-returns Inv-loop μ-loop
 returns c = search needs
@@ -57,4 +65,6 @@ record-spec =
     add-i
     loop-less
     loop-again
+    slice-aggregate-case-of
+    case-of-requires
     returns)

@@ -1,42 +1,47 @@
 -- `case::parts::out_of_range` meets its contract: the search of proofs/Leftmost.antt.
 -- Assumes nothing.
+use native.Mathlib.Omega.{arith}
 use borrow.Author.Needs.{needs}
+use Rattle.case.specs.Parts.{formOf}
+use Rattle.case.proofs.Findings.{form-most}
 use Rattle.case.proofs.Leftmost.{Leftmost, leftmost-start, leftmost-step, leftmost-end}
 use Rattle.case.proofs.parts.out_of_range.Statement.{statement}
 use Rattle.case.proofs.parts.out_of_range.Tie as tie
 
 abbrev Inv-loop : tie.InvT-loop
-Inv-loop at v c₀ k₀ c k = Leftmost at v c k
+Inv-loop form at v c₀ k₀ c k = Leftmost (formOf form) at v c k
 
 abbrev μ-loop : tie.MeasureT-loop
-μ-loop at v c₀ k₀ c k = k
+μ-loop form at v c₀ k₀ c k = k
 
 loop-holds : tie.Need-loop-holds Inv-loop μ-loop
-loop-holds c = leftmost-start _ _ (search needs) (search needs)
+loop-holds c = leftmost-start _ _ _ (c .before .before .pre .0) (c .before .before .pre .1)
 
 sub-k : tie.Need-sub-k Inv-loop μ-loop
 sub-k c = search needs
 
 mul-worse : tie.Need-mul-worse Inv-loop μ-loop
-mul-worse c = search needs
+mul-worse c = omega (arith, c .before .loop .inv .within, form-most (c .before .before .before .before .args .form))
 
-array-read-worse : tie.Need-array-read-worse Inv-loop μ-loop
-array-read-worse c = search needs
+shared-slice-read-worse : tie.Need-shared-slice-read-worse Inv-loop μ-loop
+shared-slice-read-worse c = omega (arith, c .before .before .loop .inv .within)
 
 mul-worse-2 : tie.Need-mul-worse-2 Inv-loop μ-loop
-mul-worse-2 c = search needs
+mul-worse-2 c = omega (arith, c .before .before .loop .inv .within, form-most (c .before .before .before .before .before .args .form))
 
-array-read-worse-2 : tie.Need-array-read-worse-2 Inv-loop μ-loop
-array-read-worse-2 c = search needs
+shared-slice-read-worse-2 : tie.Need-shared-slice-read-worse-2 Inv-loop μ-loop
+shared-slice-read-worse-2 c = omega (arith, c .before .before .before .loop .inv .within)
 
 worse-requires : tie.Need-worse-requires Inv-loop μ-loop
-worse-requires c κs = search needs
+worse-requires c κs = omega (arith, c .before .before .before .loop .inv .within)
 
 loop-less : tie.Need-loop-less Inv-loop μ-loop
 loop-less c = search needs
 
 loop-again : tie.Need-loop-again Inv-loop μ-loop
-loop-again c = leftmost-step _ (c .before .before .loop .inv) (c .before .loop-test .taken) (c .worse .ensures)
+loop-again c =
+    let i = c .before .before .before in
+    leftmost-step _ (i .before .loop .inv) (i .loop-test .taken) (c .worse .ensures)
 
 returns : tie.Need-returns Inv-loop μ-loop
 returns c = leftmost-end (c .before .loop .inv) (c .loop-test .left)
@@ -50,9 +55,9 @@ out-of-range-spec =
     loop-holds
     sub-k
     mul-worse
-    array-read-worse
+    shared-slice-read-worse
     mul-worse-2
-    array-read-worse-2
+    shared-slice-read-worse-2
     worse-requires
     loop-less
     loop-again

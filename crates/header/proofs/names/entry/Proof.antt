@@ -2,6 +2,7 @@
 -- Assumes nothing.
 use borrow.Author.Needs.{needs}
 use Rattle.case.specs.Columns.{columns}
+use Rattle.header.specs.Parts.{allNames}
 use Rattle.header.proofs.NameTable.{inCode, table-entry}
 use Rattle.header.proofs.names.entry.Statement.{statement}
 use Rattle.header.proofs.names.entry.Tie as tie
@@ -13,7 +14,7 @@ array-copy-out-result : tie.Need-array-copy-out-result
 array-copy-out-result c = search needs
 
 returns : tie.Need-returns
-unfolding columns inCode
+unfolding columns allNames inCode
 returns c = table-entry _ _ (search needs)
 
 pub entry-spec : {M : Type 1} → statement M

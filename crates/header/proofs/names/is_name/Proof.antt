@@ -1,13 +1,16 @@
 -- `header::names::is_name` meets its contract.
 -- Assumes nothing.
-use mathlib.Core.Path.{sym}
+use mathlib.Core.Path.{sym, _∙_}
 use lib.Seq.{length-take-le}
 use borrow.Author.Needs.{needs}
 use Rattle.header.proofs.names.is_name.Statement.{statement}
 use Rattle.header.proofs.names.is_name.Tie as tie
 
+place-requires : tie.Need-place-requires
+place-requires c κs = search needs
+
 entry-requires : tie.Need-entry-requires
-entry-requires c κs = search needs
+entry-requires c κs = c .place .ensures .within
 
 array-share-prefix-text : tie.Need-array-share-prefix-text
 array-share-prefix-text c = c .before .entry .ensures .fits
@@ -19,9 +22,11 @@ same-requires : tie.Need-same-requires
 same-requires c κs = search needs
 
 returns : tie.Need-returns
-returns c = rw (← c .before .before .before .entry .ensures .is) (c .same .ensures)
+returns c =
+    let e = c .before .before .before in
+    rw (← e .before .place .ensures .is, ← e .entry .ensures .is) (c .same .ensures)
 
 pub is-name-spec : {M : Type 1} → statement M
 is-name-spec =
     tie.close
-    (tie.spec entry-requires array-share-prefix-text slice-aggregate-same same-requires returns)
+    (tie.spec place-requires entry-requires array-share-prefix-text slice-aggregate-same same-requires returns)

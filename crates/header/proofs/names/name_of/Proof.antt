@@ -4,16 +4,19 @@ use Prim.Native.Nat.{_-_}
 use mathlib.Core.Path.{sym, _∙_}
 use native.Mathlib.Omega.{arith}
 use borrow.Author.Needs.{needs}
-use Rattle.case.specs.Columns.{columns, nameCount, name-count}
+use Rattle.case.specs.Parts.{formOf}
 use Rattle.header.proofs.Naming.{Naming, naming-start, naming-found, naming-step, naming-end}
 use Rattle.header.proofs.names.name_of.Statement.{statement}
 use Rattle.header.proofs.names.name_of.Tie as tie
 
 abbrev Inv-loop : tie.InvT-loop
-Inv-loop s k₀ k = Naming columns s k
+Inv-loop form s n k₀ k = Naming (formOf form) s k
 
 abbrev μ-loop : tie.MeasureT-loop
-μ-loop s k₀ k = nameCount - k
+μ-loop form s n k₀ k = n - k
+
+name-count-requires : tie.Need-name-count-requires Inv-loop μ-loop
+name-count-requires c κs = search needs
 
 loop-holds : tie.Need-loop-holds Inv-loop μ-loop
 loop-holds c = naming-start _ _
@@ -23,7 +26,7 @@ is-name-requires c κs = search needs
 
 returns : tie.Need-returns Inv-loop μ-loop
 returns c =
-    naming-found (c .before .before .before .loop .inv) (omega (arith, name-count)) (sym (c .before .is-name .ensures) ∙ c .if1 .taken)
+    naming-found (c .before .before .before .loop .inv) (search needs) (sym (c .before .is-name .ensures) ∙ c .if1 .taken)
 
 add-k : tie.Need-add-k Inv-loop μ-loop
 add-k c = search needs
@@ -33,10 +36,10 @@ loop-less c = search needs
 
 loop-again : tie.Need-loop-again Inv-loop μ-loop
 loop-again c =
-    naming-step (c .before .before .before .loop .inv) (omega (arith, name-count)) (sym (c .before .is-name .ensures) ∙ c .if1 .left)
+    naming-step (c .before .before .before .loop .inv) (search needs) (sym (c .before .is-name .ensures) ∙ c .if1 .left)
 
 returns-2 : tie.Need-returns-2 Inv-loop μ-loop
-returns-2 c = naming-end (c .before .loop .inv) (omega (arith, name-count))
+returns-2 c = naming-end (c .before .loop .inv) (search needs)
 
 pub name-of-spec : {M : Type 1} → statement M
 name-of-spec =
@@ -44,6 +47,7 @@ name-of-spec =
     (tie.spec
     Inv-loop
     μ-loop
+    name-count-requires
     loop-holds
     is-name-requires
     returns

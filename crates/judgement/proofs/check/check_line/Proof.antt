@@ -1,38 +1,47 @@
 -- `judgement::check::check_line` meets its contract, by the laws of proofs/LineJudged.antt.
 -- Assumes nothing.
-use borrow.Author.Needs.{needs}
-use Rattle.judgement.proofs.LineJudged.{case-values, judged-form, judged-case}
+use lib.ListN.{length}
+use Rattle.case.specs.Parts.{formOf}
+use Rattle.case.proofs.Order.{distinct}
+use Rattle.line.specs.Parts.{LineValues}
+use Rattle.line.proofs.Arranging.{arranged}
+use Rattle.judgement.proofs.Keys.{form-keyed}
+use Rattle.judgement.proofs.LineJudged.{judged-form, judged-values}
 use Rattle.judgement.proofs.check.check_line.Statement.{statement}
 use Rattle.judgement.proofs.check.check_line.Tie as tie
 
 read-values-requires : tie.Need-read-values-requires
-read-values-requires c κs = search needs
+read-values-requires c κs = let s = c .before .before .before .before .before .before .before in rw (s .pre .1 .1 .1) (distinct (s .pre .1 .0))
+
+-- the line that was read, as a line of the form
+abbrev start : tie.After-read-values → tie.Start
+start v = v .before .before .before .before .before .before .before .before
+
+line-values : (v : tie.After-read-values)
+    → LineValues (length (formOf (start v .args .form))) (start v .args .order .now) (start v .args .line .now) (v .read-values .result) (v .read-values .last .1 .1 .0)
+line-values v = rw (start v .pre .1 .1 .1) at (v .read-values .ensures)
+
+same-length : tie.Need-same-length
+same-length c = c .before .before .before .read-values .ensures .count
 
 returns : tie.Need-returns
-returns c = judged-form _ _ (c .before .read-values .ensures) (c .if1 .taken)
+returns c = judged-form _ (line-values (c .before .before .before)) _ (c .if1 .taken)
 
-arrange-requires : tie.Need-arrange-requires
-arrange-requires c κs = c .before .before .before .before .before .before .pre .0
+values-finding-requires : tie.Need-values-finding-requires
+values-finding-requires c κs =
+    let v = c .before .before .before .before in
+    (start v .pre .0 .count, (line-values v .count, start v .pre .1 .1 .0))
 
-case-of-requires : tie.Need-case-of-requires
-case-of-requires c κs = search needs
-
-case-finding-requires : tie.Need-case-finding-requires
-case-finding-requires c κs = search needs
+same-length-2 : tie.Need-same-length-2
+same-length-2 c = c .before .before .before .before .before .read-values .ensures .count
 
 returns-2 : tie.Need-returns-2
 returns-2 c =
-    let l = c .before .before .before .before .before in
-    let z = c .before .before .before .before .if1 .left in
-    judged-case _ _ (l .read-values .ensures) z (case-values (l .before .before .before .before .pre .0) (l .read-values .ensures) z (c .before .before .arrange .ensures) (c .before .case-of .ensures)) (c .case-finding .ensures)
+    let e = c .before .before in
+    let v = e .before .before .before in
+    judged-values _ (line-values v) _ _ _ (form-keyed (start v .args .form)) (e .if1 .left)
+    (arranged (start v .pre .0) (start v .pre .1 .0) (line-values v) (e .if1 .left)) (c .values-finding .ensures)
 
 pub check-line-spec : {M : Type 1} → statement M
 check-line-spec =
-    tie.close
-    (tie.spec
-    read-values-requires
-    returns
-    arrange-requires
-    case-of-requires
-    case-finding-requires
-    returns-2)
+    tie.close (tie.spec read-values-requires same-length returns values-finding-requires same-length-2 returns-2)

@@ -1,18 +1,15 @@
 -- `judgement::check::seen` meets its contract: the search of proofs/Keys.antt.
 -- Assumes nothing.
 use borrow.Author.Needs.{needs}
-use Rattle.text.specs.Text.{same}
-use Rattle.case.specs.Columns.{columns, nameIndex, named}
-use Rattle.case.specs.Case.{values}
-use Rattle.judgement.proofs.Keys.{columns-keyed, Seeking, seeking-start, seeking-found, seeking-station, seeking-season, seeking-end}
+use Rattle.judgement.proofs.Keys.{Seeking, seeking-start, seeking-found, seeking-station, seeking-season, seeking-end}
 use Rattle.judgement.proofs.check.seen.Statement.{statement}
 use Rattle.judgement.proofs.check.seen.Tie as tie
 
 abbrev Inv-loop : tie.InvT-loop
-Inv-loop stations seasons n c j₀ j = Seeking columns (values c) stations seasons n j
+Inv-loop stations seasons n station season j₀ j = Seeking station season stations seasons n j
 
 abbrev μ-loop : tie.MeasureT-loop
-μ-loop stations seasons n c j₀ j = j
+μ-loop stations seasons n station season j₀ j = j
 
 loop-holds : tie.Need-loop-holds Inv-loop μ-loop
 loop-holds c = seeking-start _ _ _ _ _
@@ -33,26 +30,23 @@ shared-slice-read-if2 : tie.Need-shared-slice-read-if2 Inv-loop μ-loop
 shared-slice-read-if2 c = search needs
 
 returns : tie.Need-returns Inv-loop μ-loop
-unfolding columns nameIndex named same
 returns c =
-    seeking-found columns-keyed (c .before .before .before .before .before .before .before .loop .inv) (search needs) (c .before .before .before .if1 .taken) (c .if2 .taken)
+    seeking-found (c .before .before .before .before .before .loop .inv) (search needs) (c .before .before .if1 .taken) (c .if2 .taken)
 
 loop-less : tie.Need-loop-less Inv-loop μ-loop
 loop-less c = search needs
 
 loop-again : tie.Need-loop-again Inv-loop μ-loop
-unfolding columns nameIndex named same
-loop-again c = seeking-season columns-keyed (c .before .before .before .before .before .before .before .loop .inv) (search needs) (c .if2 .left)
+loop-again c = seeking-season (c .before .before .before .before .before .loop .inv) (search needs) (c .if2 .left)
 
 loop-less-2 : tie.Need-loop-less-2 Inv-loop μ-loop
 loop-less-2 c = search needs
 
 loop-again-2 : tie.Need-loop-again-2 Inv-loop μ-loop
-unfolding columns nameIndex named same
-loop-again-2 c = seeking-station columns-keyed (c .before .before .before .before .loop .inv) (search needs) (c .if1 .left)
+loop-again-2 c = seeking-station (c .before .before .before .loop .inv) (search needs) (c .if1 .left)
 
 returns-2 : tie.Need-returns-2 Inv-loop μ-loop
-returns-2 c = seeking-end columns-keyed (c .before .loop .inv) (c .loop-test .left)
+returns-2 c = seeking-end (c .before .loop .inv) (c .loop-test .left)
 
 pub seen-spec : {M : Type 1} → statement M
 seen-spec =

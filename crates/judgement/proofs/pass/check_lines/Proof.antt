@@ -1,88 +1,128 @@
 -- `judgement::pass::check_lines` meets its contract: the pass of proofs/Passing.antt.
 -- Assumes nothing.
-use Prim.Native.Nat.{_<_}
+use Prim.Native.Nat.{_+_, _*_, _≤_, _<_}
+use mathlib.Core.Path.{refl, _∙_}
 use native.Mathlib.Omega.{arith}
 use borrow.Author.Needs.{needs}
 use lib.ListN.{length}
-use Rattle.case.specs.Columns.{columns}
-use Rattle.judgement.specs.declared.Judgement.the-variants.{Lines}
-use Rattle.judgement.specs.Limits.{mostLines}
-use Rattle.judgement.proofs.Keys.{columns-keyed}
 use Rattle.text.proofs.FieldTurns.{part-length}
 use Rattle.text.proofs.LineTurns.{line-shorter}
-use Rattle.judgement.proofs.Passing.{Passing, passing-start, passing-room, passing-refused, passing-step, passing-end}
+use Rattle.case.specs.Parts.{formOf}
+use Rattle.case.proofs.Findings.{rods-place}
+use Rattle.judgement.specs.declared.Judgement.the-variants.{Lines}
+use Rattle.judgement.specs.Limits.{mostLines}
+use Rattle.judgement.proofs.Keys.{form-keyed}
+use Rattle.judgement.proofs.Passing.{Passing, passing-start, passing-room, passing-store, stored-value, stored-first, passing-refused, passing-step, passing-end}
 use Rattle.judgement.proofs.pass.check_lines.Statement.{statement}
 use Rattle.judgement.proofs.pass.check_lines.Tie as tie
 
 abbrev Inv-loop : tie.InvT-loop
-Inv-loop s at count stations₀ seasons₀ rest₀ n₀ stations seasons rest n = Passing columns s at stations seasons rest n (Lines count)
+Inv-loop form s at order count values₀ k stations₀ seasons₀ rest₀ n₀ values stations seasons rest n =
+    Passing (formOf form) s at stations seasons rest n (Lines count) values₀ values
 
 abbrev μ-loop : tie.MeasureT-loop
-μ-loop s at count stations₀ seasons₀ rest₀ n₀ stations seasons rest n = length rest
+μ-loop form s at order count values₀ k stations₀ seasons₀ rest₀ n₀ values stations seasons rest n = length rest
 
 loop-holds : tie.Need-loop-holds Inv-loop μ-loop
-loop-holds c = passing-start _ _ _ _ (search needs)
+loop-holds c = passing-start _ _ _ _ _ (search needs)
 
 find-requires : tie.Need-find-requires Inv-loop μ-loop
 find-requires c κs = search needs
 
-slice-aggregate-check-line : tie.Need-slice-aggregate-check-line Inv-loop μ-loop
-slice-aggregate-check-line c = part-length 10 _ _ (c .before .find .ensures)
+slice-aggregate-store-line : tie.Need-slice-aggregate-store-line Inv-loop μ-loop
+slice-aggregate-store-line c = part-length 10 _ _ (c .before .find .ensures)
 
-slice-aggregate-check-line-2 : tie.Need-slice-aggregate-check-line-2 Inv-loop μ-loop
-slice-aggregate-check-line-2 c = search needs
+slice-aggregate-store-line-2 : tie.Need-slice-aggregate-store-line-2 Inv-loop μ-loop
+slice-aggregate-store-line-2 c = search needs
 
-slice-aggregate-check-line-3 : tie.Need-slice-aggregate-check-line-3 Inv-loop μ-loop
-slice-aggregate-check-line-3 c = search needs
+slice-aggregate-store-line-3 : tie.Need-slice-aggregate-store-line-3 Inv-loop μ-loop
+slice-aggregate-store-line-3 c = search needs
 
--- there is a place for the line's key
+abbrev start : tie.In-loop Inv-loop μ-loop → tie.Start Inv-loop μ-loop
+start c = c .before .before .before .before .before .before
+
+-- there is a place for the line's key and for its values
 room : (c : tie.In-loop Inv-loop μ-loop) → c .before .loop .n < mostLines
 room c = passing-room (c .before .loop .inv) (c .loop-test .taken)
 
-check-line-requires : tie.Need-check-line-requires Inv-loop μ-loop
-check-line-requires c κs =
-    let i = c .before .before .before .before in
-    let l = i .before in
-    (l .before .before .pre .0, (omega (arith, room i, l .loop .inv .stations-count), omega (arith, room i, l .loop .inv .seasons-count)))
+store-line-requires : tie.Need-store-line-requires Inv-loop μ-loop
+store-line-requires c κs =
+    let i = c .before .before .before .before .before in
+    let p = start i .pre in
+    let a = i .before .loop .inv in
+    (p .0, (p .1 .0, ((omega (arith, room i, a .stations-count), omega (arith, room i, a .seasons-count)), passing-store a refl (p .1 .1 .1 .1) (i .loop-test .taken))))
 
 add-refusal : tie.Need-add-refusal Inv-loop μ-loop
-add-refusal c = omega (arith, room (c .before .before .before .before .before))
+add-refusal c = omega (arith, room (c .before .before .before .before .before .before .before .before))
 
 refusal-requires : tie.Need-refusal-requires Inv-loop μ-loop
 refusal-requires c κs = search needs
 
-enum-known-a : tie.Need-enum-known-a Inv-loop μ-loop
-enum-known-a c = search needs
+enum-known-j : tie.Need-enum-known-j Inv-loop μ-loop
+enum-known-j c = search needs
+
+same-length : tie.Need-same-length Inv-loop μ-loop
+same-length c =
+    let l = c .before .before .before .before .before .before in
+    l .store-line .ensures .written .size ∙ l .before .before .before .before .before .before .before .loop .inv .size
 
 returns : tie.Need-returns Inv-loop μ-loop
 returns c =
-    let m = c .before .before .before .before in
-    let f = m .before .before .before .before in
-    let i = f .before in
-    passing-refused _ columns-keyed (i .before .loop .inv) (i .loop-test .taken) (f .find .ensures) (m .check-line .ensures)
-    (c .before .before .before .refusal .ensures) (c .before .a .given .1)
+    let r = c .before .before .before in
+    let l = r .before .before .before in
+    let i = l .before .before .before .before .before .before in
+    passing-refused _ (form-keyed (start i .args .form)) (i .before .loop .inv) (i .loop-test .taken) (l .before .before .before .before .before .find .ensures) (l .store-line .ensures)
+    (r .refusal .ensures) (c .before .j .given .1)
 
 enum-told : tie.Need-enum-told Inv-loop μ-loop
 enum-told c = search needs
 
--- the same, when the line is sound
-room-left : (c : tie.After-enum-told Inv-loop μ-loop) → c .before .before .before .before .before .before .before .before .before .loop .n < mostLines
-room-left c = room (c .before .before .before .before .before .before .before .before)
+-- the turn of a sound line
+abbrev turn : tie.After-enum-told Inv-loop μ-loop → tie.In-loop Inv-loop μ-loop
+turn c = c .before .before .before .before .before .before .before .before .before .before .before
+
+-- its values are within the store
+within : (c : tie.After-enum-told Inv-loop μ-loop)
+    → length (start (turn c) .args .at .now) * turn c .before .loop .n + length (start (turn c) .args .at .now) ≤ length (c .before .before .before .before .before .store-line .last .1 .1 .1 .1 .1 .1 .1 .0)
+within c =
+    let i = turn c in
+    omega (arith, c .before .before .before .before .before .store-line .ensures .written .size, passing-store (i .before .loop .inv) (start i .pre .0 .count) (start i .pre .1 .1 .1 .1) (i .loop-test .taken))
+
+some : (c : tie.After-enum-told Inv-loop μ-loop) → 1 < length (start (turn c) .args .at .now)
+some c = omega (arith, start (turn c) .pre .0 .count, rods-place (start (turn c) .args .form) .thick)
+
+mul-a : tie.Need-mul-a Inv-loop μ-loop
+mul-a c = omega (arith, within c)
 
 mul-stations : tie.Need-mul-stations Inv-loop μ-loop
-mul-stations c = omega (arith, room-left c)
+mul-stations c = omega (arith, within c)
+
+slice-read-stations : tie.Need-slice-read-stations Inv-loop μ-loop
+slice-read-stations c = omega (arith, within (c .before), some (c .before))
+
+mul-stations-2 : tie.Need-mul-stations-2 Inv-loop μ-loop
+mul-stations-2 c = omega (arith, room (turn (c .before)))
 
 array-write-stations : tie.Need-array-write-stations Inv-loop μ-loop
-array-write-stations c = room-left c
+array-write-stations c = room (turn (c .before))
+
+add-seasons : tie.Need-add-seasons Inv-loop μ-loop
+add-seasons c = omega (arith, within (c .before), some (c .before))
 
 mul-seasons : tie.Need-mul-seasons Inv-loop μ-loop
-mul-seasons c = omega (arith, room-left c)
+mul-seasons c = omega (arith, within (c .before), some (c .before))
+
+slice-read-seasons : tie.Need-slice-read-seasons Inv-loop μ-loop
+slice-read-seasons c = omega (arith, within (c .before .before), some (c .before .before))
+
+mul-seasons-2 : tie.Need-mul-seasons-2 Inv-loop μ-loop
+mul-seasons-2 c = omega (arith, room (turn (c .before .before)))
 
 array-write-seasons : tie.Need-array-write-seasons Inv-loop μ-loop
-array-write-seasons c = room-left c
+array-write-seasons c = room (turn (c .before .before))
 
 add-n : tie.Need-add-n Inv-loop μ-loop
-add-n c = omega (arith, room-left c)
+add-n c = omega (arith, room (turn (c .before .before)))
 
 skip-requires : tie.Need-skip-requires Inv-loop μ-loop
 skip-requires c κs = search needs
@@ -98,17 +138,24 @@ part-rest-end c = search needs
 
 loop-less : tie.Need-loop-less Inv-loop μ-loop
 loop-less c =
-    let m = c .before .before .before .before .before in
-    let f = m .before .before .before .before in
+    let l = c .before .before .before .before .before .before .before .before .before in
+    let f = l .before .before .before .before .before in
     line-shorter _ _ _ (f .before .loop-test .taken) (f .find .ensures) (c .before .skip .ensures)
 
 loop-again : tie.Need-loop-again Inv-loop μ-loop
 loop-again c =
-    let m = c .before .before .before .before .before in
-    let f = m .before .before .before .before in
+    let t = c .before .before .before .before in
+    let r = t .before .before in
+    let l = r .before .before .before in
+    let f = l .before .before .before .before .before in
     let i = f .before in
-    passing-step _ columns-keyed (i .before .loop .inv) (i .loop-test .taken) (f .find .ensures) (m .check-line .ensures)
-    (c .before .before .before .before .refusal .ensures) _ (c .before .before .enum-told .given .1) (c .before .skip .ensures)
+    let j = l .store-line .ensures in
+    let p = start i .pre .0 .count in
+    passing-step _ (form-keyed (start i .args .form)) (i .before .loop .inv) (i .loop-test .taken) (f .find .ensures) j (r .refusal .ensures) _ (t .enum-told .given .1)
+    (stored-first j p (omega (arith, some t))) (stored-value 1 j p (some t)) (c .before .skip .ensures)
+
+same-length-2 : tie.Need-same-length-2 Inv-loop μ-loop
+same-length-2 c = c .before .loop .inv .size
 
 returns-2 : tie.Need-returns-2 Inv-loop μ-loop
 returns-2 c = passing-end (c .before .loop .inv) (c .loop-test .left)
@@ -121,18 +168,25 @@ check-lines-spec =
     μ-loop
     loop-holds
     find-requires
-    slice-aggregate-check-line
-    slice-aggregate-check-line-2
-    slice-aggregate-check-line-3
-    check-line-requires
+    slice-aggregate-store-line
+    slice-aggregate-store-line-2
+    slice-aggregate-store-line-3
+    store-line-requires
     add-refusal
     refusal-requires
-    enum-known-a
+    enum-known-j
+    same-length
     returns
     enum-told
+    mul-a
     mul-stations
+    slice-read-stations
+    mul-stations-2
     array-write-stations
+    add-seasons
     mul-seasons
+    slice-read-seasons
+    mul-seasons-2
     array-write-seasons
     add-n
     skip-requires
@@ -141,4 +195,5 @@ check-lines-spec =
     part-rest-end
     loop-less
     loop-again
+    same-length-2
     returns-2)

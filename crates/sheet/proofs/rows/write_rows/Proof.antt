@@ -1,91 +1,96 @@
--- `write_rows` writes row after row: the pass of proofs/Writing.antt.
+-- `write_rows` writes row after row.
 -- Assumes nothing.
-use mathlib.Core.Path.{refl}
+use Prim.Native.Nat.{_+_, _*_, _-_, _≤_}
+use mathlib.Core.Path.{_≡_, refl, sym, ap, _∙_}
 use native.Mathlib.Omega.{arith}
-use lib.ListN.{length}
+use borrow.Author.Needs.{needs}
+use borrow.Rule.Slice.PartMut.{mid-len}
+use lib.ListN.{length, take, drop}
+use Rattle.tables.specs.Parts.{partAt}
+use Rattle.case.specs.Columns.{nameCount}
+use Rattle.case.specs.Case.{caseOf}
 use Rattle.case.specs.Bounds.{Bounds}
 use Rattle.row.proofs.Right.{right-row}
-use Rattle.text.proofs.FieldTurns.{part-length}
-use Rattle.text.proofs.LineTurns.{line-shorter}
-use Rattle.sheet.proofs.Accepted.{sound-bounds}
-use Rattle.sheet.proofs.Writing.{Writing, writing-start, writing-within, writing-sound, writing-step, writing-end}
-use borrow.Author.Needs.{needs}
+use Rattle.sheet.specs.Rows.{FilledTo, storedCases}
+use Rattle.sheet.proofs.RowParts.{filled-start, filled-step, filled-end}
+use Rattle.sheet.proofs.StoredCases.{cases-count, stored-case}
 use Rattle.sheet.proofs.rows.write_rows.Statement.{statement}
 use Rattle.sheet.proofs.rows.write_rows.Tie as tie
 
 abbrev Inv-loop : tie.InvT-loop
-Inv-loop s at table₀ rest₀ n₀ table rest n = Writing s at rest n table₀ table
+Inv-loop values n table₀ i₀ table i = FilledTo (storedCases values n) i table₀ table × (i ≤ n)
 
 abbrev μ-loop : tie.MeasureT-loop
-μ-loop s at table₀ rest₀ n₀ table rest n = length rest
-
--- the case of a line is within its bounds
-line-bounds : (c : tie.After-case-line Inv-loop μ-loop) → Bounds (c .case-line .result)
-line-bounds c =
-    let f = c .before .before in
-    let l = f .before .before in
-    let a = l .before .before in
-    rw (c .case-line .ensures) (sound-bounds (a .pre .0) (writing-sound _ (l .loop .inv) (f .before .loop-test .taken) (f .find .ensures) (a .pre .1 .0 .line)))
+μ-loop values n table₀ i₀ table i = n - i
 
 loop-holds : tie.Need-loop-holds Inv-loop μ-loop
-loop-holds c = writing-start _ _ _
+loop-holds c = (filled-start _ _, search needs)
 
-find-requires : tie.Need-find-requires Inv-loop μ-loop
-find-requires c κs = search needs
+abbrev start : tie.In-loop Inv-loop μ-loop → tie.Start Inv-loop μ-loop
+start c = c .before .before .before
 
-slice-aggregate-case-line : tie.Need-slice-aggregate-case-line Inv-loop μ-loop
-slice-aggregate-case-line c = part-length 10 _ _ (c .before .find .ensures)
+-- line i is within the values
+within : (c : tie.In-loop Inv-loop μ-loop) → nameCount * c .before .loop .i + nameCount ≤ length (start c .args .values .now)
+within c = omega (arith, start c .pre .1 .0, c .loop-test .taken)
 
-case-line-requires : tie.Need-case-line-requires Inv-loop μ-loop
-case-line-requires c κs =
-    let f = c .before in
-    let l = f .before .before in
-    let a = l .before .before in
-    (a .pre .0, writing-sound _ (l .loop .inv) (f .before .loop-test .taken) (f .find .ensures) (a .pre .1 .0 .line) .form-sound)
+mul-a : tie.Need-mul-a Inv-loop μ-loop
+mul-a c = omega (arith, within c)
+
+add-b : tie.Need-add-b Inv-loop μ-loop
+add-b c = omega (arith, within c)
+
+mul-case-of : tie.Need-mul-case-of Inv-loop μ-loop
+mul-case-of c = omega (arith, within c)
+
+sub-case-of : tie.Need-sub-case-of Inv-loop μ-loop
+sub-case-of c = search needs
+
+part-case-of-start : tie.Need-part-case-of-start Inv-loop μ-loop
+part-case-of-start c = search needs
+
+part-case-of-end : tie.Need-part-case-of-end Inv-loop μ-loop
+part-case-of-end c = within c
+
+case-of-requires : tie.Need-case-of-requires Inv-loop μ-loop
+case-of-requires c κs = mid-len _ _ (start (c .before) .args .values .now) (within (c .before)) ∙ omega arith
+
+-- the case of line i
+case-is : (c : tie.After-case-of Inv-loop μ-loop) → c .case-of .result ≡ caseOf (partAt nameCount (start (c .before .before) .args .values .now) (c .before .before .before .loop .i))
+case-is c =
+    let i = c .before .before in
+    let w : nameCount * i .before .loop .i + nameCount - nameCount * i .before .loop .i ≡ nameCount = omega arith in
+    c .case-of .ensures ∙ ap (λ k. caseOf (take k (drop (nameCount * i .before .loop .i) (start i .args .values .now)))) w
+
+bounds : (c : tie.After-case-of Inv-loop μ-loop) → Bounds (c .case-of .result)
+bounds c = let i = c .before .before in rw (case-is c) (start i .pre .0 (i .before .loop .i) (i .loop-test .taken))
 
 write-row-requires : tie.Need-write-row-requires Inv-loop μ-loop
 write-row-requires c κs =
-    let k = c .before in
-    let f = k .before .before in
-    let l = f .before .before in
-    let a = l .before .before in
-    (line-bounds k, omega (arith, l .loop .inv .filled .size, a .pre .1 .1, writing-within _ (l .loop .inv) (f .before .loop-test .taken) (f .find .ensures)))
+    let i = c .before .before .before in
+    (bounds (c .before), omega (arith, i .before .loop .inv .0 .size, start i .pre .1 .1, i .loop-test .taken))
 
-skip-requires : tie.Need-skip-requires Inv-loop μ-loop
-skip-requires c κs = search needs
-
-sub-rest : tie.Need-sub-rest Inv-loop μ-loop
-sub-rest c = search needs
-
-part-rest-start : tie.Need-part-rest-start Inv-loop μ-loop
-part-rest-start c = search needs
-
-part-rest-end : tie.Need-part-rest-end Inv-loop μ-loop
-part-rest-end c = search needs
-
-add-n : tie.Need-add-n Inv-loop μ-loop
-add-n c =
-    let l = c .before .before .before .before .before .before .before .before .before in
-    omega (arith, l .loop .inv .short)
+add-i : tie.Need-add-i Inv-loop μ-loop
+add-i c = search needs
 
 loop-less : tie.Need-loop-less Inv-loop μ-loop
-loop-less c =
-    let f = c .before .before .before .before .before .before .before in
-    line-shorter _ _ _ (f .before .loop-test .taken) (f .find .ensures) (c .before .skip .ensures)
+loop-less c = search needs
 
 loop-again : tie.Need-loop-again Inv-loop μ-loop
 loop-again c =
-    let w = c .before .before .before in
-    let k = w .before .before in
-    let f = k .before .before in
-    let l = f .before .before in
-    writing-step _ (l .loop .inv) (f .before .loop-test .taken) (f .find .ensures) _ (k .case-line .ensures) (record { is = refl; right = right-row (line-bounds k) }) (w .write-row .ensures) (c .before .skip .ensures)
+    let k = c .before .before .before in
+    let i = k .before .before in (
+      filled-step (i .before .loop .inv .0) (c .before .write-row .ensures)
+          (rw (stored-case (start i .args .values .now) _ _ (i .loop-test .taken), ← case-is k) (record { is = refl; right = right-row (bounds k) })),
+      search needs,
+    )
 
 same-length : tie.Need-same-length Inv-loop μ-loop
-same-length c = c .before .loop .inv .filled .size
+same-length c = c .before .loop .inv .0 .size
 
 returns : tie.Need-returns Inv-loop μ-loop
-returns c = writing-end (c .before .loop .inv) (c .loop-test .left)
+returns c =
+    let s = c .before .before .before in
+    filled-end (c .before .loop .inv .0) (omega (arith, c .loop-test .left, cases-count (s .args .values .now) (s .args .n)))
 
 pub write-rows-spec : {M : Type 1} → statement M
 write-rows-spec =
@@ -94,15 +99,15 @@ write-rows-spec =
     Inv-loop
     μ-loop
     loop-holds
-    find-requires
-    slice-aggregate-case-line
-    case-line-requires
+    mul-a
+    add-b
+    mul-case-of
+    sub-case-of
+    part-case-of-start
+    part-case-of-end
+    case-of-requires
     write-row-requires
-    skip-requires
-    sub-rest
-    part-rest-start
-    part-rest-end
-    add-n
+    add-i
     loop-less
     loop-again
     same-length

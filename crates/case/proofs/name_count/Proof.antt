@@ -1,0 +1,25 @@
+-- `case::name_count` meets its contract.
+-- Assumes nothing.
+use mathlib.Core.Path.{sym}
+use borrow.Author.Needs.{needs}
+use Rattle.case.specs.Columns.{name-count, former-name-count}
+use Rattle.case.specs.Parts.{formOf}
+use Rattle.case.proofs.name_count.Statement.{statement}
+use Rattle.case.proofs.name_count.Tie as tie
+
+enum-told : tie.Need-enum-told
+enum-told c = search needs
+
+enum-told-2 : tie.Need-enum-told-2
+enum-told-2 c = search needs
+
+returns : tie.Need-returns
+unfolding formOf
+returns c = rw (c .enum-told .given .1) (sym name-count)
+
+returns-2 : tie.Need-returns-2
+unfolding formOf
+returns-2 c = rw (c .enum-told2 .given .1) (sym former-name-count)
+
+pub name-count-spec : {M : Type 1} → statement M
+name-count-spec = tie.close (tie.spec enum-told enum-told-2 returns returns-2)

@@ -1,0 +1,25 @@
+-- `case::parts::rods_place` meets its contract.
+-- Assumes nothing.
+use borrow.Author.Needs.{needs}
+use Rattle.case.specs.declared.Form.the-variants.{Present, Former}
+use Rattle.case.specs.Parts.{rodsPlace}
+use Rattle.case.proofs.Findings.{rods-place}
+use Rattle.case.proofs.parts.rods_place.Statement.{statement}
+use Rattle.case.proofs.parts.rods_place.Tie as tie
+
+enum-told : tie.Need-enum-told
+enum-told c = search needs
+
+enum-told-2 : tie.Need-enum-told-2
+enum-told-2 c = search needs
+
+returns : tie.Need-returns
+unfolding rodsPlace
+returns c = rw (c .enum-told .given .1) (rods-place Present)
+
+returns-2 : tie.Need-returns-2
+unfolding rodsPlace
+returns-2 c = rw (c .enum-told2 .given .1) (rods-place Former)
+
+pub rods-place-spec : {M : Type 1} → statement M
+rods-place-spec = tie.close (tie.spec enum-told enum-told-2 returns returns-2)

@@ -1,0 +1,40 @@
+-- `header::names::place` meets its contract: each place of the code's table spells the name there.
+-- Assumes nothing.
+use Prim.Native.Nat.{_<_}
+use native.Mathlib.Omega.{arith}
+use lib.ListN.{length}
+use borrow.Author.Needs.{needs}
+use Rattle.case.specs.Columns.{formerColumns, former-name-count}
+use Rattle.case.specs.Parts.{formOf}
+use Rattle.header.proofs.NameTable.{formerPlaces, former-place, present-place}
+use Rattle.header.proofs.names.place.Statement.{statement}
+use Rattle.header.proofs.names.place.Tie as tie
+
+enum-told : tie.Need-enum-told
+enum-told c = search needs
+
+enum-told-2 : tie.Need-enum-told-2
+enum-told-2 c = search needs
+
+-- the index of a name of the former form
+former-index : (c : tie.After-enum-told2) → c .before .before .args .k < length formerColumns
+unfolding formOf
+former-index c = rw (c .enum-told2 .given .1) at (c .before .before .pre)
+
+mul-result : tie.Need-mul-result
+mul-result c = omega (arith, former-index c, former-name-count)
+
+array-read-result : tie.Need-array-read-result
+array-read-result c = omega (arith, former-index c, former-name-count)
+
+returns : tie.Need-returns
+unfolding formOf
+returns c = rw (c .enum-told .given .1) (present-place _ (rw (c .enum-told .given .1) at (c .before .before .pre)))
+
+returns-2 : tie.Need-returns-2
+unfolding formerPlaces
+returns-2 c = rw (c .enum-told2 .given .1) (former-place _ (former-index c))
+
+pub place-spec : {M : Type 1} → statement M
+place-spec =
+    tie.close (tie.spec enum-told enum-told-2 mul-result array-read-result returns returns-2)

@@ -1,0 +1,70 @@
+-- `judgement::check::values_finding` meets its contract, by what the checks of the values find.
+-- Assumes nothing.
+use mathlib.Core.Path.{sym, _∙_}
+use native.Mathlib.Omega.{arith}
+use borrow.Author.Needs.{needs}
+use Rattle.case.proofs.Findings.{rods-place}
+use Rattle.judgement.specs.Findings.{orFinding}
+use Rattle.judgement.proofs.check.values_finding.Statement.{statement}
+use Rattle.judgement.proofs.check.values_finding.Tie as tie
+
+check-values-requires : tie.Need-check-values-requires
+check-values-requires c κs = search needs
+
+enum-known-column : tie.Need-enum-known-column
+enum-known-column c = search needs
+
+enum-known-column-2 : tie.Need-enum-known-column-2
+enum-known-column-2 c = search needs
+
+enum-told : tie.Need-enum-told
+enum-told c = search needs
+
+shared-slice-read-seen : tie.Need-shared-slice-read-seen
+shared-slice-read-seen c =
+    let s = c .before .before .before .before .before .before .before .before in
+    omega (arith, s .pre .1 .0, rods-place (s .args .form) .thick)
+
+shared-slice-read-seen-2 : tie.Need-shared-slice-read-seen-2
+shared-slice-read-seen-2 c =
+    let s = c .before .before .before .before .before .before .before .before .before in
+    omega (arith, s .pre .1 .0, rods-place (s .args .form) .thick)
+
+seen-requires : tie.Need-seen-requires
+seen-requires c κs = search needs
+
+returns : tie.Need-returns
+unfolding orFinding
+returns c = rw (sym (c .before .before .before .check-values .ensures) ∙ c .before .column .given .1)
+
+returns-2 : tie.Need-returns-2
+unfolding orFinding
+returns-2 c = rw (sym (c .before .before .before .check-values .ensures) ∙ c .before .column2 .given .1)
+
+returns-3 : tie.Need-returns-3
+unfolding orFinding
+returns-3 c =
+    let e = c .before .before .before .before in
+    rw (sym (e .before .before .check-values .ensures) ∙ e .enum-told .given .1, sym (c .before .seen .ensures) ∙ c .if1 .taken)
+
+returns-4 : tie.Need-returns-4
+unfolding orFinding
+returns-4 c =
+    let e = c .before .before .before .before in
+    rw (sym (e .before .before .check-values .ensures) ∙ e .enum-told .given .1, sym (c .before .seen .ensures) ∙ c .if1 .left)
+
+pub values-finding-spec : {M : Type 1} → statement M
+values-finding-spec =
+    tie.close
+    (tie.spec
+    check-values-requires
+    enum-known-column
+    enum-known-column-2
+    enum-told
+    shared-slice-read-seen
+    shared-slice-read-seen-2
+    seen-requires
+    returns
+    returns-2
+    returns-3
+    returns-4)

@@ -1,0 +1,113 @@
+-- `judgement::read_by` meets its contract, by the laws of proofs/Whole.antt.
+-- Assumes nothing.
+use mathlib.Core.Path.{_≡_, sym, ap, _∙_}
+use mathlib.Core.Bool.{false}
+use borrow.Author.Needs.{needs}
+use lib.ListN.{length}
+use Rattle.text.proofs.FieldTurns.{part-length}
+use Rattle.case.specs.Parts.{formOf}
+use Rattle.header.proofs.HeaderReading.{no-columns-count}
+use Rattle.judgement.specs.Sheet.{badText}
+use Rattle.judgement.proofs.Whole.{read-text, read-names, read-values}
+use Rattle.judgement.proofs.read_by.Statement.{statement}
+use Rattle.judgement.proofs.read_by.Tie as tie
+
+bad-text-requires : tie.Need-bad-text-requires
+bad-text-requires c κs = search needs
+
+returns : tie.Need-returns
+returns c = read-text _ _ _ (sym (c .before .bad-text .ensures) ∙ c .if1 .taken)
+
+find-requires : tie.Need-find-requires
+find-requires c κs = search needs
+
+slice-aggregate-read-header : tie.Need-slice-aggregate-read-header
+slice-aggregate-read-header c = part-length 10 _ _ (c .before .find .ensures)
+
+read-header-requires : tie.Need-read-header-requires
+read-header-requires c κs = search needs
+
+-- the sheet whose line of names was read
+abbrev start : tie.After-read-header → tie.Start
+start h = h .before .before .before .before .before .before .before .before .before .before .before
+
+text : (h : tie.After-read-header) → badText (start h .args .s .now) ≡ false
+text h = let b = h .before .before .before .before .before in sym (b .before .bad-text .ensures) ∙ b .if1 .left
+
+-- the lengths of both tables of columns stay
+at-kept : (h : tie.After-read-header) → length (h .read-header .last .1 .1 .0) ≡ length (start h .args .at .now)
+at-kept h = h .read-header .ensures .columns-all ∙ sym (ap length (start h .pre .0) ∙ no-columns-count (formOf (start h .args .form)))
+
+order-kept : (h : tie.After-read-header) → length (h .read-header .last .1 .1 .1 .0) ≡ length (start h .args .order .now)
+order-kept h = h .read-header .ensures .order-all ∙ sym (start h .pre .1 .0)
+
+same-length : tie.Need-same-length
+same-length c = at-kept (c .before .before .before .before .before)
+
+same-length-2 : tie.Need-same-length-2
+same-length-2 c = order-kept (c .before .before .before .before .before)
+
+returns-2 : tie.Need-returns-2
+returns-2 c =
+    let h = c .before .before .before .before .before in
+    read-names _ _ (text h) (h .before .before .before .before .find .ensures) (h .read-header .ensures) _ (c .if2 .taken)
+
+skip-requires : tie.Need-skip-requires
+skip-requires c κs = search needs
+
+sub-judge-values : tie.Need-sub-judge-values
+sub-judge-values c = search needs
+
+part-judge-values-start : tie.Need-part-judge-values-start
+part-judge-values-start c = search needs
+
+part-judge-values-end : tie.Need-part-judge-values-end
+part-judge-values-end c = search needs
+
+judge-values-requires : tie.Need-judge-values-requires
+judge-values-requires c κs =
+    let e = c .before .before .before .before .before in
+    let h = e .before .before .before .before .before in
+    (h .read-header .ensures .placed (e .if2 .left), (h .read-header .ensures .ordered (e .if2 .left), start h .pre .1 .1))
+
+-- the line of names before the values were judged
+abbrev named : tie.After-judge-values → tie.After-read-header
+named v = v .before .before .before .before .before .before .before .before .before .before .before
+
+same-length-3 : tie.Need-same-length-3
+same-length-3 c = at-kept (named (c .before .before))
+
+same-length-4 : tie.Need-same-length-4
+same-length-4 c = order-kept (named (c .before .before))
+
+same-length-5 : tie.Need-same-length-5
+same-length-5 c = c .before .before .judge-values .ensures .size
+
+returns-3 : tie.Need-returns-3
+returns-3 c =
+    let v = c .before .before in
+    let k = v .before .before .before .before .before in
+    let h = named v in
+    read-values _ _ (text h) (h .before .before .before .before .find .ensures) (h .read-header .ensures) _ (k .before .if2 .left) (k .skip .ensures) (v .judge-values .ensures)
+
+pub read-by-spec : {M : Type 1} → statement M
+read-by-spec =
+    tie.close
+    (tie.spec
+    bad-text-requires
+    returns
+    find-requires
+    slice-aggregate-read-header
+    read-header-requires
+    same-length
+    same-length-2
+    returns-2
+    skip-requires
+    sub-judge-values
+    part-judge-values-start
+    part-judge-values-end
+    judge-values-requires
+    same-length-3
+    same-length-4
+    same-length-5
+    returns-3)

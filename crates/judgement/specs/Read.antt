@@ -1,0 +1,36 @@
+-- What reading a sheet promises: its judgement, and where it counts value lines, their values in a store.
+-- Assumes nothing.
+use Prim.Native.Nat.{ℕ, _<_}
+use mathlib.Core.Path.{_≡_}
+use mathlib.Core.List.{List, []}
+use lib.ListN.{length, getD}
+use Rattle.text.specs.Text.{fieldsOf}
+use Rattle.tables.specs.Parts.{partAt}
+use Rattle.case.specs.Columns.{Form}
+use Rattle.header.specs.Header.{columnsOf}
+use Rattle.line.specs.Line.{lineValues}
+use Rattle.judgement.specs.declared.Judgement.{Judgement}
+use Rattle.judgement.specs.declared.Judgement.the-variants.{Lines}
+use Rattle.judgement.specs.Sheet.{names, valueLines, linesJudgement, valuesJudgement, judgement}
+
+-- the values of some lines stand one after the other in a store, each line's in the order of the form
+abbrev pub Stored : Form → List ℕ → List (List ℕ) → List ℕ → Type 0
+Stored form at lines store = (i : ℕ) → i < length lines → partAt (length form) store i ≡ lineValues at (fieldsOf (getD lines i []))
+
+-- value lines with the columns of their names, judged line by line
+pub record LinesRead (form : Form) (at : List ℕ) (lines : List (List ℕ)) (sound : Judgement) (before after : List ℕ) (r : Judgement) : Type 0 where
+  pub answer-is : r ≡ linesJudgement form at [] 2 sound lines
+  pub size : length after ≡ length before
+  pub stored : (n : ℕ) → r ≡ Lines n → Stored form at lines after
+
+-- the same with the count of lines
+pub record ValuesRead (form : Form) (at : List ℕ) (lines : List (List ℕ)) (before after : List ℕ) (r : Judgement) : Type 0 where
+  pub answer-is : r ≡ valuesJudgement form at lines
+  pub size : length after ≡ length before
+  pub stored : (n : ℕ) → r ≡ Lines n → Stored form at lines after
+
+-- a sheet
+pub record Read (form : Form) (s before after : List ℕ) (r : Judgement) : Type 0 where
+  pub answer-is : r ≡ judgement form s
+  pub size : length after ≡ length before
+  pub stored : (n : ℕ) → r ≡ Lines n → Stored form (columnsOf form (names s)) (valueLines s) after

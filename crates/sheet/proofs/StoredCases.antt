@@ -1,0 +1,70 @@
+-- The cases of stored values: those of the sheet that they were read from.
+-- Assumes nothing.
+use Prim.Native.Nat.{ℕ, zero, suc, _≤_, _<_}
+use mathlib.Core.Path.{_≡_, refl, sym, ap, _∙_}
+use mathlib.Core.List.{List, [], _∷_, map}
+use native.Mathlib.Omega.{arith}
+use lib.ListN.{length, getD, length-map, List·getD-map}
+use Rattle.text.specs.Text.{fieldsOf}
+use Rattle.tables.specs.Parts.{partAt, partsOf}
+use Rattle.tables.proofs.Parts.{parts-length, parts-at, parts-are}
+use Rattle.case.specs.declared.Case.{Case}
+use Rattle.case.specs.Case.{caseOf}
+use Rattle.case.specs.Columns.{columns, nameCount, name-count}
+use Rattle.header.specs.Header.{columnsOf}
+use Rattle.line.specs.Line.{lineValues, lineCase}
+use Rattle.judgement.specs.Sheet.{names, valueLines}
+use Rattle.judgement.specs.Accepted as judged
+use Rattle.judgement.specs.Read.{Stored}
+use Rattle.sheet.specs.Answer.{cases}
+use Rattle.sheet.specs.Rows.{storedCases, StoredBounds}
+use Rattle.sheet.proofs.Accepted.{sound-bounds}
+
+-- ---- the cases of any stored values
+
+pub cases-count : (values : List ℕ) (n : ℕ) → length (storedCases values n) ≡ n
+unfolding storedCases
+cases-count values n = length-map (partsOf nameCount n values) caseOf ∙ parts-length nameCount n values
+
+pub stored-case : (values : List ℕ) (n i : ℕ) → i < n → getD (storedCases values n) i (caseOf []) ≡ caseOf (partAt nameCount values i)
+unfolding storedCases
+stored-case values n i h = List·getD-map caseOf (partsOf nameCount n values) i [] ∙ ap caseOf (parts-at nameCount n i values h)
+
+-- ---- the case of line i of a sheet
+
+pub case-at : (at : List ℕ) (ls : List (List ℕ)) (n : ℕ) → n < length ls
+    → getD (map (λ line. lineCase at (fieldsOf line)) ls) n (caseOf []) ≡ lineCase at (fieldsOf (getD ls n []))
+case-at at [] n h = absurd (omega arith)
+case-at at (l ∷ ls) zero h = refl
+case-at at (l ∷ ls) (suc n) h = case-at at ls n (omega arith)
+
+-- ---- the values of an accepted sheet
+
+line-at : (f : List ℕ → List ℕ) (ls : List (List ℕ)) (i : ℕ) → i < length ls → getD (map f ls) i [] ≡ f (getD ls i [])
+line-at f [] i h = absurd (omega arith)
+line-at f (l ∷ ls) zero h = refl
+line-at f (l ∷ ls) (suc i) h = line-at f ls i (omega arith)
+
+cases-map : (at : List ℕ) (ls : List (List ℕ)) → map caseOf (map (λ line. lineValues at (fieldsOf line)) ls) ≡ map (λ line. lineCase at (fieldsOf line)) ls
+unfolding lineCase
+cases-map at [] = refl
+cases-map at (l ∷ ls) = ap (λ (m : List Case). caseOf (lineValues at (fieldsOf l)) ∷ m) (cases-map at ls)
+
+module _ {s : List ℕ} {n : ℕ} (values : List ℕ) (a : judged.Accepted columns s n) (stored : Stored columns (columnsOf columns (names s)) (valueLines s) values) where
+  part : (i : ℕ) → i < n → partAt nameCount values i ≡ lineValues (columnsOf columns (names s)) (fieldsOf (getD (valueLines s) i []))
+  part i h = rw (← name-count) (stored i (omega (arith, a .count)))
+
+  pub stored-cases : storedCases values n ≡ cases s
+  unfolding storedCases cases
+  stored-cases =
+      let at = columnsOf columns (names s) in
+      let f : List ℕ → List ℕ = λ line. lineValues at (fieldsOf line) in
+      let ls = map f (valueLines s) in
+      let k : length ls ≡ n = length-map (valueLines s) f ∙ sym (a .count) in
+      let p : partsOf nameCount n values ≡ ls =
+      rw (← k) (parts-are nameCount values ls (λ i h. part i (omega arith) ∙ sym (line-at f (valueLines s) i (omega (arith, a .count))))) in
+      ap (map caseOf) p ∙ cases-map at (valueLines s)
+
+  pub stored-bounds : StoredBounds values n
+  unfolding lineCase
+  stored-bounds i h = rw (part i h) (sound-bounds (a .placed) (a .lines .line i (omega (arith, a .count))))
