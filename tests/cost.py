@@ -1,14 +1,15 @@
 """Counts the instructions that the program `verdict` takes for a line of a sheet.
 
     rt check verdict
-    python3 tests/cost.py [--program target/bin/verdict] [--sheet FILE] [--lines N]
+    python3 tests/cost.py [--program target/bin/verdict] [--beside target/bin/summary] [--sheet FILE] [--lines N]
 
 It needs valgrind. The stored sheet has squares only; it is measured as it is, and with unequal counts
 in their place. Each figure is a difference of two runs, on the whole sheet and on its first two lines,
 so that the program's start and the line of names do not count. A sheet whose last line repeats the
 first one's station and season is judged to its end and not written, which tells judging from working.
 What the functions in PRINTING take is left out; the little of the printing that is compiled into `main`
-stays in the second figure.
+stays in the second figure. With --beside the whole of a line by another program is told too, and how many
+times the first it is; what is compiled into that program's `main` of its printing stays in.
 """
 
 import argparse
@@ -74,6 +75,7 @@ def a_line(program, lines, change):
 def main():
     parser = argparse.ArgumentParser(description=__doc__.split("\n")[0])
     parser.add_argument("--program", default=PROGRAM)
+    parser.add_argument("--beside", help="another program, for the whole of a line")
     parser.add_argument("--sheet", default=SHEET, type=Path)
     parser.add_argument("--lines", type=int, help="repeat the sheet's lines up to so many")
     asked = parser.parse_args()
@@ -85,6 +87,9 @@ def main():
         whole = a_line(asked.program, sheet, list)
         print(f"{what}: {judged:.0f} instructions to judge a line, "
               f"{whole - judged:.0f} to work out and write its row")
+        if asked.beside:
+            other = a_line(asked.beside, sheet, list)
+            print(f"{what}: {other:.0f} instructions a line by {asked.beside}, {other / whole:.3f} times {whole:.0f}")
 
 
 if __name__ == "__main__":

@@ -2,10 +2,12 @@
 // numbers and the verdicts, for a table with room for every row and for one with room for two.
 // After each stands how many numbers of the whole table kept what they held.
 // tests/test_batch.py judges the lines.
-mod table;
-
 use listing::Listing;
 use listing::TABLE;
+use listing::count_kept;
+use listing::hold;
+use print::bytes;
+use print::number;
 use row::ROW_LENGTH;
 use text::find;
 use text::skip;
@@ -16,13 +18,21 @@ const SHORT: usize = 2 * ROW_LENGTH;
 
 const BYTES: usize = 524288;
 
+// The line that says how many numbers are as they were.
+fn kept(table: [i64; TABLE]) {
+    bytes(b"kept,");
+    number(count_kept(&table) as u64);
+    bytes(b"\n");
+}
+
 // One answer, in the first room numbers of a table.
 fn answer(what: Listing, s: &[u8], room: usize)
     requires { do ⌜ room ≤ (← ⟦TABLE⟧) ⌝ }
 {
-    let mut table = table::held();
+    let mut table = [0i64; TABLE];
+    hold(&mut table);
     listing::answer(what, s, &mut table[..room]);
-    table::kept(table);
+    kept(table);
 }
 
 // The four answers to a sheet.

@@ -18,6 +18,8 @@ pub use sheet::Answer;
 pub use sheet::sheet;
 pub use staged::SplitAnswer;
 pub use staged::split;
+pub use stations::Summed;
+pub use stations::summary;
 pub use yards::FewestLines;
 pub use yards::fewest_lines;
 

@@ -1,20 +1,29 @@
-// The answer to a sheet as text: a line of names and a line for each row, or the refusal; and the answer of a search.
+// The answer to a sheet as text: a line of names and a line for each row, or the refusal; the summary of its stations; and the answer of a search.
+mod held;
 mod rows;
 mod search;
+mod summary;
 mod verdicts;
 
 use judgement::BYTES;
 use judgement::LINES;
 use row::ROW_LENGTH;
 use sheet::Answer;
+use stations::STATION_LENGTH;
 ghost use Prim.Native.Nat.{_≤_, _*_};
 ghost use lib.ListN.{length};
 ghost use Rattle.row.specs.Row.{rowLength};
+pub use held::count_kept;
+pub use held::hold;
 pub use rows::numbers;
 pub use search::fewest;
+pub use summary::summary_and_rows;
 
 // A row for each of the most value lines.
 pub const TABLE: usize = LINES * ROW_LENGTH;
+
+// Six numbers for each of the most stations.
+pub const SUMMARY: usize = LINES * STATION_LENGTH;
 
 // One byte more than a sheet may have, so that a longer one is refused.
 const SPACE: usize = BYTES + 1;
@@ -72,4 +81,13 @@ pub fn run(what: Listing) {
     let n = input::read(&mut space);
     let mut table = [0i64; TABLE];
     answer(what, &space[..n], &mut table);
+}
+
+// Reads a sheet from standard input and prints the summary of its stations.
+pub fn run_summary() {
+    let mut space = [0u8; SPACE];
+    let n = input::read(&mut space);
+    let mut table = [0i64; TABLE];
+    let mut beside = [0i64; SUMMARY];
+    summary::summary(&space[..n], &mut table, &mut beside);
 }

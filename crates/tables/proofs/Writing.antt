@@ -31,7 +31,7 @@ pub put-written-as : {A : Type 0} {width : ℕ} (w i : ℕ) (t part : List A) �
 put-written-as w i t part e h r =
     subst (λ (k : ℕ). Written k i part t (putMid (w * i) (w * i + w - w * i) t part)) e (put-written w i t part h (r ∙ sym e))
 
-part-of-front : {A : Type 0} (k a m : ℕ) (l : List A) → a + k ≤ m → take k (drop a (take m l)) ≡ take k (drop a l)
+pub part-of-front : {A : Type 0} (k a m : ℕ) (l : List A) → a + k ≤ m → take k (drop a (take m l)) ≡ take k (drop a l)
 part-of-front k zero m l h = take-take k m l (omega arith)
 part-of-front k (suc a) zero l h = absurd (omega arith)
 part-of-front k (suc a) (suc m) [] h = refl

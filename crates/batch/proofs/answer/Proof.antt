@@ -6,8 +6,11 @@ use borrow.Author.Needs.{needs}
 use Rattle.batch.proofs.answer.Statement.{statement}
 use Rattle.batch.proofs.answer.Tie as tie
 
-held-requires : tie.Need-held-requires
-held-requires c κs = search needs
+slice-aggregate-hold : tie.Need-slice-aggregate-hold
+slice-aggregate-hold c = search needs
+
+hold-requires : tie.Need-hold-requires
+hold-requires c κs = search needs
 
 array-borrow-prefix-table : tie.Need-array-borrow-prefix-table
 array-borrow-prefix-table c = search needs
@@ -28,7 +31,8 @@ pub answer-spec : {M : Type 1} → statement M
 answer-spec =
     tie.close
     (tie.spec
-    held-requires
+    slice-aggregate-hold
+    hold-requires
     array-borrow-prefix-table
     slice-aggregate-answer
     answer-requires

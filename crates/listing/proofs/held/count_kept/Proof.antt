@@ -1,12 +1,12 @@
--- `batch::table::count_kept` is safe and ends: no more are counted than are passed.
+-- `listing::held::count_kept` is safe and ends: no more are counted than are passed.
 -- Assumes nothing.
 use Prim.Native.Nat.{_-_, _≤_}
 use mathlib.Core.Logic.{⊎-elim}
 use native.Mathlib.Omega.{arith}
 use lib.ListN.{length}
 use borrow.Author.Needs.{needs}
-use Rattle.batch.proofs.table.count_kept.Statement.{statement}
-use Rattle.batch.proofs.table.count_kept.Tie as tie
+use Rattle.listing.proofs.held.count_kept.Statement.{statement}
+use Rattle.listing.proofs.held.count_kept.Tie as tie
 
 abbrev Inv-loop : tie.InvT-loop
 Inv-loop table n₀ i₀ n i = n ≤ i
@@ -20,8 +20,8 @@ loop-holds c = search needs
 mul-if1 : tie.Need-mul-if1 Inv-loop μ-loop
 mul-if1 c = search needs
 
-array-copy-out-if1 : tie.Need-array-copy-out-if1 Inv-loop μ-loop
-array-copy-out-if1 c = search needs
+shared-slice-copy-out-if1 : tie.Need-shared-slice-copy-out-if1 Inv-loop μ-loop
+shared-slice-copy-out-if1 c = search needs
 
 number-at-requires : tie.Need-number-at-requires Inv-loop μ-loop
 number-at-requires c κs = search needs
@@ -49,7 +49,7 @@ count-kept-spec =
     μ-loop
     loop-holds
     mul-if1
-    array-copy-out-if1
+    shared-slice-copy-out-if1
     number-at-requires
     add-n
     add-i

@@ -1,0 +1,13 @@
+pub mod Same
+pub mod Tables
+pub mod RowSums
+pub mod Appearing
+pub mod OneRowMore
+pub mod StationSums
+pub mod StandsOnce
+pub mod Totals
+pub mod WorstSeason
+pub mod Copying
+pub mod AnyRoom
+pub mod Answers
+pub mod Within

@@ -1,0 +1,59 @@
+-- The stations that a sheet is answered with lie within the summary table.
+-- Assumes nothing.
+use Prim.Native.Nat.{ℕ, _*_, _≤_}
+use mathlib.Core.Path.{_≡_, refl, sym, ap, _∙_}
+use mathlib.Core.Bool.{Bool, true, false, cond}
+use mathlib.Core.List.{List, [], _∷_, map}
+use native.Mathlib.Omega.{arith}
+use lib.Dec.{ltb}
+use lib.IntN.{ℤ}
+use lib.ListN.{length, drop, length-drop}
+use borrow.Author.Tests.{ltb-false}
+use Rattle.row.specs.declared.Row.{Row}
+use Rattle.sheet.specs.declared.Answer.{Answer}
+use Rattle.sheet.specs.declared.Answer.the-variants as sheet
+use Rattle.sheet.specs.Table.{Answered}
+use Rattle.stations.specs.declared.Summed.{Summed}
+use Rattle.stations.specs.declared.Summed.the-variants.{Summary, Refused}
+use Rattle.stations.specs.Summary.{stations, rowsOf, stationLength, stationNumbers, summaryOf, filled}
+use Rattle.stations.specs.Answer.{sheetRows, summaryRefused, answerAfter, summaryAnswer, Summarised, TablesAfter, SummaryAnswered}
+
+-- what counts of rows and stations say of the room
+record Counted (room : ℕ) (rows : List Row) (m : ℕ) : Type 0 where
+  count : m ≡ length (stations rows)
+  fits : stationLength * m ≤ room
+
+counted : (room : ℕ) (rows : List Row) (a : Answer) (n m : ℕ) → Summary n m ≡ answerAfter room rows a → Counted room rows m
+unfolding answerAfter summaryRefused
+counted room rows (sheet.Refused k l c) n m e = let z : _≡_ {A = ℕ} 0 1 = cc in absurd (omega arith)
+counted room rows (sheet.Rows k) n m e = go (ltb room (stationLength * length (stations rows))) refl e
+  where
+    go : (b : Bool) → ltb room (stationLength * length (stations rows)) ≡ b → Summary n m ≡ cond b (Refused 20 0 0) (Summary k (length (stations rows))) → Counted room rows m
+    go true f h = let z : _≡_ {A = ℕ} 0 1 = cc in absurd (omega arith)
+    go false f h =
+        let q : m ≡ length (stations rows) = cc in
+        record { count = q; fits = rw q (ltb-false room (stationLength * length (stations rows)) f) }
+
+-- the summary fills its own part of the table
+filled-length : (rows : List Row) (l : List ℤ) (before : List ℤ) → stationLength * length l ≤ length before
+    → length (filled (map (λ station. stationNumbers station (rowsOf station rows)) l) before) ≡ length before
+unfolding filled stationNumbers
+filled-length rows [] before h = refl
+filled-length rows (x ∷ l) before h =
+    omega (arith, filled-length rows l (drop stationLength before) (omega (arith, length-drop stationLength before)), length-drop stationLength before)
+
+module _ {s : List ℕ} {rowsBefore rowsAfter before after : List ℤ} {r : Summed} {n m : ℕ} (a : SummaryAnswered s rowsBefore rowsAfter before after r) (e : r ≡ Summary n m) where
+  tables : Summarised s n rowsBefore rowsAfter before after
+  unfolding TablesAfter
+  tables = rw e at (a .tables-are)
+
+  -- the rows are those of the sheet's own question
+  pub rows-of-sheet : Answered s rowsBefore rowsAfter (sheet.Rows n)
+  rows-of-sheet = tables .rows
+
+  pub summary-within : stationLength * m ≤ length after
+  unfolding summaryAnswer summaryOf
+  summary-within =
+      let c = counted (length before) (sheetRows s) _ n m (sym e ∙ a .answer-is) in
+      let long = filled-length (sheetRows s) (stations (sheetRows s)) before (omega (arith, c .fits, c .count)) in
+      omega (arith, c .fits, long, ap length (tables .summary))

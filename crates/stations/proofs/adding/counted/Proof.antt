@@ -1,0 +1,29 @@
+-- `counted` compares the bits of two numbers.
+-- Assumes nothing.
+use mathlib.Core.Path.{sym, _∙_}
+use Rattle.stations.specs.Summary.{one}
+use borrow.Author.Needs.{needs}
+use borrow.Author.Tests.{eq-eqb, ne-eqb}
+use mir.Syntax.{w64}
+use mir.Val.{SFits}
+use Rattle.stations.proofs.Same.{same-bits}
+use Rattle.stations.proofs.adding.counted.Statement.{statement}
+use Rattle.stations.proofs.adding.counted.Tie as tie
+
+held : (s : tie.Start) → SFits w64 (s .args .e .verdict) × SFits w64 (s .args .v)
+held s = search needs
+
+returns : tie.Need-returns
+unfolding one
+returns c =
+    let h = held (c .before .before .before) in
+    rw (sym (same-bits (h .0) (h .1)) ∙ eq-eqb _ _ (c .if1 .taken))
+
+returns-2 : tie.Need-returns-2
+unfolding one
+returns-2 c =
+    let h = held (c .before .before .before) in
+    rw (sym (same-bits (h .0) (h .1)) ∙ ne-eqb _ _ (c .if1 .left))
+
+pub counted-spec : {M : Type 1} → statement M
+counted-spec = tie.close (tie.spec returns returns-2)

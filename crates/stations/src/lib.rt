@@ -1,0 +1,81 @@
+// The station summary beside the rows. Document 02 (m).
+mod adding;
+mod appearance;
+mod copy;
+mod gather;
+mod put;
+
+ghost use Rattle.stations.specs.Answer.{SummaryAnswered};
+use appearance::find_stations;
+use copy::copy_numbers;
+use gather::sum_rows;
+use judgement::LINES;
+use put::put_stations;
+use row::ROW_LENGTH;
+use sheet::Answer;
+use sheet::sheet;
+
+// A row for each of the most value lines.
+const TABLE: usize = LINES * ROW_LENGTH;
+
+// How many numbers a station has in the summary.
+pub const STATION_LENGTH: usize = 6;
+
+// What the summary reads of a row.
+pub struct Entry {
+    pub season: i64,
+    pub verdict: i64,
+    // upper end, millivolts
+    pub mesh: i64,
+}
+
+// The counts of one station, and its season with the highest upper mesh end.
+pub struct Sums {
+    pub seasons: usize,
+    pub safe: usize,
+    pub not_safe: usize,
+    pub undecided: usize,
+    pub season: i64,
+    pub mesh: i64,
+}
+
+// The stations of some rows by first appearance, of which there are count, and the place of each row's station among them.
+pub struct Found {
+    pub stations: [i64; LINES],
+    pub places: [usize; LINES],
+    pub count: usize,
+}
+
+// The count of rows and of stations, or a refusal with number, line and column.
+pub enum Summed {
+    Summary(usize, usize),
+    Refused(u32, usize, usize),
+}
+
+// The answer to a sheet, its rows in their table, and the summary of its stations beside them. The rows are worked in a table of its own, so that
+// nothing is written before the stations are counted.
+pub fn summary(s: &[u8], rows: &mut [i64], beside: &mut [i64]) -> Summed
+    ensures { λ r. ⌜ SummaryAnswered (now (s .entry)) (now (rows .entry)) (now (rows .exit)) (now (beside .entry)) (now (beside .exit)) r ⌝ }
+{
+    let mut own = [0i64; TABLE];
+    match sheet(s, &mut own) {
+        Answer::Refused(number, line, column) => Summed::Refused(number, line, column),
+        Answer::Rows(n) => {
+            let found = find_stations(&own, n);
+            let m = found.count;
+            let room = ROW_LENGTH * n;
+            let beside_room = STATION_LENGTH * m;
+            if rows.len() < room {
+                return Summed::Refused(8, 0, 0);
+            }
+            if beside.len() < beside_room {
+                return Summed::Refused(20, 0, 0);
+            }
+            copy_numbers(&own, room, rows);
+            let places = found.places;
+            let stations = found.stations;
+            put_stations(stations, sum_rows(&own, n, places), m, beside);
+            Summed::Summary(n, m)
+        }
+    }
+}
