@@ -1,0 +1,61 @@
+-- The table has room for the rows of every sheet, so no sheet is refused for want of it: the answer is that for the buffer's own room.
+-- Assumes nothing.
+use Prim.Native.Nat.{ℕ, _*_, _/_, _≤_, min}
+use mathlib.Core.Path.{_≡_, refl, sym, ap, _∙_}
+use mathlib.Core.Bool.{Bool, true, false}
+use mathlib.Core.List.{List}
+use native.Mathlib.Nat.{le-of-lt, min-eq-left, min-eq-right, min-le-left, min-le-right}
+use native.Mathlib.Omega.{arith}
+use borrow.Author.Tests.{le-ltb, ltb-true, ltb-false}
+use lib.Dec.{ltb}
+use Rattle.case.specs.Columns.{columns}
+use Rattle.row.specs.Row.{rowLength}
+use Rattle.judgement.specs.declared.Judgement.{Judgement}
+use Rattle.judgement.specs.declared.Judgement.the-variants as judged
+use Rattle.judgement.specs.Limits.{mostLines}
+use Rattle.judgement.specs.Sheet.{judgement}
+use Rattle.judgement.proofs.Accepted as judging
+use Rattle.sheet.specs.declared.Answer.{Answer}
+use Rattle.sheet.specs.declared.Answer.the-variants.{Rows, Refused}
+use Rattle.sheet.specs.Answer.{answerBy, answer}
+use Rattle.sheet.proofs.Accepted.{accepted}
+use Rattle.panel.specs.Bytes.{numberBytes}
+use Rattle.panel.specs.Room.{roomOf, Few}
+
+-- two tables with room for the most rows have one answer
+both-answer : (a b : ℕ) (j : Judgement) → ((n : ℕ) → j ≡ judged.Lines n → n ≤ mostLines) → mostLines * rowLength ≤ a → mostLines * rowLength ≤ b
+    → answerBy a j ≡ answerBy b j
+unfolding answerBy
+both-answer a b (judged.Refused k l c) most ha hb = refl
+both-answer a b (judged.Lines n) most ha hb =
+    let h : n ≤ mostLines = most n refl in
+    rw (le-ltb a (rowLength * n) (omega arith), le-ltb b (rowLength * n) (omega arith))
+
+pub room-enough : (s : List ℕ) (bytes : ℕ) → answer s (roomOf bytes) ≡ answer s (bytes / numberBytes)
+unfolding roomOf answer
+room-enough s bytes = go (ltb (bytes / numberBytes) (mostLines * rowLength)) refl
+  where
+    go : (b : Bool) → ltb (bytes / numberBytes) (mostLines * rowLength) ≡ b → answer s (roomOf bytes) ≡ answer s (bytes / numberBytes)
+    go true e = ap (answer s) (min-eq-left (le-of-lt (ltb-true (bytes / numberBytes) (mostLines * rowLength) e)))
+    go false e =
+        let h = ltb-false (bytes / numberBytes) (mostLines * rowLength) e in
+        ap (answer s) (min-eq-right h)
+        ∙ both-answer (mostLines * rowLength) (bytes / numberBytes) (judgement columns s) (λ n f. judging.accepted columns s n f .most) (omega arith) h
+
+pub few : (s : List ℕ) (room : ℕ) (a : Answer) → a ≡ answer s room → Few a
+unfolding Few
+few s room (Rows n) e = accepted s room n (sym e) .sheet .most
+few s room (Refused k l c) e = tt
+
+-- the rows of an accepted sheet lie within the buffer and within the table
+pub record Fitting (bytes n : ℕ) : Type 0 where
+  pub table : rowLength * n ≤ mostLines * rowLength
+  pub buffer : numberBytes * (rowLength * n) ≤ bytes
+
+pub fitting : (s : List ℕ) (bytes n : ℕ) → Rows n ≡ answer s (roomOf bytes) → Fitting bytes n
+unfolding roomOf
+fitting s bytes n e =
+    let h : rowLength * n ≤ min (bytes / numberBytes) (mostLines * rowLength) = accepted s (roomOf bytes) n (sym e) .fits in
+    let k = min-le-left (bytes / numberBytes) (mostLines * rowLength) in
+    let l = min-le-right (bytes / numberBytes) (mostLines * rowLength) in
+    record { table = omega arith; buffer = omega arith }

@@ -1,0 +1,91 @@
+-- `put_numbers` puts number after number, each in its own eight bytes.
+-- Assumes nothing.
+use Prim.Native.Nat.{_-_, _≤_}
+use mathlib.Core.Path.{_≡_}
+use native.Mathlib.Omega.{arith}
+use borrow.Author.Needs.{needs}
+use lib.IntN.{pos}
+use lib.ListN.{getD}
+use mir.Syntax.{w64}
+use mir.Val.{SFits}
+use mir.Facts.{toZ-ofZ}
+use Rattle.panel.specs.Put.{Put}
+use Rattle.panel.proofs.Putting.{put-start, put-next}
+use Rattle.panel.proofs.little_endian.put_numbers.Statement.{statement}
+use Rattle.panel.proofs.little_endian.put_numbers.Tie as tie
+
+abbrev Inv-loop : tie.InvT-loop
+Inv-loop table n buffer₀ i₀ buffer i = (i ≤ n) × Put table i buffer₀ buffer
+
+abbrev μ-loop : tie.MeasureT-loop
+μ-loop table n buffer₀ i₀ buffer i = n - i
+
+loop-holds : tie.Need-loop-holds Inv-loop μ-loop
+loop-holds c = (omega arith, put-start _ _)
+
+mul-a : tie.Need-mul-a Inv-loop μ-loop
+mul-a c = search needs
+
+add-b : tie.Need-add-b Inv-loop μ-loop
+add-b c = search needs
+
+mul-put-number : tie.Need-mul-put-number Inv-loop μ-loop
+mul-put-number c = search needs
+
+shared-slice-copy-out-put-number : tie.Need-shared-slice-copy-out-put-number Inv-loop μ-loop
+shared-slice-copy-out-put-number c = search needs
+
+sub-put-number : tie.Need-sub-put-number Inv-loop μ-loop
+sub-put-number c = search needs
+
+part-put-number-start : tie.Need-part-put-number-start Inv-loop μ-loop
+part-put-number-start c = search needs
+
+part-put-number-end : tie.Need-part-put-number-end Inv-loop μ-loop
+part-put-number-end c = omega (arith, c .before .before .loop .inv .1 .size)
+
+put-number-requires : tie.Need-put-number-requires Inv-loop μ-loop
+put-number-requires c κs = search needs
+
+add-i : tie.Need-add-i Inv-loop μ-loop
+add-i c = search needs
+
+loop-less : tie.Need-loop-less Inv-loop μ-loop
+loop-less c = omega arith
+
+loop-again : tie.Need-loop-again Inv-loop μ-loop
+loop-again c =
+    let l = c .before .before .before .before .before .before in
+    let f : SFits w64 (getD (l .before .before .args .table .now) (l .loop .i) (pos 0)) = search needs in
+    let b = c .before .before .put-number .ensures in
+    (omega arith, put-next (l .loop .inv .1) (omega arith) (omega (arith, l .loop .inv .1 .size)) f (rw (toZ-ofZ f) at b))
+
+same-length : tie.Need-same-length Inv-loop μ-loop
+same-length c = c .before .loop .inv .1 .size
+
+returns : tie.Need-returns Inv-loop μ-loop
+returns c =
+    let l = c .before .loop in
+    let e : l .i ≡ c .before .before .before .args .n = omega (arith, l .inv .0) in
+    rw (← e) (l .inv .1)
+
+pub put-numbers-spec : {M : Type 1} → statement M
+put-numbers-spec =
+    tie.close
+    (tie.spec
+    Inv-loop
+    μ-loop
+    loop-holds
+    mul-a
+    add-b
+    mul-put-number
+    shared-slice-copy-out-put-number
+    sub-put-number
+    part-put-number-start
+    part-put-number-end
+    put-number-requires
+    add-i
+    loop-less
+    loop-again
+    same-length
+    returns)

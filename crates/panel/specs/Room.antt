@@ -1,0 +1,17 @@
+-- The room of a buffer, in numbers.
+-- Assumes nothing.
+use Prim.Native.Nat.{ℕ, _*_, _/_, _≤_, min}
+use Rattle.judgement.specs.Limits.{mostLines}
+use Rattle.row.specs.Row.{rowLength}
+use Rattle.sheet.specs.declared.Answer.{Answer}
+use Rattle.sheet.specs.declared.Answer.the-variants.{Rows, Refused}
+use Rattle.panel.specs.Bytes.{numberBytes}
+
+-- as many numbers as the buffer has room for, and no more than the most rows have
+unfoldable pub roomOf : ℕ → ℕ
+roomOf bytes = min (bytes / numberBytes) (mostLines * rowLength)
+
+-- a count of rows that is at most the most value lines; of a refusal nothing
+unfoldable pub Few : Answer → Type 0
+Few (Rows count) = count ≤ mostLines
+Few (Refused number line column) = Unit {0}

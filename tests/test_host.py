@@ -1,0 +1,200 @@
+"""The judge of the C entry tells wrong entries, and the lines that the example panel printed are right."""
+
+import random
+import re
+import struct
+import unittest
+from pathlib import Path
+
+import calculator as calc
+import differential
+import host
+from calculator import Refusal
+
+ROOT = Path(__file__).parents[1]
+DEPTH = 12
+WIDTH = 1.2e-4  # how far the ends of a voltage and of its limit may be apart together, as a share
+PAST = 40  # bytes of a buffer past its rows
+
+
+class Entry:
+    """A right entry, made from the calculator's own rows, with a buffer that has room for a bit more."""
+
+    def __init__(self, sheet, buffer_bytes=None):
+        cases = calc.read_sheet(sheet)
+        size = host.LINE_BYTES * len(cases) + PAST if buffer_bytes is None else buffer_bytes
+        self.before = random.Random(1).randbytes(size)
+        self.wanted = host.answer_of(sheet, size)
+        self.after = bytearray(self.before)
+        if isinstance(self.wanted, Refusal):
+            self.told = [-self.wanted.number, self.wanted.line, self.wanted.column]
+            return
+        self.told = [len(cases), host.UNTOLD, host.UNTOLD]
+        self.rows = [calc.row_at(case, DEPTH) for case in cases]
+        self.write(host.ROW)
+
+    def write(self, form):
+        for i, row in enumerate(self.rows):
+            form.pack_into(self.after, host.LINE_BYTES * i, *row)
+
+    def wrong(self):
+        return host.judge(self.wanted, self.before, self.told, bytes(self.after), lambda: False)
+
+
+class WrongEntries(unittest.TestCase):
+    def setUp(self):
+        rng = random.Random(3)
+        self.cases = [differential.random_case(rng)._replace(station=station) for station in (1, 2, 3)]
+        self.sheet = differential.sheet_of(self.cases)
+        self.refused = differential.sheet_of([self.cases[0]._replace(depth=249), self.cases[1]])
+
+    def test_right(self):
+        self.assertEqual(Entry(self.sheet).wrong(), [])
+        self.assertEqual(Entry(self.refused, 1000).wrong(), [])
+        self.assertEqual(Entry(self.sheet, 3 * 160).wrong(), [])
+        self.assertEqual(Entry(self.sheet, 3 * 160 - 1).told, [-8, 0, 0])
+
+    def test_big_endian(self):
+        entry = Entry(self.sheet)
+        entry.write(struct.Struct(f">{calc.ROW_LENGTH}q"))
+        self.assertTrue(entry.wrong())
+
+    def test_four_bytes(self):
+        entry = Entry(self.sheet)
+        entry.rows = [[number % 2**32 for number in row] for row in entry.rows]
+        entry.write(host.ROW)
+        self.assertTrue(entry.wrong())
+
+    def test_refusal_not_negated(self):
+        entry = Entry(self.refused, 1000)
+        entry.told[0] = -entry.told[0]
+        self.assertTrue(entry.wrong())
+
+    def test_refusal_that_writes(self):
+        for entry in (Entry(self.refused, 1000), Entry(self.sheet, 479)):
+            entry.after[0] ^= 1
+            self.assertTrue(entry.wrong())
+
+    def test_byte_past_last_row(self):
+        for at in (3 * 160, 3 * 160 + PAST - 1):
+            entry = Entry(self.sheet)
+            entry.after[at] ^= 1
+            self.assertTrue(entry.wrong())
+
+    def test_short_buffer_answered(self):
+        entry = Entry(self.sheet, 479)
+        entry.told[0] = 2
+        self.assertTrue(entry.wrong())
+
+    def test_other_count(self):
+        entry = Entry(self.sheet)
+        entry.told[0] = 2
+        self.assertTrue(entry.wrong())
+
+    def test_rows_exchanged(self):
+        entry = Entry(self.sheet)
+        entry.rows.reverse()
+        entry.write(host.ROW)
+        self.assertTrue(entry.wrong())
+
+    def test_place(self):
+        entry = Entry(self.refused, 1000)
+        entry.told[1:] = entry.told[:0:-1]
+        self.assertTrue(entry.wrong())
+        entry = Entry(self.sheet)
+        entry.told[1:] = [0, 0]
+        self.assertTrue(entry.wrong())
+
+    def test_buffer_cut_off(self):
+        entry = Entry(self.sheet)
+        del entry.after[-1]
+        self.assertTrue(entry.wrong())
+
+
+class Panel(unittest.TestCase):
+    """The example's stored lines: a line for each row, and the margin on the cautious side."""
+
+    line = re.compile(r"station (\d+) season (\d+): (safe|unsafe|undecided), (\d+)\.(\d) % (above|below)")
+
+    def judge(self, sheet, lines):
+        cases = calc.read_sheet(sheet)
+        self.assertEqual(len(lines), len(cases))
+        for case, line in zip(cases, lines):
+            found = self.line.fullmatch(line)
+            self.assertIsNotNone(found, line)
+            station, season, verdict, whole, tenth, side = found.groups()
+            self.assertEqual((int(station), int(season)), (case.station, case.season))
+            ends = calc.exact_ends(case, DEPTH)
+            pairs = ((ends.mesh, ends.tolerable_touch), (ends.step, ends.tolerable_step))
+            exact = min(float(1 - voltage.lower / limit.lower) for voltage, limit in pairs) * 1000
+            slack = WIDTH * (1000 + abs(exact))
+            if verdict == "undecided":
+                self.assertLess(abs(exact), slack, line)
+            else:
+                self.assertEqual(verdict, "safe" if exact >= 0 else "unsafe", line)
+            tenths = (10 * int(whole) + int(tenth)) * (1 if side == "below" else -1)
+            self.assertLessEqual(tenths, exact, line)
+            self.assertLess(exact, tenths + 1 + slack, line)
+
+    def stored(self, name):
+        return (ROOT / "examples" / name).read_text("ascii").splitlines()
+
+    def test_sample(self):
+        self.judge((ROOT / "tests/sample.csv").read_bytes(), self.stored("sample.out"))
+
+    def test_rows(self):
+        self.judge((ROOT / "crates/rows/stdin").read_bytes(), self.stored("rows.out"))
+
+    def test_wrong_lines(self):
+        sheet, lines = (ROOT / "tests/sample.csv").read_bytes(), self.stored("sample.out")
+        changes = (("unsafe", "safe"), ("22.3", "22.4"), ("22.3", "22.2"), ("above", "below"), ("season 1", "season 2"), ("68.2", "68.3"))
+        for old, new in changes:
+            changed = [line.replace(old, new) for line in lines]
+            self.assertNotEqual(changed, lines)
+            with self.assertRaises(AssertionError):
+                self.judge(sheet, changed)
+
+    def test_refused(self):
+        refusal = calc.read_sheet((ROOT / "examples/refused.csv").read_bytes())
+        (line,) = self.stored("refused.out")
+        self.assertTrue(line.startswith("refused with %d, line %d, column %d: " % refusal))
+
+
+class Header(unittest.TestCase):
+    """include/hocsimbur.h says what the crate has: entries, limits, and the places of a row's numbers."""
+
+    text = (ROOT / "include/hocsimbur.h").read_text("ascii")
+    source = (ROOT / "crates/panel/src/lib.rt").read_text("utf-8")
+    forms = {"&[u8]": ["const uint8_t *", "size_t "], "&mut [u8]": ["uint8_t *", "size_t "], "&mut [usize]": ["size_t *", "size_t "]}
+
+    def test_entries(self):
+        exported = {
+            name: [form for field in fields.split(", ") for form in self.forms[field.split(": ")[1]]]
+            for name, fields in re.findall(r'extern "C" fn (\w+)\(([^)]*)\) -> i64', self.source)}
+        declared = {
+            name: [re.fullmatch(r"(.*[ *])\w+", field)[1] for field in fields.split(", ")]
+            for name, fields in re.findall(r"^int64_t (\w+)\(([^)]*)\);", self.text, re.M)}
+        self.assertEqual(self.source.count('extern "C"'), len(exported))
+        self.assertEqual(exported, declared)
+        self.assertEqual(set(exported), {"hocsimbur_rows", "hocsimbur_rows_at"})
+
+    def test_limits(self):
+        said = dict(re.findall(r"#define HOCSIMBUR_(\w+) +(\d+)", self.text))
+        wanted = {"LINES": calc.MAX_VALUE_LINES, "SHEET_BYTES": calc.MAX_BYTES, "NUMBERS": calc.ROW_LENGTH, "ROW_BYTES": host.LINE_BYTES}
+        self.assertEqual({name: int(number) for name, number in said.items()}, wanted)
+
+    def test_stack(self):
+        said = re.search(r"less than (\d+) kB of stack", self.text)[1]
+        held = re.search(r"MOST_STACK = (\d+)", (ROOT / "host/stack.c").read_text("ascii"))[1]
+        self.assertEqual(1000 * int(said), int(held))
+
+    def test_places(self):
+        listed = re.search(r"enum hocsimbur_number \{(.*?)\}", self.text, re.S)[1]
+        places = re.findall(r"HOCSIMBUR_(\w+)", listed)
+        wanted = ["STATION", "SEASON", "VERDICT", "KCMIL"]
+        wanted += [f"{name.upper()}_{end}" for name in calc.Ends._fields for end in ("LOWER", "UPPER")]
+        self.assertEqual(places, wanted)
+
+
+if __name__ == "__main__":
+    unittest.main()
