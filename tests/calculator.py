@@ -57,10 +57,22 @@ COLUMNS = (
     ("metal", ((1, 11),)),
     ("hz", ((50, 50), (60, 60))),
 )
-NAMES = tuple(name for name, _ in COLUMNS)
-NAME_BYTES = tuple(name.encode("ascii") for name in NAMES)
-RANGES = tuple(spans for _, spans in COLUMNS)
-COLUMN_COUNT = len(COLUMNS)
+
+
+class Form:
+    """A table of names: what a sheet's columns are, and a record of its cases."""
+
+    def __init__(self, columns):
+        self.names = tuple(name for name, _ in columns)
+        self.name_bytes = tuple(name.encode("ascii") for name in self.names)
+        self.ranges = tuple(spans for _, spans in columns)
+        self.count = len(columns)
+        self.record = namedtuple("Case", self.names)
+
+
+FORM = Form(COLUMNS)
+NAMES, NAME_BYTES, RANGES, COLUMN_COUNT = FORM.names, FORM.name_bytes, FORM.ranges, FORM.count
+Case = FORM.record
 
 # The shock time, the fault's clearing time and the back-up clearing time for the wire.
 CLOCKS = ("shock", "clear", "wire")
@@ -117,7 +129,6 @@ MIN_DEPTH = 3
 DEFAULT_DEPTH = 12
 SHOWN_DECIMALS = 6
 
-Case = namedtuple("Case", NAMES)
 Grid = namedtuple("Grid", (*COUNTS, "space"))  # what n hangs on
 Refusal = namedtuple("Refusal", "number line column")
 Ends = namedtuple("Ends", [quantity.name for quantity in QUANTITIES])
@@ -375,7 +386,7 @@ def exp_minus(pair, k):
 # Reading a sheet.
 # --------------------------------------------------------------------------
 
-def read_sheet(sheet, table_length=None):
+def read_sheet(sheet, table_length=None, form=FORM):
     """A refusal, or the cases of a sheet (each a record, in document order).
 
     table_length counts the numbers of the caller's table; None is enough.
@@ -385,23 +396,23 @@ def read_sheet(sheet, table_length=None):
         return Refusal(1, 0, 0)
     header, *value_lines = sheet[: -len(LINE_END)].split(LINE_END)
     names = header.split(FIELD_END)
-    refusal = check_names(names) or check_line_count(len(value_lines))
+    refusal = check_names(names, form) or check_line_count(len(value_lines))
     if refusal:
         return refusal
-    cases = read_value_lines(names, value_lines)
+    cases = read_value_lines(names, value_lines, form)
     if not isinstance(cases, Refusal) and is_short(table_length, len(cases)):
         return Refusal(8, 0, 0)
     return cases
 
 
-def check_names(names):
+def check_names(names, form):
     """Refusal 2: the leftmost unknown or repeated name, else the first missing
     column.  A name after all good ones is always unknown or repeated.
     """
     for column, name in enumerate(names, start=1):
-        if name not in NAME_BYTES or name in names[: column - 1]:
+        if name not in form.name_bytes or name in names[: column - 1]:
             return Refusal(2, 1, column)
-    if len(names) < COLUMN_COUNT:
+    if len(names) < form.count:
         return Refusal(2, 1, len(names) + 1)
     return None
 
@@ -415,17 +426,17 @@ def check_line_count(count):
     return None
 
 
-def read_value_lines(names, value_lines):
+def read_value_lines(names, value_lines, form):
     """Line by line 3, 5, 6, 7; the first value line is line 2."""
-    order = [NAME_BYTES.index(name) for name in names]
+    order = [form.name_bytes.index(name) for name in names]
     cases, seen = [], set()
     for line, text in enumerate(value_lines, start=2):
         fields = text.split(FIELD_END)
-        column = wrong_form_column(fields)
+        column = wrong_form_column(fields, form.count)
         if column:
             return Refusal(3, line, column)
-        case = in_document_order(order, [int(field) for field in fields])
-        refusal = check_case(case, line, order)
+        case = in_document_order(order, [int(field) for field in fields], form)
+        refusal = check_case(case, line, order, form)
         if refusal:
             return refusal
         if (case.station, case.season) in seen:
@@ -435,17 +446,17 @@ def read_value_lines(names, value_lines):
     return cases
 
 
-def wrong_form_column(fields):
-    """Refusal 3: the leftmost wrong, missing or surplus value, or 0.
+def wrong_form_column(fields, count):
+    """Refusal 3: the leftmost wrong, missing or surplus value, or 0, where there are so many names.
 
     An empty line parts into one empty field, "an empty value in column 1".
     """
-    for column, field in enumerate(fields[:COLUMN_COUNT], start=1):
+    for column, field in enumerate(fields[:count], start=1):
         if not has_value_form(field):
             return column
-    if len(fields) < COLUMN_COUNT:
+    if len(fields) < count:
         return len(fields) + 1
-    return COLUMN_COUNT + 1 if len(fields) > COLUMN_COUNT else 0
+    return count + 1 if len(fields) > count else 0
 
 
 def has_value_form(field):
@@ -457,22 +468,22 @@ def has_value_form(field):
     return field == b"0" or field[:1] != b"0"
 
 
-def in_document_order(order, values):
+def in_document_order(order, values, form):
     """The case whose place order[i] holds the i-th value of the line."""
-    numbers = [None] * COLUMN_COUNT
+    numbers = [None] * form.count
     for place, value in zip(order, values):
         numbers[place] = value
-    return Case(*numbers)
+    return form.record(*numbers)
 
 
-def check_case(case, line, order):
-    """Refusals 5 and 6 of one case; order tells each column's place in NAMES."""
+def check_case(case, line, order, form):
+    """Refusals 5 and 6 of one case; order tells each column's place in the form's names."""
     for column, place in enumerate(order, start=1):
-        if not any(low <= case[place] <= high for low, high in RANGES[place]):
+        if not any(low <= case[place] <= high for low, high in form.ranges[place]):
             return Refusal(5, line, column)
     for group in ZERO_GROUPS:
         if len({getattr(case, name) == 0 for name in group}) > 1:
-            return Refusal(6, line, order.index(NAMES.index(group[0])) + 1)
+            return Refusal(6, line, order.index(form.names.index(group[0])) + 1)
     return None
 
 
@@ -481,7 +492,7 @@ def check_record(numbers):
 
     Its line is 0 and its column the place in the table of names.
     """
-    return check_case(Case(*numbers), 0, list(range(COLUMN_COUNT)))
+    return check_case(Case(*numbers), 0, list(range(COLUMN_COUNT)), FORM)
 
 
 def is_short(table_length, rows):

@@ -155,9 +155,9 @@ def cases_of_less_current(seed):
 class Sheet:
     """Names and lines of values, all of them text, that a damage may change."""
 
-    def __init__(self, rng):
+    def __init__(self, rng, names=HEADER_NAMES):
         self.rng = rng
-        self.names = HEADER_NAMES[:]
+        self.names = list(names)
         if rng.random() < 0.5:
             rng.shuffle(self.names)
         cases = {}

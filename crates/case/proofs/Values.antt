@@ -10,7 +10,7 @@ use Rattle.case.specs.Columns.{nameCount}
 use Rattle.case.specs.Case.{values, caseOf}
 use Rattle.case.specs.Check.{countFrom}
 
-entries-from : (v : List ℕ) (k n : ℕ) → k + n ≡ length v → map (λ i. getD v i 0) (countFrom k n) ≡ drop k v
+pub entries-from : (v : List ℕ) (k n : ℕ) → k + n ≡ length v → map (λ i. getD v i 0) (countFrom k n) ≡ drop k v
 unfolding countFrom
 entries-from v k zero h = sym (drop-of-length-le v {i = k} (omega arith))
 entries-from v k (suc n) h =

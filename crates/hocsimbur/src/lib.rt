@@ -3,6 +3,9 @@
 pub use case::Case;
 use case::Judged;
 use case::judge;
+pub use conversion::Carried;
+pub use conversion::carry;
+pub use conversion::carry_back;
 use decrement::factor_ends;
 pub use interval::Interval;
 pub use interval::Pair;

@@ -46,6 +46,7 @@ accepted form s n e =
       some = omega (arith, eqb-false (length (valueLines s)) 0 (r .0));
       most = rw c (ltb-false mostLines (length (valueLines s)) (t .0));
       lines = record { line = l .each };
+      judged = rw (← c) at (t .1);
     }
   where
     lines-same : {a b : ℕ} → Lines a ≡ Lines b → b ≡ a

@@ -4,3 +4,4 @@ pub mod Passing
 pub mod Whole
 pub mod LinesAccepted
 pub mod Accepted
+pub mod StoredLines

@@ -13,7 +13,8 @@ use Rattle.case.specs.Bounds.{Placed}
 use Rattle.header.specs.Header.{noColumns, wrongName, columnsOf}
 use Rattle.line.specs.Line.{wrongForm, lineValues}
 use Rattle.judgement.specs.Limits.{mostLines}
-use Rattle.judgement.specs.Sheet.{names, valueLines, badText}
+use Rattle.judgement.specs.Sheet.{names, valueLines, badText, linesJudgement}
+use Rattle.judgement.specs.declared.Judgement.the-variants.{Lines}
 
 -- a line of sound form with sound values
 pub record SoundLine (form : Form) (at line : List ℕ) : Type 0 where
@@ -31,3 +32,4 @@ pub record Accepted (form : Form) (s : List ℕ) (n : ℕ) : Type 0 where
   pub some : 1 ≤ n
   pub most : n ≤ mostLines
   pub lines : SoundLines form (columnsOf form (names s)) (valueLines s)
+  pub judged : linesJudgement form (columnsOf form (names s)) [] 2 (Lines n) (valueLines s) ≡ Lines n

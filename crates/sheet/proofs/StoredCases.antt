@@ -7,7 +7,7 @@ use native.Mathlib.Omega.{arith}
 use lib.ListN.{length, getD, length-map, List·getD-map}
 use Rattle.text.specs.Text.{fieldsOf}
 use Rattle.tables.specs.Parts.{partAt, partsOf}
-use Rattle.tables.proofs.Parts.{parts-length, parts-at, parts-are}
+use Rattle.tables.proofs.Parts.{parts-length, parts-at}
 use Rattle.case.specs.declared.Case.{Case}
 use Rattle.case.specs.Case.{caseOf}
 use Rattle.case.specs.Columns.{columns, nameCount, name-count}
@@ -16,6 +16,7 @@ use Rattle.line.specs.Line.{lineValues, lineCase}
 use Rattle.judgement.specs.Sheet.{names, valueLines}
 use Rattle.judgement.specs.Accepted as judged
 use Rattle.judgement.specs.Read.{Stored}
+use Rattle.judgement.proofs.StoredLines.{stored-parts}
 use Rattle.sheet.specs.Answer.{cases}
 use Rattle.sheet.specs.Rows.{storedCases, StoredBounds}
 use Rattle.sheet.proofs.Accepted.{sound-bounds}
@@ -40,11 +41,6 @@ case-at at (l ∷ ls) (suc n) h = case-at at ls n (omega arith)
 
 -- ---- the values of an accepted sheet
 
-line-at : (f : List ℕ → List ℕ) (ls : List (List ℕ)) (i : ℕ) → i < length ls → getD (map f ls) i [] ≡ f (getD ls i [])
-line-at f [] i h = absurd (omega arith)
-line-at f (l ∷ ls) zero h = refl
-line-at f (l ∷ ls) (suc i) h = line-at f ls i (omega arith)
-
 cases-map : (at : List ℕ) (ls : List (List ℕ)) → map caseOf (map (λ line. lineValues at (fieldsOf line)) ls) ≡ map (λ line. lineCase at (fieldsOf line)) ls
 unfolding lineCase
 cases-map at [] = refl
@@ -57,13 +53,8 @@ module _ {s : List ℕ} {n : ℕ} (values : List ℕ) (a : judged.Accepted colum
   pub stored-cases : storedCases values n ≡ cases s
   unfolding storedCases cases
   stored-cases =
-      let at = columnsOf columns (names s) in
-      let f : List ℕ → List ℕ = λ line. lineValues at (fieldsOf line) in
-      let ls = map f (valueLines s) in
-      let k : length ls ≡ n = length-map (valueLines s) f ∙ sym (a .count) in
-      let p : partsOf nameCount n values ≡ ls =
-      rw (← k) (parts-are nameCount values ls (λ i h. part i (omega arith) ∙ sym (line-at f (valueLines s) i (omega (arith, a .count))))) in
-      ap (map caseOf) p ∙ cases-map at (valueLines s)
+      ap (λ (k : ℕ). map caseOf (partsOf k n values)) (sym name-count) ∙ ap (map caseOf) (stored-parts values a stored)
+      ∙ cases-map (columnsOf columns (names s)) (valueLines s)
 
   pub stored-bounds : StoredBounds values n
   unfolding lineCase

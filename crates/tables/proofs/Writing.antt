@@ -38,7 +38,7 @@ part-of-front k (suc a) (suc m) [] h = refl
 part-of-front k (suc a) (suc m) (x ∷ l) h = part-of-front k a m l (omega arith)
 
 -- a part before part i ends where part i begins, or before
-part-before : (width i j : ℕ) → j < i → width * j + width ≤ width * i
+pub part-before : (width i j : ℕ) → j < i → width * j + width ≤ width * i
 part-before width i j h = omega (arith, mul-le-mul-left width h)
 
 -- the parts before part i are kept

@@ -1,0 +1,62 @@
+-- The claim about a sheet and its buffer, from what was read, found and written.
+-- Assumes nothing.
+use Prim.Native.Nat.{ℕ, _≤_, _<_}
+use mathlib.Core.Path.{_≡_, refl, sym, ap, _∙_}
+use mathlib.Core.Bool.{Bool, true, false, cond}
+use mathlib.Core.List.{List, [], _++_, map}
+use native.Mathlib.Omega.{arith}
+use lib.Dec.{leb, ltb}
+use lib.ListN.{length, drop}
+use borrow.Author.Tests.{lt-ltb, le-ltb, leb-true, leb-false}
+use Rattle.case.specs.declared.Form.{Form}
+use Rattle.case.specs.Parts.{formOf}
+use Rattle.judgement.specs.declared.Judgement.{Judgement}
+use Rattle.judgement.specs.declared.Judgement.the-variants as judged
+use Rattle.judgement.specs.Sheet.{judgement}
+use Rattle.writing.specs.Put.{WrittenFirst}
+use Rattle.writing.specs.declared.Written.{Written}
+use Rattle.writing.specs.declared.Written.the-variants.{Short, Count}
+use Rattle.conversion.specs.declared.Carried.the-variants.{Bytes, Refused}
+use Rattle.conversion.specs.Values.{other, carried}
+use Rattle.conversion.specs.Sheet.{casesIn, sheetOf}
+use Rattle.conversion.specs.Answer.{changes, carriedText, roomAnswer, refusedOr, answer, bufferAfter, Answered}
+
+module _ (form : Form) (s before : List ℕ) {j : Judgement} (judged-is : j ≡ judgement (formOf (other form)) s) where
+  pub answered-source : {k l c : ℕ} → j ≡ judged.Refused k l c → Answered form s before before (Refused k l c)
+  unfolding answer refusedOr bufferAfter
+  answered-source e = record { answer-is = rw (← judged-is, e); buffer-is = refl }
+
+  module _ {n : ℕ} (lines : j ≡ judged.Lines n) {r : Judgement} (change-is : r ≡ changes form (casesIn (formOf (other form)) s)) where
+    pub answered-change : {k l c : ℕ} → r ≡ judged.Refused k l c → Answered form s before before (Refused k l c)
+    unfolding answer refusedOr bufferAfter
+    answered-change e = record { answer-is = rw (← judged-is, lines, ← change-is, e); buffer-is = refl }
+
+    module _ {m : ℕ} (kept : r ≡ judged.Lines m) where
+      room-answer : answer form s (length before) ≡ roomAnswer (carriedText form s) (length before)
+      unfolding answer refusedOr
+      room-answer = rw (← judged-is, lines, ← change-is, kept)
+
+      -- what was written, or nothing
+      pub answered-short : {after : List ℕ} {o : Written} → WrittenFirst (carriedText form s) before after o → o ≡ Short → Answered form s before after (Refused 8 0 0)
+      unfolding roomAnswer bufferAfter
+      answered-short w p = go (leb (length (carriedText form s)) (length before)) refl (sym p ∙ w .answer) (w .holds)
+        where
+          go : (b : Bool) → leb (length (carriedText form s)) (length before) ≡ b → Short ≡ cond b (Count (length (carriedText form s))) Short
+              → {after : List ℕ} → after ≡ cond b (carriedText form s ++ drop (length (carriedText form s)) before) before → Answered form s before after (Refused 8 0 0)
+          go true q e h = let z : _≡_ {A = ℕ} 0 1 = cc in absurd (omega arith)
+          go false q e h =
+              record { answer-is = sym (room-answer ∙ rw (lt-ltb (length before) (length (carriedText form s)) (leb-false _ _ q))); buffer-is = h }
+
+      pub answered-written : {after : List ℕ} {o : Written} {k : ℕ} → WrittenFirst (carriedText form s) before after o → o ≡ Count k → Answered form s before after (Bytes k)
+      unfolding roomAnswer bufferAfter
+      answered-written {k = k} w p = go (leb (length (carriedText form s)) (length before)) refl (sym p ∙ w .answer) (w .holds)
+        where
+          go : (b : Bool) → leb (length (carriedText form s)) (length before) ≡ b → Count k ≡ cond b (Count (length (carriedText form s))) Short
+              → {after : List ℕ} → after ≡ cond b (carriedText form s ++ drop (length (carriedText form s)) before) before → Answered form s before after (Bytes k)
+          go true q e h =
+              let z : k ≡ length (carriedText form s) = cc in
+              record {
+                answer-is = sym (room-answer ∙ rw (le-ltb (length before) (length (carriedText form s)) (leb-true _ _ q), z));
+                buffer-is = h ∙ rw z;
+              }
+          go false q e h = let z : _≡_ {A = ℕ} 0 1 = cc in absurd (omega arith)

@@ -1,0 +1,9 @@
+pub mod LineChanges
+pub mod Converting
+pub mod NamesLine
+pub mod Soundness
+pub mod SoundCases
+pub mod Answers
+pub mod ReadsBack
+pub mod Restored
+pub mod RoundTrip

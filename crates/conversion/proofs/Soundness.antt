@@ -1,0 +1,142 @@
+-- Values that the checks of a form find sound: every value in its range, and those that must agree do. The columns of the names do not matter.
+-- Assumes nothing.
+use Prim.Native.Nat.{ℕ, zero, suc, _≤_, _<_}
+use Prim.Native.String.{String}
+use mathlib.Core.Path.{_≡_, refl, sym, ap, _∙_}
+use mathlib.Core.Logic.{_⊎_, inl, inr}
+use mathlib.Core.Bool.{Bool, true, false, cond, _&&_, _||_}
+use mathlib.Core.List.{List, [], _∷_}
+use native.Mathlib.Omega.{arith}
+use lib.Dec.{T, leb, eqb, leb→le, eqb→eq}
+use lib.ListN.{length, getD}
+use borrow.Author.Tests.{le-leb, eqb-true}
+use Rattle.text.specs.Text.{bytes, same}
+use Rattle.case.specs.declared.Form.{Form as CodeForm}
+use Rattle.case.specs.declared.Form.the-variants.{Present, Former}
+use Rattle.case.specs.declared.Finding.{Finding}
+use Rattle.case.specs.declared.Finding.the-variants as found
+use Rattle.case.specs.Columns.{Range, from, zeroOr, either, Form, inRange, columns, formerColumns, name-count, former-name-count, nameIndex, named}
+use Rattle.case.specs.Check.{leftOf, outOfRange, agree, disagreement, finding}
+use Rattle.case.specs.Bounds.{Placed}
+use Rattle.case.specs.Parts.{rangeAt, formOf}
+use Rattle.case.proofs.Tests.{both, one-of}
+use Rattle.case.proofs.Ranges.{InRange, in-range, in-range-at, some-columns}
+use Rattle.writing.specs.Text.{allValues}
+use Rattle.conversion.specs.Values.{other, presentValues, formerValues, carried}
+
+-- which values must agree
+unfoldable pub agreeing : Form → List ℕ → Bool
+agreeing form v =
+    agree (named form v "layer") (named form v "thick") && (agree (named form v "rods") (named form v "rodlen") && agree (named form v "rods") (named form v "place"))
+
+pub record Sound (form : Form) (v : List ℕ) : Type 0 where
+  pub count : length v ≡ length form
+  pub ranges : InRange form v
+  pub agrees : agreeing form v ≡ true
+
+-- ---- from the checks, and to them
+
+pub sound-values : {form : Form} {at v : List ℕ} → Placed (length form) at → length v ≡ length form → finding form at v ≡ found.Sound → Sound form v
+unfolding finding disagreement agreeing
+sound-values {form} {at} {v} p n e = ranged (eqb (outOfRange form at v) 0) refl e
+  where
+    agreed : (a b c : Bool) (x y : ℕ) → cond a (cond (b && c) found.Sound (found.Disagreement x)) (found.Disagreement y) ≡ found.Sound → (a && (b && c)) ≡ true
+    agreed true true true x y h = refl
+    agreed true true false x y h = let z : _≡_ {A = ℕ} 0 1 = cc in absurd (omega arith)
+    agreed true false c x y h = let z : _≡_ {A = ℕ} 0 1 = cc in absurd (omega arith)
+    agreed false b c x y h = let z : _≡_ {A = ℕ} 0 1 = cc in absurd (omega arith)
+
+    ranged : (b : Bool) → eqb (outOfRange form at v) 0 ≡ b → cond b (disagreement form at v) (found.OutOfRange (outOfRange form at v)) ≡ found.Sound → Sound form v
+    ranged true q h =
+        record {
+          count = n;
+          ranges = in-range form at v (p .count) (some-columns at (length form) (p .count) (p .some)) (eqb-true (outOfRange form at v) 0 q);
+          agrees = agreed (agree (named form v "layer") (named form v "thick")) (agree (named form v "rods") (named form v "rodlen")) (agree (named form v "rods") (named form v "place")) _ _ h;
+        }
+    ranged false q h = let z : _≡_ {A = ℕ} 0 1 = cc in absurd (omega arith)
+
+none-outside : (form : Form) (at v : List ℕ) → InRange form v → outOfRange form at v ≡ 0
+unfolding outOfRange
+none-outside [] at v r = refl
+none-outside (k ∷ ks) [] v r = refl
+none-outside (k ∷ ks) (c ∷ at) [] r = refl
+none-outside (k ∷ ks) (c ∷ at) (x ∷ v) r = go (inRange (k .range) x) (r .0) (none-outside ks at v (r .1))
+  where
+    go : (b : Bool) → T b → outOfRange ks at v ≡ 0 → cond b (outOfRange ks at v) (leftOf c (outOfRange ks at v)) ≡ 0
+    go true t h = h
+    go false t h = absurd t
+
+pub values-sound : {form : Form} {v : List ℕ} (at : List ℕ) → Sound form v → finding form at v ≡ found.Sound
+unfolding finding disagreement agreeing
+values-sound {form} {v} at s =
+    rw (none-outside form at v (s .ranges))
+    (agreed (agree (named form v "layer") (named form v "thick")) (agree (named form v "rods") (named form v "rodlen")) (agree (named form v "rods") (named form v "place")) _ _ (s .agrees))
+  where
+    agreed : (a b c : Bool) (x y : ℕ) → (a && (b && c)) ≡ true → cond a (cond (b && c) found.Sound (found.Disagreement x)) (found.Disagreement y) ≡ found.Sound
+    agreed true true true x y h = refl
+    agreed true true false x y h = let z : _≡_ {A = ℕ} 0 1 = cc in absurd (omega arith)
+    agreed true false c x y h = let z : _≡_ {A = ℕ} 0 1 = cc in absurd (omega arith)
+    agreed false b c x y h = let z : _≡_ {A = ℕ} 0 1 = cc in absurd (omega arith)
+
+-- ---- values in range have at most six digits
+
+smallRange : Range → Bool
+smallRange (from low high) = leb high 999999
+smallRange (zeroOr low high) = leb high 999999
+smallRange (either a b) = leb a 999999 && leb b 999999
+
+small-value : (r : Range) (x : ℕ) → T (smallRange r) → T (inRange r x) → x ≤ 999999
+unfolding smallRange inRange
+small-value (from low high) x s t = omega (arith, leb→le high 999999 s, leb→le x high (both (leb low x) (leb x high) t .1))
+small-value (zeroOr low high) x s t = go (one-of (eqb x 0) (leb low x && leb x high) t)
+  where
+    go : T (eqb x 0) ⊎ T (leb low x && leb x high) → x ≤ 999999
+    go (inl z) = omega (arith, eqb→eq x 0 z)
+    go (inr t) = omega (arith, leb→le high 999999 s, leb→le x high (both (leb low x) (leb x high) t .1))
+small-value (either a b) x s t = go (one-of (eqb x a) (eqb x b) t)
+  where
+    go : T (eqb x a) ⊎ T (eqb x b) → x ≤ 999999
+    go (inl z) = omega (arith, eqb→eq x a z, leb→le a 999999 (both (leb a 999999) (leb b 999999) s .0))
+    go (inr z) = omega (arith, eqb→eq x b z, leb→le b 999999 (both (leb a 999999) (leb b 999999) s .1))
+
+allSmall : Form → Bool
+allSmall [] = true
+allSmall (k ∷ ks) = smallRange (k .range) && allSmall ks
+
+small-values : (form : Form) (v : List ℕ) → T (allSmall form) → length v ≡ length form → InRange form v → allValues v ≡ true
+unfolding allSmall allValues
+small-values [] [] s n r = refl
+small-values [] (x ∷ v) s n r = absurd (omega arith)
+small-values (k ∷ ks) [] s n r = refl
+small-values (k ∷ ks) (x ∷ v) s n r =
+    let t = both (smallRange (k .range)) (allSmall ks) s in
+    rw (le-leb x 999999 (small-value (k .range) x (t .0) (r .0)), small-values ks v (t .1) (omega arith) (r .1))
+
+form-small : (form : CodeForm) → T (allSmall (formOf form))
+unfolding formOf columns formerColumns allSmall smallRange
+form-small Present = tt
+form-small Former = tt
+
+pub sound-small : {v : List ℕ} (form : CodeForm) → Sound (formOf form) v → allValues v ≡ true
+sound-small {v} form s = small-values (formOf form) v (form-small form) (s .count) (s .ranges)
+
+-- ---- sound values are sound in the other form
+
+pub carried-sound : (form : CodeForm) (v : List ℕ) → Sound (formOf (other form)) v → Sound (formOf form) (carried form v)
+unfolding formOf other carried presentValues formerValues columns formerColumns agreeing named nameIndex same rangeAt inRange
+carried-sound Present v s =
+    let at : (i : ℕ) → T (inRange (rangeAt formerColumns i) (getD v i 0)) = in-range-at formerColumns v (s .count) (s .ranges) in
+    record {
+      count = refl;
+      ranges =
+          (at 0, (at 1, (at 2, (at 3, (at 4, (at 5, (at 5, (at 5, (at 6, (at 7, (at 8, (at 9, (at 10, (at 10, (at 11, (at 12, (at 13, (at 14, (at 15, (at 16, (at 17, (tt, tt))))))))))))))))))))));
+      agrees = s .agrees;
+    }
+carried-sound Former v s =
+    let at : (i : ℕ) → T (inRange (rangeAt columns i) (getD v i 0)) = in-range-at columns v (s .count) (s .ranges) in
+    record {
+      count = refl;
+      ranges =
+          (at 0, (at 1, (at 2, (at 3, (at 4, (at 5, (at 8, (at 9, (at 10, (at 11, (at 12, (at 14, (at 15, (at 16, (at 17, (at 18, (at 19, (at 20, tt))))))))))))))))));
+      agrees = s .agrees;
+    }

@@ -1,0 +1,222 @@
+-- `carry_to` reads, looks for what the form cannot say, converts and writes: the laws of proofs/Answers.antt and SoundCases.antt.
+-- Assumes nothing.
+use Prim.Native.Nat.{ℕ, _*_, _≤_}
+use mathlib.Core.Path.{_≡_, sym, ap, subst, _∙_}
+use mathlib.Core.Bool.{true}
+use mathlib.Core.List.{[], map}
+use native.Mathlib.Nat.{mul-le-mul-left, mul-le-mul-right}
+use native.Mathlib.Omega.{arith}
+use borrow.Author.Needs.{needs}
+use lib.ListN.{length}
+use Rattle.tables.specs.Parts.{partsOf}
+use Rattle.case.specs.declared.Form.{Form}
+use Rattle.case.specs.Columns.{nameCount}
+use Rattle.case.specs.Parts.{formOf}
+use Rattle.case.proofs.Findings.{form-most}
+use Rattle.judgement.specs.declared.Judgement.the-variants.{Lines}
+use Rattle.judgement.specs.Limits.{mostLines}
+use Rattle.header.specs.Header.{columnsOf}
+use Rattle.judgement.specs.Read.{Stored}
+use Rattle.judgement.specs.Sheet.{names, valueLines, judgement}
+use Rattle.judgement.specs.Accepted.{Accepted}
+use Rattle.judgement.proofs.Accepted.{accepted}
+use Rattle.judgement.proofs.StoredLines.{stored-parts}
+use Rattle.writing.specs.Put.{WrittenFirst}
+use Rattle.writing.specs.Text.{allLines}
+use Rattle.writing.proofs.Whole.{written-size}
+use Rattle.conversion.specs.Values.{other, carried}
+use Rattle.conversion.specs.Sheet.{casesIn, sheetOf}
+use Rattle.conversion.specs.Answer.{changes, carriedText}
+use Rattle.conversion.proofs.SoundCases.{accepted-cases, carried-cases, all-lines}
+use Rattle.conversion.proofs.Answers.{answered-source, answered-change, answered-short, answered-written}
+use Rattle.conversion.proofs.carry_to.Statement.{statement}
+use Rattle.conversion.proofs.carry_to.Tie as tie
+
+-- lines of either form fit a store for the most lines of today's
+form-room : (form : Form) (n : ℕ) → n ≤ mostLines → length (formOf form) * n ≤ nameCount * mostLines
+form-room form n h = omega (arith, mul-le-mul-left (length (formOf form)) h, mul-le-mul-right mostLines (form-most form))
+
+other-form-requires : tie.Need-other-form-requires
+other-form-requires c κs = search needs
+
+slice-aggregate-read : tie.Need-slice-aggregate-read
+slice-aggregate-read c = search needs
+
+read-requires : tie.Need-read-requires
+read-requires c κs = form-room _ mostLines (omega arith)
+
+-- ---- the source as it was read
+
+abbrev start : tie.After-read → tie.Start
+start r = r .before .before .before .before .before
+
+judged-is : (r : tie.After-read) → r .read .result ≡ judgement (formOf (other (start r .args .form))) (start r .args .s .now)
+judged-is r = r .read .ensures .answer-is ∙ ap (λ f. judgement (formOf f) (start r .args .s .now)) (r .before .before .other-form .ensures)
+
+store-count : (r : tie.After-read) → length (r .read .last .1 .1 .0) ≡ nameCount * mostLines
+store-count r = r .read .ensures .size
+
+-- n lines
+module _ (r : tie.After-read) {n : ℕ} (e : r .read .result ≡ Lines n) where
+  lines-accepted : Accepted (formOf (other (start r .args .form))) (start r .args .s .now) n
+  lines-accepted = accepted _ _ _ (sym (judged-is r) ∙ e)
+
+  -- a store has room for the lines of either form
+  from-room : length (formOf (other (start r .args .form))) * n ≤ nameCount * mostLines
+  from-room = form-room (other (start r .args .form)) n (lines-accepted .most)
+
+  to-room : length (formOf (start r .args .form)) * n ≤ nameCount * mostLines
+  to-room = form-room (start r .args .form) n (lines-accepted .most)
+
+  lines-are : partsOf (length (formOf (other (start r .args .form)))) n (r .read .last .1 .1 .0) ≡ casesIn (formOf (other (start r .args .form))) (start r .args .s .now)
+  unfolding casesIn
+  lines-are =
+      stored-parts _ lines-accepted
+      (subst (λ f. Stored (formOf f) (columnsOf (formOf f) (names (start r .args .s .now))) (valueLines (start r .args .s .now)) (r .read .last .1 .1 .0)) (r .before .before .other-form .ensures)
+      (r .read .ensures .stored _ e))
+
+change-is : (f : tie.After-first-change) → f .first-change .result ≡ changes (start (f .before .before .before .before .before .before) .args .form) (casesIn (formOf (other (start (f .before .before .before .before .before .before) .args .form))) (start (f .before .before .before .before .before .before) .args .s .now))
+change-is f =
+    let n = f .before .before .before in
+    f .first-change .ensures ∙ ap (changes _) (lines-are (n .before .before .before) (n .n .given .1))
+
+enum-known-number : tie.Need-enum-known-number
+enum-known-number c = search needs
+
+enum-known-n : tie.Need-enum-known-n
+enum-known-n c = search needs
+
+slice-aggregate-first-change : tie.Need-slice-aggregate-first-change
+slice-aggregate-first-change c = sym (store-count (c .before .before .before .before .before))
+
+first-change-requires : tie.Need-first-change-requires
+first-change-requires c κs =
+    let n = c .before .before in
+    let r = n .before .before .before in
+    (omega (arith, from-room r (n .n .given .1), store-count r), lines-accepted r (n .n .given .1) .most)
+
+enum-known-change : tie.Need-enum-known-change
+enum-known-change c = search needs
+
+returns : tie.Need-returns
+returns c =
+    let f = c .before .before .before in
+    let n = f .before .before .before in
+    let r = n .before .before .before in
+    answered-change _ _ _ (judged-is r) (n .n .given .1) (change-is f) (c .before .change .given .1)
+
+enum-told : tie.Need-enum-told
+enum-told c = search needs
+
+slice-aggregate-convert : tie.Need-slice-aggregate-convert
+slice-aggregate-convert c = sym (store-count (c .before .before .before .before .before .before .before .before .before))
+
+slice-aggregate-convert-2 : tie.Need-slice-aggregate-convert-2
+slice-aggregate-convert-2 c = search needs
+
+convert-requires : tie.Need-convert-requires
+convert-requires c κs =
+    let n = c .before .before .before .before .before .before .before in
+    let r = n .before .before .before in
+    (omega (arith, from-room r (n .n .given .1), store-count r), to-room r (n .n .given .1))
+
+-- ---- the lines carried over
+
+abbrev lined : tie.After-convert → tie.After-n
+lined v = v .before .before .before .before .before .before .before .before
+
+abbrev source : tie.After-convert → tie.After-read
+source v = lined v .before .before .before
+
+carried-lines : (v : tie.After-convert)
+    → partsOf (length (formOf (start (source v) .args .form))) (lined v .n .given .0 .0) (v .convert .last .1 .1 .1 .0) ≡ map (carried (start (source v) .args .form)) (casesIn (formOf (other (start (source v) .args .form))) (start (source v) .args .s .now))
+carried-lines v = v .convert .ensures .lines ∙ ap (map (carried (start (source v) .args .form))) (lines-are (source v) (lined v .n .given .1))
+
+-- they can be written
+writable : (v : tie.After-convert)
+    → allLines (length (formOf (start (source v) .args .form))) (partsOf (length (formOf (start (source v) .args .form))) (lined v .n .given .0 .0) (v .convert .last .1 .1 .1 .0)) ≡ true
+writable v =
+    rw (carried-lines v)
+    (all-lines (start (source v) .args .form) [] _ (carried-cases (start (source v) .args .form) [] (casesIn (formOf (other (start (source v) .args .form))) (start (source v) .args .s .now)) (accepted-cases (lines-accepted (source v) (lined v .n .given .1)))))
+
+slice-aggregate-write-form : tie.Need-slice-aggregate-write-form
+slice-aggregate-write-form c = sym (c .before .before .before .convert .ensures .size)
+
+write-form-requires : tie.Need-write-form-requires
+write-form-requires c κs =
+    let v = c .before .before .before in
+    let r = source v in
+    let e = lined v .n .given .1 in
+    (omega (arith, to-room r e, v .convert .ensures .size), (lines-accepted r e .most, writable v))
+
+-- what was written is the carried sheet
+abbrev made : tie.After-write-form → tie.After-convert
+made w = w .before .before .before .before
+
+written : (w : tie.After-write-form)
+    → WrittenFirst (carriedText (start (source (made w)) .args .form) (start (source (made w)) .args .s .now)) (start (source (made w)) .args .buffer .now) (w .write-form .last .1 .0) (w .write-form .result)
+unfolding carriedText
+written w =
+    subst (λ l. WrittenFirst (sheetOf (formOf (start (source (made w)) .args .form)) l) (start (source (made w)) .args .buffer .now) (w .write-form .last .1 .0) (w .write-form .result)) (carried-lines (made w))
+    (w .write-form .ensures)
+
+abbrev kept : tie.After-write-form → tie.After-first-change
+kept w = made w .before .before .before .before .before
+
+enum-told-2 : tie.Need-enum-told-2
+enum-told-2 c = search needs
+
+enum-known-k : tie.Need-enum-known-k
+enum-known-k c = search needs
+
+returns-2 : tie.Need-returns-2
+returns-2 c = answered-source _ _ _ (judged-is (c .before .before .before .before)) (c .before .number .given .1)
+
+same-length : tie.Need-same-length
+same-length c = written-size (c .before .before .before .before .write-form .ensures)
+
+returns-3 : tie.Need-returns-3
+returns-3 c =
+    let w = c .before .before .before .before in
+    let v = made w in
+    let r = source v in
+    answered-short _ _ _ (judged-is r) (lined v .n .given .1) (change-is (kept w)) (v .before .before .before .enum-told .given .1)
+    (written w) (c .enum-told2 .given .1)
+
+same-length-2 : tie.Need-same-length-2
+same-length-2 c = written-size (c .before .before .before .before .before .write-form .ensures)
+
+returns-4 : tie.Need-returns-4
+returns-4 c =
+    let w = c .before .before .before .before .before in
+    let v = made w in
+    let r = source v in
+    answered-written _ _ _ (judged-is r) (lined v .n .given .1) (change-is (kept w)) (v .before .before .before .enum-told .given .1)
+    (written w) (c .before .k .given .1)
+
+pub carry-to-spec : {M : Type 1} → statement M
+carry-to-spec =
+    tie.close
+    (tie.spec
+    other-form-requires
+    slice-aggregate-read
+    read-requires
+    enum-known-number
+    enum-known-n
+    slice-aggregate-first-change
+    first-change-requires
+    enum-known-change
+    returns
+    enum-told
+    slice-aggregate-convert
+    slice-aggregate-convert-2
+    convert-requires
+    slice-aggregate-write-form
+    write-form-requires
+    enum-told-2
+    enum-known-k
+    returns-2
+    same-length
+    returns-3
+    same-length-2
+    returns-4)

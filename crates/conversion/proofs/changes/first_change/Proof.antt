@@ -1,0 +1,31 @@
+-- `first_change` meets its contract: nothing is left out on the way to today's form.
+-- Assumes nothing.
+use borrow.Author.Needs.{needs}
+use Rattle.case.specs.Columns.{name-count}
+use Rattle.case.specs.Parts.{formOf}
+use Rattle.conversion.specs.Values.{other}
+use Rattle.conversion.specs.Answer.{changes}
+use Rattle.conversion.proofs.changes.first_change.Statement.{statement}
+use Rattle.conversion.proofs.changes.first_change.Tie as tie
+
+enum-told : tie.Need-enum-told
+enum-told c = search needs
+
+enum-told-2 : tie.Need-enum-told-2
+enum-told-2 c = search needs
+
+changes-of-requires : tie.Need-changes-of-requires
+unfolding formOf other
+changes-of-requires c κs = let s = c .before .before .before in (rw (← name-count) (rw (c .enum-told2 .given .1) at (s .pre .0)), s .pre .1)
+
+returns : tie.Need-returns
+unfolding changes
+returns c = rw (c .enum-told .given .1)
+
+returns-2 : tie.Need-returns-2
+unfolding changes formOf other
+returns-2 c = rw (c .before .enum-told2 .given .1, name-count) (c .changes-of .ensures)
+
+pub first-change-spec : {M : Type 1} → statement M
+first-change-spec =
+    tie.close (tie.spec enum-told enum-told-2 changes-of-requires returns returns-2)

@@ -1,0 +1,71 @@
+-- What a sheet carried over is, or why it is refused. Document 02 (e).
+-- Assumes nothing.
+use Prim.Native.Nat.{ℕ, suc}
+use mathlib.Core.Path.{_≡_}
+use mathlib.Core.Bool.{Bool, cond, _&&_}
+use mathlib.Core.List.{List, [], _∷_, _++_, map}
+use lib.Dec.{eqb, ltb}
+use lib.ListN.{length, drop}
+use Rattle.case.specs.declared.Form.{Form}
+use Rattle.case.specs.declared.Form.the-variants.{Present, Former}
+use Rattle.case.specs.Columns.{columns, named}
+use Rattle.case.specs.Parts.{formOf}
+use Rattle.judgement.specs.declared.Judgement.{Judgement}
+use Rattle.judgement.specs.declared.Judgement.the-variants as judged
+use Rattle.judgement.specs.Sheet.{judgement}
+use Rattle.conversion.specs.declared.Carried.{Carried}
+use Rattle.conversion.specs.declared.Carried.the-variants.{Bytes, Refused}
+use Rattle.conversion.specs.Values.{other, carried}
+use Rattle.conversion.specs.Sheet.{casesIn, sheetOf}
+
+-- ---- "On the way back a line is then refused, with its line and column 0"
+
+-- "9 when its three times are not equal; 10 when across and along differ; 11 when hz is not 60; in that order on each line", or what follows
+unfoldable pub lineChange : ℕ → Judgement → List ℕ → Judgement
+lineChange line next v =
+    cond (eqb (named columns v "shock") (named columns v "clear") && eqb (named columns v "clear") (named columns v "wire"))
+    (cond (eqb (named columns v "across") (named columns v "along"))
+    (cond (eqb (named columns v "hz") 60) next (judged.Refused 11 line 0))
+    (judged.Refused 10 line 0))
+    (judged.Refused 9 line 0)
+
+-- line by line from a line on; no lines where there is no such refusal
+unfoldable pub changesFrom : ℕ → List (List ℕ) → Judgement
+changesFrom line [] = judged.Lines 0
+changesFrom line (v ∷ vs) = lineChange line (changesFrom (suc line) vs) v
+
+-- on the way to a form
+unfoldable pub changes : Form → List (List ℕ) → Judgement
+changes Present vs = judged.Lines 0
+changes Former vs = changesFrom 2 vs
+
+-- ---- the answer, for a buffer of this length
+
+-- the text of a sheet carried over
+unfoldable pub carriedText : Form → List ℕ → List ℕ
+carriedText form s = sheetOf (formOf form) (map (carried form) (casesIn (formOf (other form)) s))
+
+-- "The answer is the count of bytes written"; "after all lines 8, 0, 0 either way when the output buffer is too short"
+unfoldable pub roomAnswer : List ℕ → ℕ → Carried
+roomAnswer text room = cond (ltb room (length text)) (Refused 8 0 0) (Bytes (length text))
+
+unfoldable pub refusedOr : Judgement → Carried → Carried
+refusedOr (judged.Refused number line column) next = Refused number line column
+refusedOr (judged.Lines n) next = next
+
+-- "The source sheet passes all checks of its own form first, save 8", then the lines on the way back, then 8
+unfoldable pub answer : Form → List ℕ → ℕ → Carried
+answer form s room =
+    refusedOr (judgement (formOf (other form)) s)
+    (refusedOr (changes form (casesIn (formOf (other form)) s)) (roomAnswer (carriedText form s) room))
+
+-- "bytes past them keep what they held"; "any refusal leaving it untouched"
+unfoldable pub bufferAfter : Form → List ℕ → List ℕ → Carried → List ℕ
+bufferAfter form s before (Bytes count) = carriedText form s ++ drop count before
+bufferAfter form s before (Refused number line column) = before
+
+-- the answer and what it leaves in the buffer. Two wrong programs: one that writes before it refuses breaks `buffer-is`; one that tests the counts before the
+-- times breaks `answer-is`.
+pub record Answered (form : Form) (s before after : List ℕ) (r : Carried) : Type 0 where
+  pub answer-is : r ≡ answer form s (length before)
+  pub buffer-is : after ≡ bufferAfter form s before r

@@ -1,0 +1,5 @@
+pub mod Values
+pub mod Sheet
+pub mod Answer
+pub mod Parts
+pub mod Examples

@@ -1,0 +1,18 @@
+-- A sheet of cases, each as its values in the order of a form.
+-- Assumes nothing.
+use Prim.Native.Nat.{ℕ}
+use mathlib.Core.List.{List, map}
+use Rattle.text.specs.Text.{fieldsOf}
+use Rattle.case.specs.Columns.{Form}
+use Rattle.header.specs.Header.{columnsOf}
+use Rattle.line.specs.Line.{lineValues}
+use Rattle.judgement.specs.Sheet.{names, valueLines}
+use Rattle.writing.specs.Text.{sheetText}
+
+-- the cases of a sheet, in their order
+unfoldable pub casesIn : Form → List ℕ → List (List ℕ)
+casesIn form s = map (λ line. lineValues (columnsOf form (names s)) (fieldsOf line)) (valueLines s)
+
+-- the sheet of some cases, its names in the order of the form
+unfoldable pub sheetOf : Form → List (List ℕ) → List ℕ
+sheetOf form cases = sheetText (map (λ c. c .name) form) cases

@@ -1,0 +1,95 @@
+// Sheets of document 01's own names carried over to those of today, and back. Document 02 (e).
+mod changes;
+mod values;
+
+ghost use Rattle.case.specs.declared.Form.the-variants.{Present, Former};
+ghost use Rattle.case.specs.Parts.{formOf};
+ghost use Prim.Native.Nat.{_+_, _*_, _≤_};
+ghost use mathlib.Core.Path.{_≡_};
+ghost use lib.ListN.{length};
+ghost use Rattle.tables.specs.Parts.{partsOf};
+ghost use Rattle.judgement.specs.Limits.{mostLines};
+ghost use Rattle.writing.specs.Put.{WrittenFirst};
+ghost use Rattle.conversion.specs.Values.{other};
+ghost use Rattle.writing.specs.Text.{allLines};
+ghost use mathlib.Core.Bool.{true};
+ghost use Rattle.conversion.specs.Sheet.{sheetOf};
+ghost use Rattle.conversion.specs.Answer.{Answered};
+use case::Form;
+use case::name_count;
+use changes::first_change;
+use judgement::Judgement;
+use judgement::VALUES;
+use judgement::read;
+use values::convert;
+use values::other_form;
+use writing::Written;
+use writing::write_sheet;
+
+// The count of bytes written, or a refusal with number, line and column.
+pub enum Carried {
+    Bytes(usize),
+    Refused(u32, usize, usize),
+}
+
+// The sheet of n lines of values in a form, or nothing where the buffer is too short.
+fn write_form(form: Form, buffer: &mut [u8], values: &[u32], n: usize) -> Written
+    requires { ⌜ length (formOf form) * n ≤ length (now values) ⌝ }
+    requires { ⌜ n ≤ mostLines ⌝ }
+    requires { ⌜ allLines (length (formOf form)) (partsOf (length (formOf form)) n (now values)) ≡ true ⌝ }
+    ensures { λ r. ⌜ WrittenFirst (sheetOf (formOf form) (partsOf (length (formOf form)) n (now (values .entry)))) (now (buffer .entry)) (now (buffer .exit)) r ⌝ }
+{
+    let k = name_count(form);
+    match form {
+        Form::Present => write_sheet(
+            buffer,
+            b"station,season,soil,layer,thick,shock,clear,wire,body,fault,split,xr,across,along,space,depth,dia,rods,rodlen,place,metal,hz\n",
+            values,
+            k,
+            n,
+        ),
+        Form::Former => write_sheet(
+            buffer,
+            b"station,season,soil,layer,thick,ms,body,fault,split,xr,lines,space,depth,dia,rods,rodlen,place,metal\n",
+            values,
+            k,
+            n,
+        ),
+    }
+}
+
+// A sheet of the other form carried over to a form.
+fn carry_to(form: Form, s: &[u8], buffer: &mut [u8]) -> Carried
+    ensures { λ r. ⌜ Answered form (now (s .entry)) (now (buffer .entry)) (now (buffer .exit)) r ⌝ }
+{
+    let mut values = [0u32; VALUES];
+    match read(other_form(form), s, &mut values) {
+        Judgement::Refused(number, line, column) => Carried::Refused(number, line, column),
+        Judgement::Lines(n) => {
+            let change = first_change(form, &values, n);
+            if let Judgement::Refused(number, line, column) = change {
+                return Carried::Refused(number, line, column);
+            }
+            let mut carried = [0u32; VALUES];
+            convert(form, &values, n, &mut carried);
+            match write_form(form, buffer, &carried, n) {
+                Written::Short => Carried::Refused(8, 0, 0),
+                Written::Count(k) => Carried::Bytes(k),
+            }
+        }
+    }
+}
+
+// A sheet of document 01's own names becomes one of today's.
+pub fn carry(s: &[u8], buffer: &mut [u8]) -> Carried
+    ensures { λ r. ⌜ Answered Present (now (s .entry)) (now (buffer .entry)) (now (buffer .exit)) r ⌝ }
+{
+    carry_to(Form::Present, s, buffer)
+}
+
+// A sheet of today's names becomes one of document 01's own.
+pub fn carry_back(s: &[u8], buffer: &mut [u8]) -> Carried
+    ensures { λ r. ⌜ Answered Former (now (s .entry)) (now (buffer .entry)) (now (buffer .exit)) r ⌝ }
+{
+    carry_to(Form::Former, s, buffer)
+}

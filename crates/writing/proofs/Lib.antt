@@ -1,0 +1,12 @@
+pub mod Decimal
+pub mod Counting
+pub mod Filling
+pub mod Digits
+pub mod Line
+pub mod LineWriting
+pub mod LinesWriting
+pub mod TableRest
+pub mod ReadBack
+pub mod Sheet
+pub mod Lengths
+pub mod Whole
