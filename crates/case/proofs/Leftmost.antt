@@ -8,7 +8,7 @@ use native.Mathlib.Numerals.{sub-one}
 use native.Mathlib.Omega.{arith}
 use lib.ListN.{length, getD, drop, drop-of-length-le}
 use lib.Seq.{drop-cons}
-use Rattle.case.specs.Columns.{Form, inRange}
+use Rattle.case.specs.Columns.{Range, Form, inRange}
 use Rattle.case.specs.Check.{leftOf, outOfRange}
 use Rattle.case.specs.Parts.{rangeAt, noColumn}
 
@@ -23,7 +23,7 @@ unfolding outOfRange
 leftmost-start form at v p q =
     record { columns-all = p; values-all = q; within = omega arith; is = rw (drop-of-length-le form {i = length v} (omega arith)) }
 
-pub leftmost-step : {form : Form} {at v : List ℕ} {c k : ℕ} (r : ℕ) → Leftmost form at v c k → 0 < k
+leftmost-step : {form : Form} {at v : List ℕ} {c k : ℕ} (r : ℕ) → Leftmost form at v c k → 0 < k
     → r ≡ cond (inRange (rangeAt form (k - 1)) (getD v (k - 1) 0)) c (leftOf (getD at (k - 1) 0) c) → Leftmost form at v r (k - 1)
 unfolding outOfRange rangeAt
 leftmost-step {k = zero} r a h e = absurd (omega arith)
@@ -36,6 +36,11 @@ leftmost-step {form} {at} {v} {c} {k = suc k} r a h e =
           rw (sub-one, drop-cons form k noColumn (omega (arith, a .within)), drop-cons at k 0 (omega (arith, a .within)), drop-cons v k 0 (omega (arith, a .within)), ← a .is)
           (rw sub-one at e);
     }
+
+-- the same, with the range of the name by an equation
+pub leftmost-by : {form : Form} {at v : List ℕ} {c k : ℕ} {range : Range} (r : ℕ) → Leftmost form at v c k → 0 < k → range ≡ rangeAt form (k - 1)
+    → r ≡ cond (inRange range (getD v (k - 1) 0)) c (leftOf (getD at (k - 1) 0) c) → Leftmost form at v r (k - 1)
+leftmost-by r a h q e = leftmost-step r a h (rw q at e)
 
 pub leftmost-end : {form : Form} {at v : List ℕ} {c k : ℕ} → Leftmost form at v c k → k ≤ 0 → c ≡ outOfRange form at v
 leftmost-end {k = zero} a h = a .is

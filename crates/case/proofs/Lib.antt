@@ -4,6 +4,7 @@ pub mod Agreement
 pub mod Bounds
 pub mod Places
 pub mod RangeTable
+pub mod RangeNumbers
 pub mod Leftmost
 pub mod Findings
 pub mod Values

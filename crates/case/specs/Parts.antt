@@ -2,9 +2,10 @@
 -- Assumes nothing.
 use Prim.Native.Nat.{ℕ, _+_, _≤_, _<_}
 use mathlib.Core.Path.{_≡_}
-use mathlib.Core.List.{[]}
+use mathlib.Core.Bool.{true}
+use mathlib.Core.List.{List, []}
 use lib.ListN.{length, getD}
-use Rattle.case.specs.Columns.{Range, from, zeroOr, either, Column, Form, columns, nameCount, formerColumns}
+use Rattle.case.specs.Columns.{Range, from, zeroOr, either, inRange, Column, Form, columns, nameCount, formerColumns}
 use Rattle.case.specs.declared.Form.{Form as CodeForm}
 use Rattle.case.specs.declared.Form.the-variants.{Present, Former}
 use Rattle.case.specs.declared.range.Range.{Range as CodeRange}
@@ -45,3 +46,23 @@ pub record RodsPlace (form : CodeForm) (r : ℕ) : Type 0 where
   pub thick : 4 < length (formOf form)
   pub place : r + 2 < length (formOf form)
   pub most : length (formOf form) ≤ nameCount
+
+-- a range as three numbers: its low and its high end, and one value more that is in it
+unfoldable pub lowOf : Range → ℕ
+lowOf (from low high) = low
+lowOf (zeroOr low high) = low
+lowOf (either a b) = a
+
+unfoldable pub highOf : Range → ℕ
+highOf (from low high) = high
+highOf (zeroOr low high) = high
+highOf (either a b) = a
+
+unfoldable pub otherOf : Range → ℕ
+otherOf (from low high) = low
+otherOf (zeroOr low high) = 0
+otherOf (either a b) = b
+
+-- every value of a form is in its range
+pub record InRanges (form : Form) (v : List ℕ) : Type 0 where
+  pub each : (k : ℕ) → k < length form → inRange (rangeAt form k) (getD v k 0) ≡ true

@@ -10,6 +10,7 @@ ghost use Rattle.case.specs.Check.{finding, recordFinding, recordJudged}
 ghost use Rattle.case.specs.Parts.{formOf};
 use parts::disagreement;
 use parts::out_of_range;
+use range::all_in_range;
 
 // The forms of a sheet: that of today, and document 01's own.
 pub enum Form {
@@ -138,6 +139,9 @@ pub fn check_values<'a>(form: Form, at: &'a [usize], v: &'a [u32]) -> Finding
     requires { ⌜ length (now v) ≡ length (formOf form) ⌝ }
     ensures { λ r. ⌜ r ≡ finding (formOf form) (now (at .entry)) (now (v .entry)) ⌝ }
 {
+    if all_in_range(form, v) {
+        return disagreement(form, at, v);
+    }
     let column = out_of_range(form, at, v);
     if column != 0 {
         return Finding::OutOfRange(column);

@@ -1,14 +1,16 @@
 // The checks of the values of a form: ranges, and which values must agree.
 ghost use mathlib.Core.Path.{_≡_};
 ghost use mathlib.Core.Bool.{cond};
-ghost use Prim.Native.Nat.{_<_};
 ghost use lib.ListN.{length};
 ghost use Rattle.case.specs.Columns.{inRange};
 ghost use Rattle.case.specs.Check.{leftOf, outOfRange, agree as agreeing, disagreement as disagreeing};
-ghost use Rattle.case.specs.Parts.{rangeAt, formOf, RodsPlace};
+ghost use Rattle.case.specs.Parts.{rangeOf, formOf, RodsPlace};
 use crate::Finding;
 use crate::Form;
-use crate::range::in_range;
+use crate::range::RANGES;
+use crate::range::Range;
+use crate::range::place;
+use crate::range::within;
 
 // The places of layer and thick among the names of either form, from 0.
 const LAYER: usize = 3;
@@ -38,28 +40,29 @@ fn left_of(a: usize, c: usize) -> usize
     c
 }
 
-// The leftmost column at fault from name k on: a is its column, v its value, c the leftmost after it.
-fn worse(form: Form, k: usize, v: u32, a: usize, c: usize) -> usize
-    requires { ⌜ k < length (formOf form) ⌝ }
-    ensures { λ r. ⌜ r ≡ cond (inRange (rangeAt (formOf form) k) v) c (leftOf a c) ⌝ }
+// The leftmost column at fault from a name on: r is its range, v its value, a its column, c the leftmost after it.
+fn worse(r: Range, v: u32, a: usize, c: usize) -> usize
+    ensures { λ n. ⌜ n ≡ cond (inRange (rangeOf r) v) c (leftOf a c) ⌝ }
 {
-    if in_range(form, k, v) {
+    if within(r, v) {
         return c;
     }
     left_of(a, c)
 }
 
-// The leftmost column whose value is out of its range, or 0.
+// The leftmost column whose value is out of its range, or 0. The table is a local: a constant would be made anew for each name.
 pub fn out_of_range<'a>(form: Form, at: &'a [usize], v: &'a [u32]) -> usize
     requires { ⌜ length (now at) ≡ length (formOf form) ⌝ }
     requires { ⌜ length (now v) ≡ length (formOf form) ⌝ }
     ensures { λ r. ⌜ r ≡ outOfRange (formOf form) (now (at .entry)) (now (v .entry)) ⌝ }
 {
+    let ranges = RANGES;
     let mut c: usize = 0;
     let mut k: usize = v.len();
     while 0 < k {
         k -= 1;
-        c = worse(form, k, v[k], at[k], c);
+        let p = place(form, k);
+        c = worse(ranges[p], v[k], at[k], c);
     }
     c
 }

@@ -1,9 +1,10 @@
 // The table of ranges.
 ghost use mathlib.Core.Path.{_≡_};
 ghost use Prim.Native.Nat.{_<_};
+ghost use mathlib.Core.Bool.{true};
 ghost use Rattle.case.specs.Columns.{columns, nameCount, inRange};
 ghost use lib.ListN.{length};
-ghost use Rattle.case.specs.Parts.{rangeOf, rangeAt, formOf, SameRange};
+ghost use Rattle.case.specs.Parts.{rangeOf, formOf, SameRange, InRanges};
 use crate::FORMER_NAMES;
 use crate::Form;
 use crate::NAMES;
@@ -16,7 +17,7 @@ pub enum Range {
 }
 
 // The ranges in the order of the names.
-const RANGES: [Range; NAMES] = [
+pub const RANGES: [Range; NAMES] = [
     Range::From(1, 65535),
     Range::From(1, 4),
     Range::From(10, 5000),
@@ -41,15 +42,8 @@ const RANGES: [Range; NAMES] = [
     Range::Either(50, 60),
 ];
 
-fn entry(k: usize) -> Range
-    requires { ⌜ k < nameCount ⌝ }
-    ensures { λ r. ⌜ rangeOf r ≡ rangeAt columns k ⌝ }
-{
-    RANGES[k]
-}
-
 // Whether a value is in a range.
-fn within(r: Range, v: u32) -> bool
+pub fn within(r: Range, v: u32) -> bool
     ensures { λ b. ⌜ b ≡ inRange (rangeOf r) v ⌝ }
 {
     match r {
@@ -82,7 +76,7 @@ const FORMER: [usize; FORMER_NAMES] = [
 ];
 
 // The place in the table of the name with index k of a form.
-fn place(form: Form, k: usize) -> usize
+pub fn place(form: Form, k: usize) -> usize
     requires { ⌜ k < length (formOf form) ⌝ }
     ensures { λ r. ⌜ SameRange form k r ⌝ }
 {
@@ -92,10 +86,108 @@ fn place(form: Form, k: usize) -> usize
     }
 }
 
-// Whether v is in the range of the name with index k of a form.
-pub fn in_range(form: Form, k: usize, v: u32) -> bool
-    requires { ⌜ k < length (formOf form) ⌝ }
-    ensures { λ b. ⌜ b ≡ inRange (rangeAt (formOf form) k) v ⌝ }
+// The ranges as numbers, in the order of the names: low end, high end, and one value more that is in the range.
+const LOWS: [u32; NAMES] = [
+    1,
+    1,
+    10,
+    100,
+    20,
+    9,
+    9,
+    9,
+    50,
+    100,
+    1,
+    1,
+    2,
+    2,
+    2500,
+    250,
+    50,
+    0,
+    1000,
+    0,
+    1,
+    50,
+];
+
+const HIGHS: [u32; NAMES] = [
+    65535,
+    4,
+    5000,
+    10000,
+    300,
+    3000,
+    3000,
+    3000,
+    50,
+    80000,
+    1000,
+    40,
+    25,
+    25,
+    30000,
+    2500,
+    300,
+    200,
+    10000,
+    2,
+    11,
+    50,
+];
+
+const OTHERS: [u32; NAMES] = [
+    1,
+    1,
+    10,
+    0,
+    0,
+    9,
+    9,
+    9,
+    70,
+    100,
+    1,
+    1,
+    2,
+    2,
+    2500,
+    250,
+    50,
+    0,
+    0,
+    0,
+    1,
+    60,
+];
+
+// Whether every value of today's form is in its range. Where it is not, the values are looked through again for the column.
+fn present_in_range(v: &[u32]) -> bool
+    requires { ⌜ length (now v) ≡ nameCount ⌝ }
+    ensures { λ r. ⌜ (r ≡ true → InRanges columns (now (v .entry))) ⌝ }
 {
-    within(entry(place(form, k)), v)
+    let lows = LOWS;
+    let highs = HIGHS;
+    let others = OTHERS;
+    let mut all = true;
+    let mut k: usize = 0;
+    while k < NAMES {
+        let x = v[k];
+        let here = ((lows[k] <= x) & (x <= highs[k])) | (x == others[k]);
+        all = all & here;
+        k += 1;
+    }
+    all
+}
+
+// Whether every value of a form is known to be in its range.
+pub fn all_in_range(form: Form, v: &[u32]) -> bool
+    requires { ⌜ length (now v) ≡ length (formOf form) ⌝ }
+    ensures { λ r. ⌜ (r ≡ true → InRanges (formOf form) (now (v .entry))) ⌝ }
+{
+    match form {
+        Form::Present => present_in_range(v),
+        Form::Former => false,
+    }
 }

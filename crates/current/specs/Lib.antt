@@ -1,4 +1,3 @@
 pub mod Ends
 pub mod Metal
 pub mod Size
-pub mod Loop

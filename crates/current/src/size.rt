@@ -10,6 +10,7 @@ use crate::metal::Constant;
 use crate::metal::Metal;
 use case::Case;
 use interval::Interval;
+use interval::root::isqrt;
 
 // I in 10^-9 A, by the upper end of the case's decrement factor.
 fn fault_current(c: Case, factor: Interval) -> u64
@@ -74,16 +75,17 @@ fn square_load(x: u64, ms: u64) -> u64
     square(upper / 1000000, upper % 1000000, x % 1000000, ms)
 }
 
-// The smallest number whose square times 10^7 is at least t.
+// The smallest number whose square times 10^7 is at least t: the whole root of t / 10^7, or the next number.
 fn smallest_square(t: u64) -> u64
     requires { ⌜ t < 2 ^ 60 ⌝ }
     ensures { λ r. ⌜ IsSmallest t r ⌝ }
 {
-    let mut a: u64 = 0;
-    while a * a * 10000000 < t {
-        a += 1;
+    let root = isqrt(t / 10000000);
+    if root * root * 10000000 < t {
+        root + 1
+    } else {
+        root
     }
-    a
 }
 
 // The conductor size in kcmil, for the case's decrement factor.

@@ -6,6 +6,8 @@ pub mod Sizes
 pub mod Natural
 pub mod WideProduct
 pub mod Roots
+pub mod Newton
+pub mod FirstGuess
 pub mod Corners
 pub mod Order
 pub mod Width

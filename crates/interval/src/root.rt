@@ -1,22 +1,23 @@
 // Square roots in whole numbers, for every u64.
 use crate::Interval;
-ghost use Rattle.interval.specs.Root.{IsRoot, RootEnds};
+ghost use Rattle.interval.specs.Root.{IsRoot, NotBelow, RootEnds};
 
-// The greatest r with r · r not above x.
+// A guess not below the root: one less than a power of two whose square is above x.
+fn first_guess(x: u64) -> u64
+    ensures { λ r. ⌜ NotBelow x r ⌝ }
+{
+    (1u64 << ((65 - u64::leading_zeros(x)) / 2)) - 1
+}
+
+// The greatest r with r · r not above x, by Newton's steps: while the guess is above the root, the mean of it and x over it.
 pub fn isqrt(x: u64) -> u64
     ensures { λ r. ⌜ IsRoot x r ⌝ }
 {
-    let mut low: u64 = 0;
-    let mut high: u64 = 4294967296;
-    while 1 < high - low {
-        let middle = low + (high - low) / 2;
-        if middle * middle <= x {
-            low = middle;
-        } else {
-            high = middle;
-        }
+    let mut r = first_guess(x);
+    while x < r * r {
+        r = (r + x / r) / 2;
     }
-    low
+    r
 }
 
 // The root and the next number.

@@ -2,14 +2,13 @@
 -- Assumes nothing.
 use Prim.Native.Nat.{ℕ, zero, suc, _+_, _-_, _≤_, _<_}
 use mathlib.Core.Path.{_≡_, refl, sym, _∙_}
-use mathlib.Core.Bool.{true, false, _&&_, _||_, and-false}
+use mathlib.Core.Bool.{Bool, false, _&&_, _||_, or-comm}
 use mathlib.Core.List.{List, [], _∷_, map}
-use native.Mathlib.Numerals.{add-one, sub-one}
+use native.Mathlib.Numerals.{add-one}
 use native.Mathlib.Omega.{arith}
 use lib.ListN.{length, getD, set}
 use lib.Seq.{getD-set-same, getD-set-other}
 use lib.Dec.{eqb}
-use borrow.Author.Tests.{eq-eqb, ne-eqb}
 use Rattle.text.specs.Text.{bytes, same}
 use Rattle.case.specs.declared.Form.{Form as CodeForm}
 use Rattle.case.specs.declared.Form.the-variants.{Present, Former}
@@ -37,39 +36,23 @@ module _ {form : Form} (keyed : Keyed form) (a b : ℕ) where
   unfolding named keyOf
   key-season = rw (keyed .second)
 
--- the search: what holds when the keys from j on are none of the station and season
-pub record Seeking (station season : ℕ) (stations seasons : List ℕ) (n j : ℕ) : Type 0 where
+-- the search: what is found among the first j keys
+pub record Seeking (station season : ℕ) (stations seasons : List ℕ) (n : ℕ) (found : Bool) (j : ℕ) : Type 0 where
   pub within : j ≤ n
-  pub passed : seenIn station season stations seasons n ≡ seenIn station season stations seasons j
+  pub is : found ≡ seenIn station season stations seasons j
 
-pub seeking-start : (station season : ℕ) (stations seasons : List ℕ) (n : ℕ) → Seeking station season stations seasons n n
-seeking-start station season stations seasons n = record { within = omega arith; passed = refl }
+pub seeking-start : (station season : ℕ) (stations seasons : List ℕ) (n : ℕ) → Seeking station season stations seasons n false 0
+unfolding seenIn
+seeking-start station season stations seasons n = record { within = omega arith; is = refl }
 
-module _ {station season : ℕ} {stations seasons : List ℕ} {n j : ℕ} (a : Seeking station season stations seasons n j) where
-  -- the key at j - 1
-  here : 0 < j → seenIn station season stations seasons n
-      ≡ ((eqb station (getD stations (j - 1) 0) && eqb season (getD seasons (j - 1) 0)) || seenIn station season stations seasons (j - 1))
-  unfolding seenIn
-  here h = a .passed ∙ at j h
-    where
-      at : (i : ℕ) → 0 < i → seenIn station season stations seasons i
-          ≡ ((eqb station (getD stations (i - 1) 0) && eqb season (getD seasons (i - 1) 0)) || seenIn station season stations seasons (i - 1))
-      at zero p = absurd (omega arith)
-      at (suc i) p = rw sub-one
+pub seeking-step : {station season : ℕ} {stations seasons : List ℕ} {n : ℕ} {found : Bool} {j : ℕ} → Seeking station season stations seasons n found j → j < n
+    → Seeking station season stations seasons n (found || (eqb station (getD stations j 0) && eqb season (getD seasons j 0))) (j + 1)
+unfolding seenIn
+seeking-step {found = found} a h = record { within = omega arith; is = or-comm found _ ∙ rw (add-one, a .is) }
 
-  pub seeking-station : 0 < j → (station ≡ getD stations (j - 1) 0 → ⊥) → Seeking station season stations seasons n (j - 1)
-  seeking-station h p = record { within = omega (arith, a .within); passed = here h ∙ rw (ne-eqb station _ p) }
-
-  pub seeking-season : 0 < j → (season ≡ getD seasons (j - 1) 0 → ⊥) → Seeking station season stations seasons n (j - 1)
-  seeking-season h p =
-      record { within = omega (arith, a .within); passed = here h ∙ rw (ne-eqb season _ p, and-false (eqb station (getD stations (j - 1) 0))) }
-
-  pub seeking-found : 0 < j → station ≡ getD stations (j - 1) 0 → season ≡ getD seasons (j - 1) 0 → true ≡ seenIn station season stations seasons n
-  seeking-found h p q = sym (here h ∙ rw (eq-eqb station _ p, eq-eqb season _ q))
-
-  pub seeking-end : j ≤ 0 → false ≡ seenIn station season stations seasons n
-  unfolding seenIn
-  seeking-end h = let z : j ≡ 0 = omega arith in sym (a .passed ∙ rw z)
+pub seeking-end : {station season : ℕ} {stations seasons : List ℕ} {n : ℕ} {found : Bool} {j : ℕ} → Seeking station season stations seasons n found j → n ≤ j
+    → found ≡ seenIn station season stations seasons n
+seeking-end {n = n} {j = j} a h = let e : j ≡ n = omega (arith, a .within) in rw e at (a .is)
 
 -- what the search finds is whether the key repeats
 pub seen-repeats : {form : Form} (keyed : Keyed form) (v stations seasons : List ℕ) (n : ℕ)

@@ -15,21 +15,21 @@ use case::Form;
 use case::check_values;
 use line::read_values;
 
-// Whether a station and season are among the first n of the two lists.
+// Whether a station and season are among the first n of the two lists. It does not stop at the first, so that several are compared at once.
 fn seen<'a>(stations: &'a [u32], seasons: &'a [u32], n: usize, station: u32, season: u32) -> bool
     requires { ⌜ (n ≤ length (now stations)) × (n ≤ length (now seasons)) ⌝ }
     ensures { λ r. ⌜ r ≡ seenIn station season (now (stations .entry)) (now (seasons .entry)) n ⌝ }
 {
-    let mut j = n;
-    while 0 < j {
-        j -= 1;
-        if station == stations[j] {
-            if season == seasons[j] {
-                return true;
-            }
-        }
+    let mut found = false;
+    let mut j: usize = 0;
+    while j < n {
+        let a = stations[j];
+        let b = seasons[j];
+        let here = (station == a) & (season == b);
+        found = found | here;
+        j += 1;
     }
-    false
+    found
 }
 
 // Refusals 5, 6 and 7 of a line's values; the lists hold the keys of the n lines before.

@@ -3,8 +3,7 @@ ghost use Rattle.case.specs.Order.{Distinct};
 ghost use Rattle.line.specs.Parts.{LineValues};
 ghost use lib.ListN.{length};
 use text::Field;
-use text::find;
-use text::value;
+use text::first_field;
 
 // Puts the values of a line at the indices of their columns' names; answers the leftmost wrong column, or 0.
 pub fn read_values<'a>(line: &'a [u8], order: &'a [usize], row: &mut [u32]) -> usize
@@ -18,8 +17,9 @@ pub fn read_values<'a>(line: &'a [u8], order: &'a [usize], row: &mut [u32]) -> u
         if n <= c {
             return n + 1;
         }
-        let e = find(rest, 44);
-        let f = value(&rest[..e]);
+        let first = first_field(rest);
+        let e = first.end;
+        let f = first.field;
         let Field::Value(x) = f else {
             return c + 1;
         };

@@ -4,5 +4,7 @@ pub mod Digits
 pub mod Form
 pub mod Fields
 pub mod Lines
+pub mod Counts
+pub mod FirstFields
 pub mod FieldTurns
 pub mod LineTurns

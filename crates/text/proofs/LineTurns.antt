@@ -40,25 +40,6 @@ module _ (rest : List ℕ) (e r : ℕ) (some : 0 < length rest) (ends : e ≡ in
   pub line-shorter : length (take (length rest - r) (drop r rest)) < length rest
   line-shorter = rw line-rest (omega (arith, length-drop (suc e) rest))
 
--- the count: n lines are passed
-pub record Counting (s rest : List ℕ) (n : ℕ) : Type 0 where
-  pub lines : length (linesOf s) ≡ n + length (linesOf rest)
-  pub short : n + length rest ≤ length s
-
-pub counting-start : (s : List ℕ) → Counting s s 0
-counting-start s = record { lines = omega arith; short = omega arith }
-
-pub counting-step : {s rest : List ℕ} {n : ℕ} (e r : ℕ) → Counting s rest n → 0 < length rest → e ≡ indexOf 10 rest → Skipped e (length rest) r
-    → Counting s (take (length rest - r) (drop r rest)) (n + 1)
-counting-step {rest = rest} e r a some ends k =
-    record {
-      lines = omega (arith, a .lines, ap length (line-turn rest e r some ends k));
-      short = omega (arith, a .short, line-shorter rest e r some ends k);
-    }
-
-pub counting-end : {s rest : List ℕ} {n : ℕ} → Counting s rest n → length rest ≤ 0 → n ≡ length (linesOf s)
-counting-end {rest = rest} a h = omega (arith, a .lines, ap length (lines-none rest h))
-
 -- the line with index n of some lines is the first of those from n on
 pub record Next (n : ℕ) (ls : List (List ℕ)) (x : List ℕ) (rs : List (List ℕ)) : Type 0 where
   pub within : n < length ls

@@ -1,19 +1,45 @@
 -- What the parts of reading a text promise.
 -- Assumes nothing.
-use Prim.Native.Nat.{ℕ, _+_, _≤_, _<_}
+use Prim.Native.Nat.{ℕ, zero, suc, _+_, _≤_, _<_}
 use mathlib.Core.Path.{_≡_}
-use mathlib.Core.Bool.{cond}
-use mathlib.Core.List.{List}
-use Rattle.text.specs.Value.{digits, valueOf}
+use mathlib.Core.Bool.{true, cond}
+use mathlib.Core.List.{List, [], _∷_}
+use lib.Dec.{eqb}
+use lib.ListN.{length, take, drop}
+use Rattle.text.specs.Text.{indexOf}
+use Rattle.text.specs.Value.{digits, valueOf, fieldValue}
 use Rattle.text.specs.declared.Field.{Field}
+use Rattle.text.specs.declared.FirstField.{FirstField}
 use Rattle.text.specs.declared.Field.the-variants.{Wrong, Value}
 
 -- the number of a text of digits, however many
 unfoldable pub digitsValue : List ℕ → Field
 digitsValue t = cond (digits t) (Value (valueOf t)) Wrong
 
+-- none of the first i bytes of a text is b
+pub record Passed (b : ℕ) (s : List ℕ) (i : ℕ) : Type 0 where
+  pub within : i ≤ length s
+  pub passed : indexOf b s ≡ i + indexOf b (drop i s)
+
+-- how many bytes of a text are b
+unfoldable pub countOf : ℕ → List ℕ → ℕ
+countOf b [] = zero
+countOf b (x ∷ t) = cond (eqb x b) (suc (countOf b t)) (countOf b t)
+
 -- the index after the byte at e, or the end of n bytes
 pub record Skipped (e n r : ℕ) : Type 0 where
   pub within : r ≤ n
   pub next : e < n → r ≡ e + 1
   pub none : n ≤ e → r ≡ n
+
+-- i digits at the front of a text stand for n
+pub record FrontDigits (s : List ℕ) (i n : ℕ) : Type 0 where
+  pub few : i ≤ 6
+  pub all : digits (take i s) ≡ true
+  pub number : valueOf (take i s) ≡ n
+  pub no-comma : Passed 44 s i
+
+-- the first field of a line
+pub record IsFirst (line : List ℕ) (r : FirstField) : Type 0 where
+  pub ends : r .end ≡ indexOf 44 line
+  pub held : r .field ≡ fieldValue (take (r .end) line)

@@ -1,10 +1,11 @@
 // Text of bytes: lines, fields and values.
 ghost use mathlib.Core.Path.{_≡_};
+ghost use mathlib.Core.Bool.{false};
 ghost use Prim.Native.Nat.{_≤_};
 ghost use lib.ListN.{length};
 ghost use Rattle.text.specs.Text.{indexOf, linesOf, same as sameText};
 ghost use Rattle.text.specs.Value.{fieldValue};
-ghost use Rattle.text.specs.Parts.{digitsValue, Skipped};
+ghost use Rattle.text.specs.Parts.{Passed, countOf, digitsValue, Skipped, FrontDigits, IsFirst};
 
 // What a field holds: a value, or bytes of a wrong form.
 pub enum Field {
@@ -12,11 +13,54 @@ pub enum Field {
     Value(u32),
 }
 
+// The first field of a line: where it ends, and what it holds.
+pub struct FirstField {
+    pub end: usize,
+    pub field: Field,
+}
+
+// Digits: how many, and the number that they stand for.
+struct Prefix {
+    count: usize,
+    number: u32,
+}
+
+// Whether b is among the bytes of a block.
+fn holds(s: &[u8], b: u8) -> bool
+    requires { ⌜ length (now s) ≡ 16 ⌝ }
+    ensures { λ r. ⌜ (r ≡ false → Passed b (now (s .entry)) 16) ⌝ }
+{
+    let mut found = false;
+    let mut i = 0;
+    while i < 16 {
+        let here = s[i] == b;
+        found = found | here;
+        i += 1;
+    }
+    found
+}
+
+// An index before which no byte of s is b: blocks of 16 bytes without b are passed over.
+fn pass_blocks(s: &[u8], b: u8) -> usize
+    ensures { λ r. ⌜ Passed b (now (s .entry)) r ⌝ }
+{
+    let n = s.len();
+    let mut i = 0;
+    while 16 <= n - i {
+        let e = i + 16;
+        if holds(&s[i..e], b) {
+            return i;
+        }
+        i = e;
+    }
+    i
+}
+
 // The index of the first byte b of s, or the length of s where there is none.
 pub fn find(s: &[u8], b: u8) -> usize
     ensures { λ r. ⌜ r ≡ indexOf b (now (s .entry)) ⌝ }
 {
-    let mut i = 0;
+    let mut i = pass_blocks(s, b);
     while i < s.len() {
         if s[i] == b {
             return i;
@@ -36,19 +80,45 @@ pub fn skip(e: usize, n: usize) -> usize
     n
 }
 
-// The number of lines.
-pub fn count_lines(s: &[u8]) -> usize
-    ensures { λ r. ⌜ r ≡ length (linesOf (now (s .entry))) ⌝ }
+// How many bytes of a block are b: few enough that one byte counts them.
+fn count_block(s: &[u8], b: u8) -> u8
+    requires { ⌜ length (now s) ≤ 128 ⌝ }
+    ensures { λ r. ⌜ r ≡ countOf b (now (s .entry)) ⌝ }
+{
+    let mut n: u8 = 0;
+    let mut i = 0;
+    while i < s.len() {
+        if s[i] == b {
+            n += 1;
+        }
+        i += 1;
+    }
+    n
+}
+
+// How many bytes of s are b.
+fn count(s: &[u8], b: u8) -> usize
+    ensures { λ r. ⌜ r ≡ countOf b (now (s .entry)) ⌝ }
 {
     let mut rest = s;
     let mut n: usize = 0;
-    while 0 < rest.len() {
-        let e = find(rest, 10);
-        let next = skip(e, rest.len());
-        rest = &rest[next..];
-        n += 1;
+    while 128 < rest.len() {
+        n += count_block(&rest[..128], b) as usize;
+        rest = &rest[128..];
     }
-    n
+    n + count_block(rest, b) as usize
+}
+
+// The number of lines: whatever the last byte is, it ends one or is in one that has no end.
+pub fn count_lines(s: &[u8]) -> usize
+    ensures { λ r. ⌜ r ≡ length (linesOf (now (s .entry))) ⌝ }
+{
+    let k = s.len();
+    if k == 0 {
+        return 0;
+    }
+    let e = k - 1;
+    count(&s[..e], 10) + 1
 }
 
 // Whether two texts agree byte for byte.
@@ -106,4 +176,75 @@ pub fn value(s: &[u8]) -> Field
         }
     }
     number(s)
+}
+
+// At most six.
+fn six_at_most(n: usize) -> usize
+    ensures { λ r. ⌜ (r ≤ n) × (r ≤ 6) ⌝ }
+{
+    if n < 6 { n } else { 6 }
+}
+
+// Digits at the front of s, six at most.
+fn front_digits(s: &[u8]) -> Prefix
+    ensures { λ r. ⌜ FrontDigits (now (s .entry)) (r .count) (r .number) ⌝ }
+{
+    let most = six_at_most(s.len());
+    let mut n: u32 = 0;
+    let mut i = 0;
+    while i < most {
+        let b = s[i];
+        if b < 48 {
+            return Prefix {
+                count: i,
+                number: n,
+            };
+        }
+        if 57 < b {
+            return Prefix {
+                count: i,
+                number: n,
+            };
+        }
+        n = n * 10 + (b - 48) as u32;
+        i += 1;
+    }
+    Prefix {
+        count: i,
+        number: n,
+    }
+}
+
+// The first field of a line of any form.
+fn any_field(s: &[u8]) -> FirstField
+    ensures { λ r. ⌜ IsFirst (now (s .entry)) r ⌝ }
+{
+    let e = find(s, 44);
+    let f = value(&s[..e]);
+    FirstField { end: e, field: f }
+}
+
+// The first field of a line: where it ends, and what it holds. A value is read in one pass.
+pub fn first_field(s: &[u8]) -> FirstField
+    ensures { λ r. ⌜ IsFirst (now (s .entry)) r ⌝ }
+{
+    let d = front_digits(s);
+    let e = d.count;
+    if e == 0 {
+        return any_field(s);
+    }
+    if e < s.len() {
+        if s[e] != 44 {
+            return any_field(s);
+        }
+    }
+    if s[0] == 48 {
+        if 1 < e {
+            return any_field(s);
+        }
+    }
+    FirstField {
+        end: e,
+        field: Field::Value(d.number),
+    }
 }

@@ -7,7 +7,7 @@ use native.Mathlib.Omega.{arith}
 use borrow.Author.Needs.{needs}
 use lib.ListN.{length, getD, set}
 use Rattle.text.specs.Text.{fieldsOf}
-use Rattle.text.proofs.FieldTurns.{part-length, field-first, field-last, field-next}
+use Rattle.text.proofs.FieldTurns.{field-first, field-last, field-next}
 use Rattle.line.proofs.ValuesReading.{ValuesAt, values-start, values-wrong, values-step, values-refused, values-many, values-few, values-end}
 use Rattle.line.proofs.read_values.Statement.{statement}
 use Rattle.line.proofs.read_values.Tie as tie
@@ -30,14 +30,8 @@ same-length c = c .before .loop .inv .0 .count
 returns : tie.Need-returns Inv-loop μ-loop
 returns c = values-many (c .before .loop .inv .0) (field-first (c .before .loop .rest .now) _ refl) (c .if1 .taken)
 
-find-requires : tie.Need-find-requires Inv-loop μ-loop
-find-requires c κs = search needs
-
-slice-aggregate-value : tie.Need-slice-aggregate-value Inv-loop μ-loop
-slice-aggregate-value c = part-length 44 _ _ (c .before .find .ensures)
-
-value-requires : tie.Need-value-requires Inv-loop μ-loop
-value-requires c κs = search needs
+first-field-requires : tie.Need-first-field-requires Inv-loop μ-loop
+first-field-requires c κs = search needs
 
 enum-known-f : tie.Need-enum-known-f Inv-loop μ-loop
 enum-known-f c = search needs
@@ -49,21 +43,20 @@ add-result-2 : tie.Need-add-result-2 Inv-loop μ-loop
 add-result-2 c = search needs
 
 same-length-2 : tie.Need-same-length-2 Inv-loop μ-loop
-same-length-2 c = c .before .before .before .before .before .before .loop .inv .0 .count
+same-length-2 c = c .before .before .before .before .loop .inv .0 .count
 
 returns-2 : tie.Need-returns-2 Inv-loop μ-loop
 returns-2 c =
     let m = c .before .before in
-    let f = m .before .before in
-    let a = f .before .before .loop .inv .0 in
-    values-refused _ (a .count) (values-wrong a (field-first _ _ (f .find .ensures)) (m .value .ensures) (f .before .if1 .left) (c .enum-told .given .1))
+    let a = m .before .before .loop .inv .0 in
+    values-refused _ (a .count) (values-wrong a (field-first _ _ (m .first-field .ensures .ends)) (m .first-field .ensures .held) (m .before .if1 .left) (c .enum-told .given .1))
 
 mul-k : tie.Need-mul-k Inv-loop μ-loop
 mul-k c = search needs
 
 -- the turn of the loop, and the index of the next column's name
 abbrev turn : tie.After-shared-slice-known3 Inv-loop μ-loop → tie.Else1 Inv-loop μ-loop
-turn c = c .before .before .before .before .before .before .before
+turn c = c .before .before .before .before .before
 
 shared-slice-read-k : tie.Need-shared-slice-read-k Inv-loop μ-loop
 shared-slice-read-k c = omega (arith, turn c .if1 .left, turn c .before .before .before .before .before .pre .count)
@@ -99,9 +92,8 @@ loop-less c = search needs
 loop-again : tie.Need-loop-again Inv-loop μ-loop
 loop-again c =
     let k = c .before .before in
-    let m = k .before .before .before .before in
-    let f = m .before .before in (
-      values-step (turn k .before .loop .inv .0) (field-next _ _ (f .find .ensures) (c .before .if2 .left)) (m .value .ensures) (turn k .if1 .left) _ (turn k .before .before .before .before .before .pre) (k .before .before .f .given .1),
+    let m = k .before .before .before .before .first-field .ensures in (
+      values-step (turn k .before .loop .inv .0) (field-next _ _ (m .ends) (c .before .if2 .left)) (m .held) (turn k .if1 .left) _ (turn k .before .before .before .before .before .pre) (k .before .before .f .given .1),
       omega (arith, c .rest .given .2),
     )
 
@@ -110,9 +102,8 @@ stepped : (c : tie.Then2 Inv-loop μ-loop)
     → ValuesAt (length (turn (c .before) .before .before .before .before .before .args .row .now)) (turn (c .before) .before .before .before .before .before .args .order .now) (fieldsOf (turn (c .before) .before .before .before .before .before .args .line .now)) (set (turn (c .before) .before .loop .row) (getD (turn (c .before) .before .before .before .before .before .args .order .now) (turn (c .before) .before .loop .c) 0) (c .before .before .before .f .given .0 .0)) [] (turn (c .before) .before .loop .c + 1)
 stepped c =
     let k = c .before in
-    let m = k .before .before .before .before in
-    let f = m .before .before in
-    values-step (turn k .before .loop .inv .0) (field-last _ _ (f .find .ensures) (c .if2 .taken)) (m .value .ensures) (turn k .if1 .left) _ (turn k .before .before .before .before .before .pre) (k .before .before .f .given .1)
+    let m = k .before .before .before .before .first-field .ensures in
+    values-step (turn k .before .loop .inv .0) (field-last _ _ (m .ends) (c .if2 .taken)) (m .held) (turn k .if1 .left) _ (turn k .before .before .before .before .before .pre) (k .before .before .f .given .1)
 
 add-result-3 : tie.Need-add-result-3 Inv-loop μ-loop
 add-result-3 c = search needs
@@ -139,9 +130,7 @@ read-values-spec =
     add-result
     same-length
     returns
-    find-requires
-    slice-aggregate-value
-    value-requires
+    first-field-requires
     enum-known-f
     enum-told
     add-result-2

@@ -3,18 +3,22 @@
 use Prim.Native.Nat.{_-_}
 use borrow.Author.Needs.{needs}
 use lib.ListN.{length}
-use Rattle.text.proofs.Searching.{Searching, searching-start, searching-found, searching-step, searching-end}
+use Rattle.text.specs.Parts.{Passed}
+use Rattle.text.proofs.Searching.{searching-found, searching-step, searching-end}
 use Rattle.text.proofs.find.Statement.{statement}
 use Rattle.text.proofs.find.Tie as tie
 
 abbrev Inv-loop : tie.InvT-loop
-Inv-loop s b i₀ i = Searching b s i
+Inv-loop s b i₀ i = Passed b s i
 
 abbrev μ-loop : tie.MeasureT-loop
 μ-loop s b i₀ i = length s - i
 
+pass-blocks-requires : tie.Need-pass-blocks-requires Inv-loop μ-loop
+pass-blocks-requires c κs = search needs
+
 loop-holds : tie.Need-loop-holds Inv-loop μ-loop
-loop-holds c = searching-start _ _
+loop-holds c = c .pass-blocks .ensures
 
 shared-slice-read-if1 : tie.Need-shared-slice-read-if1 Inv-loop μ-loop
 shared-slice-read-if1 c = search needs
@@ -40,6 +44,7 @@ find-spec =
     (tie.spec
     Inv-loop
     μ-loop
+    pass-blocks-requires
     loop-holds
     shared-slice-read-if1
     returns

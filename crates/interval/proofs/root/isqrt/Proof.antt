@@ -1,68 +1,47 @@
--- `isqrt` halves the gap between a number whose square is not above x and one whose square is.
+-- `isqrt` falls to the root: no guess is below it, and a guess whose square is not above x is the root.
 -- Assumes nothing.
-use Prim.Native.Nat.{_+_, _-_, _*_, _/_, _≤_, _<_}
-use mathlib.Core.Path.{_≡_, subst}
-use native.Mathlib.Nat.{mul-le-mul, lt-of-le-of-lt}
+use Prim.Native.Nat.{_+_, _*_, _/_, _≤_, _<_}
 use native.Mathlib.Omega.{arith}
+use borrow.Author.Needs.{needs}
 use lib.Dec.{lit<}
+use Rattle.interval.specs.Root.{NotBelow}
+use Rattle.interval.proofs.Fits.{fits-product}
+use Rattle.interval.proofs.Newton.{guess-positive, quotient-below, newton-above, newton-below}
 use Rattle.interval.proofs.root.isqrt.Statement.{statement}
 use Rattle.interval.proofs.root.isqrt.Tie as tie
 
 abbrev Inv-loop : tie.InvT-loop
-Inv-loop x low₀ high₀ low high = (low * low ≤ x) × (x < high * high) × (low < high) × (high ≤ 4294967296)
+Inv-loop x r₀ r = NotBelow x r
 
 abbrev μ-loop : tie.MeasureT-loop
-μ-loop x low₀ high₀ low high = high - low
+μ-loop x r₀ r = r
+
+first-guess-requires : tie.Need-first-guess-requires Inv-loop μ-loop
+first-guess-requires c κs = search needs
 
 loop-holds : tie.Need-loop-holds Inv-loop μ-loop
-loop-holds c = omega arith
+loop-holds c = c .first-guess .ensures
 
-sub-loop : tie.Need-sub-loop Inv-loop μ-loop
-sub-loop c = omega arith
+mul-loop : tie.Need-mul-loop Inv-loop μ-loop
+mul-loop c = let h : c .loop .r ≤ 4294967295 = omega (arith, c .loop .inv .small) in fits-product h h (lit< tt)
 
-sub-middle : tie.Need-sub-middle Inv-loop μ-loop
-sub-middle c = omega arith
+div-r : tie.Need-div-r Inv-loop μ-loop
+div-r c = guess-positive _ _ (c .loop-test .taken)
 
-add-middle : tie.Need-add-middle Inv-loop μ-loop
-add-middle c = omega arith
-
-mul-if1 : tie.Need-mul-if1 Inv-loop μ-loop
-mul-if1 c =
-    let l = c .before .loop in
-    let h : l .low + (l .high - l .low) / 2 ≤ 4294967295 = omega arith in
-    record { fits = lt-of-le-of-lt (mul-le-mul h h) (lit< tt) }
+add-r : tie.Need-add-r Inv-loop μ-loop
+add-r c = omega (arith, quotient-below _ _ (c .loop-test .taken), c .before .loop .inv .small)
 
 loop-less : tie.Need-loop-less Inv-loop μ-loop
-loop-less c = omega arith
+loop-less c = newton-below _ _ (c .loop-test .taken)
 
 loop-again : tie.Need-loop-again Inv-loop μ-loop
-loop-again c = omega arith
-
-loop-less-2 : tie.Need-loop-less-2 Inv-loop μ-loop
-loop-less-2 c = omega arith
-
-loop-again-2 : tie.Need-loop-again-2 Inv-loop μ-loop
-loop-again-2 c = omega arith
+loop-again c =
+    let h = c .loop-test .taken in
+    record { high = newton-above _ _ (guess-positive _ _ h); small = omega (arith, newton-below _ _ h, c .before .loop .inv .small) }
 
 returns : tie.Need-returns Inv-loop μ-loop
-returns c =
-    let l = c .before .loop in
-    let e : l .high ≡ l .low + 1 = omega arith in
-    record { low = l .inv .0; high = subst (λ n. c .before .before .args .x < n * n) e (l .inv .1) }
+returns c = record { low = c .loop-test .left; high = c .before .loop .inv .high }
 
 pub isqrt-spec : {M : Type 1} → statement M
 isqrt-spec =
-    tie.close
-    (tie.spec
-    Inv-loop
-    μ-loop
-    loop-holds
-    sub-loop
-    sub-middle
-    add-middle
-    mul-if1
-    loop-less
-    loop-again
-    loop-less-2
-    loop-again-2
-    returns)
+    tie.close (tie.spec Inv-loop μ-loop first-guess-requires loop-holds mul-loop div-r add-r loop-less loop-again returns)

@@ -1,0 +1,110 @@
+-- The ranges as three numbers each: a value between the first two, or the third, is in the range.
+-- Assumes nothing.
+use Prim.Native.Nat.{ℕ, zero, suc, _+_, _≤_, _<_}
+use mathlib.Core.Path.{_≡_, refl, sym, _∙_}
+use mathlib.Core.Bool.{Bool, true, false, cond, _&&_, _||_, or-comm}
+use mathlib.Core.List.{List, [], _∷_}
+use native.Mathlib.Decide.{ℕ-discrete, decLt}
+use native.Mathlib.Omega.{arith}
+use lib.ListN.{length, getD}
+use lib.Dec.{leb, eqb}
+use borrow.Author.Tests.{eq-eqb, ne-eqb, le-leb, lt-leb}
+use Rattle.case.specs.Columns.{Range, from, zeroOr, either, inRange, Form, columns, nameCount, name-count}
+use Rattle.case.specs.Check.{outOfRange}
+use Rattle.case.specs.Parts.{rangeAt, lowOf, highOf, otherOf, InRanges}
+
+-- the test by three numbers
+abbrev pub passes : ℕ → ℕ → ℕ → ℕ → Bool
+passes low high other x = (leb low x && leb x high) || eqb x other
+
+or-split : (a b : Bool) → (a || b) ≡ true → b ≡ false → a ≡ true
+or-split true b e f = refl
+or-split false b e f = sym f ∙ e
+
+and-left : (a b : Bool) → (a && b) ≡ true → a ≡ true
+and-left true b e = refl
+and-left false b e = e
+
+and-right : (a b : Bool) → (a && b) ≡ true → b ≡ true
+and-right true b e = e
+and-right false b e = let z : _≡_ {A = ℕ} 0 1 = cc in absurd (omega arith)
+
+passes-in : (r : Range) (x : ℕ) → leb (lowOf r) (highOf r) ≡ true → passes (lowOf r) (highOf r) (otherOf r) x ≡ true → inRange r x ≡ true
+unfolding inRange lowOf highOf otherOf
+passes-in (from low high) x o e = go (ℕ-discrete x low)
+  where
+    go : Dec (x ≡ low) → (leb low x && leb x high) ≡ true
+    go (yes p) = rw (p, le-leb low low (omega arith)) o
+    go (no p) = or-split _ _ e (ne-eqb x low p)
+passes-in (zeroOr low high) x o e = or-comm (eqb x 0) _ ∙ e
+passes-in (either a b) x o e = go (ℕ-discrete x a) (decLt x a)
+  where
+    go : Dec (x ≡ a) → Dec (x < a) → (eqb x a || eqb x b) ≡ true
+    go (yes p) d = rw (eq-eqb x a p)
+    go (no p) (yes l) = rw (ne-eqb x a p) (rw (lt-leb a x l) at e)
+    go (no p) (no l) = rw (ne-eqb x a p) (rw (le-leb a x (omega arith), lt-leb x a (omega (arith, p))) at e)
+
+-- ---- the tables of a form
+
+abbrev pub lows : Form → List ℕ
+lows [] = []
+lows (c ∷ form) = lowOf (c .range) ∷ lows form
+
+abbrev pub highs : Form → List ℕ
+highs [] = []
+highs (c ∷ form) = highOf (c .range) ∷ highs form
+
+abbrev pub others : Form → List ℕ
+others [] = []
+others (c ∷ form) = otherOf (c .range) ∷ others form
+
+-- no range has its low end above its high end
+abbrev orderly : Form → Bool
+orderly [] = true
+orderly (c ∷ form) = leb (lowOf (c .range)) (highOf (c .range)) && orderly form
+
+entry-in : (form : Form) → orderly form ≡ true → (k : ℕ) → k < length form → (x : ℕ)
+    → passes (getD (lows form) k 0) (getD (highs form) k 0) (getD (others form) k 0) x ≡ true → inRange (rangeAt form k) x ≡ true
+unfolding rangeAt
+entry-in [] o k h x e = absurd (omega arith)
+entry-in (c ∷ form) o zero h x e = passes-in (c .range) x (and-left (leb (lowOf (c .range)) (highOf (c .range))) (orderly form) o) e
+entry-in (c ∷ form) o (suc k) h x e = entry-in form (and-right (leb (lowOf (c .range)) (highOf (c .range))) (orderly form) o) k (omega arith) x e
+
+orderly-columns : orderly columns ≡ true
+unfolding columns lowOf highOf
+orderly-columns = refl
+
+-- ---- the pass over the values of today's form: what holds when the first k are done
+
+pub record Tested (v : List ℕ) (all : Bool) (k : ℕ) : Type 0 where
+  pub most : k ≤ nameCount
+  pub each : all ≡ true → (j : ℕ) → j < k → inRange (rangeAt columns j) (getD v j 0) ≡ true
+
+pub tested-start : (v : List ℕ) → Tested v true 0
+tested-start v = record { most = omega arith; each = λ e j h. absurd (omega arith) }
+
+pub tested-step : {v : List ℕ} {all : Bool} {k : ℕ} → Tested v all k → k < nameCount
+    → Tested v (all && passes (getD (lows columns) k 0) (getD (highs columns) k 0) (getD (others columns) k 0) (getD v k 0)) (k + 1)
+tested-step {v} {all} {k} a h =
+    let here = passes (getD (lows columns) k 0) (getD (highs columns) k 0) (getD (others columns) k 0) (getD v k 0) in
+    record { most = omega arith; each = λ e j l. go j (ℕ-discrete j k) l (and-left all here e) (and-right all here e) }
+  where
+    go : (j : ℕ) → Dec (j ≡ k) → j < k + 1 → all ≡ true
+        → passes (getD (lows columns) k 0) (getD (highs columns) k 0) (getD (others columns) k 0) (getD v k 0) ≡ true
+        → inRange (rangeAt columns j) (getD v j 0) ≡ true
+    go j (yes p) l e f = rw p (entry-in columns orderly-columns k (omega (arith, name-count)) (getD v k 0) f)
+    go j (no p) l e f = a .each e j (omega (arith, p))
+
+pub tested-end : {v : List ℕ} {all : Bool} {k : ℕ} → Tested v all k → nameCount ≤ k → all ≡ true → InRanges columns v
+tested-end a h e = record { each = λ j l. a .each e j (omega (arith, name-count)) }
+
+-- where every value is in its range, no column is at fault
+none-out : (form : Form) (at v : List ℕ) → ((k : ℕ) → k < length form → inRange (rangeAt form k) (getD v k 0) ≡ true) → outOfRange form at v ≡ 0
+unfolding outOfRange rangeAt
+none-out [] at v h = refl
+none-out (k ∷ ks) [] v h = refl
+none-out (k ∷ ks) (c ∷ at) [] h = refl
+none-out (k ∷ ks) (c ∷ at) (x ∷ v) h = rw (h 0 (omega arith)) (none-out ks at v (λ j l. h (suc j) (omega arith)))
+
+pub in-ranges : {form : Form} {v : List ℕ} (at : List ℕ) → InRanges form v → outOfRange form at v ≡ 0
+in-ranges {form} {v} at a = none-out form at v (a .each)
