@@ -1,21 +1,28 @@
--- Stations and seasons of earlier lines, kept in two lists.
+-- Stations and seasons of earlier lines, kept as one number each.
 -- Assumes nothing.
-use Prim.Native.Nat.{ℕ, zero, suc, _+_, _-_, _≤_, _<_}
-use mathlib.Core.Path.{_≡_, refl, sym, _∙_}
-use mathlib.Core.Bool.{Bool, false, _&&_, _||_, or-comm}
+use Prim.Native.Nat.{ℕ, zero, suc, _+_, _*_, _/_, _%_, _≤_, _<_}
+use mathlib.Core.Path.{_≡_, refl, _∙_}
+use mathlib.Core.Bool.{Bool, true, false, cond, _&&_, _||_, or-comm}
 use mathlib.Core.List.{List, [], _∷_, map}
 use native.Mathlib.Numerals.{add-one}
+use native.Mathlib.Decide.{ℕ-discrete}
 use native.Mathlib.Omega.{arith}
 use lib.ListN.{length, getD, set}
 use lib.Seq.{getD-set-same, getD-set-other}
-use lib.Dec.{eqb}
+use lib.Dec.{T, eqb, leb, leb→le}
+use borrow.Author.Tests.{eq-eqb, ne-eqb, eqb-true}
 use Rattle.text.specs.Text.{bytes, same}
 use Rattle.case.specs.declared.Form.{Form as CodeForm}
 use Rattle.case.specs.declared.Form.the-variants.{Present, Former}
-use Rattle.case.specs.Columns.{Form, columns, formerColumns, nameIndex, named}
-use Rattle.case.specs.Parts.{formOf}
+use Rattle.case.specs.declared.Finding.the-variants as found
+use Rattle.case.specs.Columns.{Form, columns, formerColumns, nameIndex, named, inRange}
+use Rattle.case.specs.Check.{outOfRange, disagreement, finding}
+use Rattle.case.specs.Bounds.{Placed}
+use Rattle.case.specs.Parts.{formOf, rangeAt}
+use Rattle.case.proofs.Tests.{both}
+use Rattle.case.proofs.Ranges.{in-range, in-range-at, some-columns}
 use Rattle.judgement.specs.Findings.{sameKey, repeats, lineFinding}
-use Rattle.judgement.specs.Parts.{keyOf, keysOf, seenIn}
+use Rattle.judgement.specs.Parts.{keyOf, Keyable, packed, keysOf, seenIn}
 
 -- a form whose first two names are station and season
 pub record Keyed (form : Form) : Type 0 where
@@ -37,30 +44,40 @@ module _ {form : Form} (keyed : Keyed form) (a b : ℕ) where
   key-season = rw (keyed .second)
 
 -- the search: what is found among the first j keys
-pub record Seeking (station season : ℕ) (stations seasons : List ℕ) (n : ℕ) (found : Bool) (j : ℕ) : Type 0 where
+pub record Seeking (key : ℕ) (keys : List ℕ) (n : ℕ) (found : Bool) (j : ℕ) : Type 0 where
   pub within : j ≤ n
-  pub is : found ≡ seenIn station season stations seasons j
+  pub is : found ≡ seenIn key keys j
 
-pub seeking-start : (station season : ℕ) (stations seasons : List ℕ) (n : ℕ) → Seeking station season stations seasons n false 0
+pub seeking-start : (key : ℕ) (keys : List ℕ) (n : ℕ) → Seeking key keys n false 0
 unfolding seenIn
-seeking-start station season stations seasons n = record { within = omega arith; is = refl }
+seeking-start key keys n = record { within = omega arith; is = refl }
 
-pub seeking-step : {station season : ℕ} {stations seasons : List ℕ} {n : ℕ} {found : Bool} {j : ℕ} → Seeking station season stations seasons n found j → j < n
-    → Seeking station season stations seasons n (found || (eqb station (getD stations j 0) && eqb season (getD seasons j 0))) (j + 1)
+pub seeking-step : {key : ℕ} {keys : List ℕ} {n : ℕ} {found : Bool} {j : ℕ} → Seeking key keys n found j → j < n
+    → Seeking key keys n (found || eqb key (getD keys j 0)) (j + 1)
 unfolding seenIn
 seeking-step {found = found} a h = record { within = omega arith; is = or-comm found _ ∙ rw (add-one, a .is) }
 
-pub seeking-end : {station season : ℕ} {stations seasons : List ℕ} {n : ℕ} {found : Bool} {j : ℕ} → Seeking station season stations seasons n found j → n ≤ j
-    → found ≡ seenIn station season stations seasons n
+pub seeking-end : {key : ℕ} {keys : List ℕ} {n : ℕ} {found : Bool} {j : ℕ} → Seeking key keys n found j → n ≤ j → found ≡ seenIn key keys n
 seeking-end {n = n} {j = j} a h = let e : j ≡ n = omega (arith, a .within) in rw e at (a .is)
 
+-- two keys are one number where stations and seasons agree
+key-same : (a b k : ℕ) → b < 8 → eqb (packed a b) k ≡ (eqb a (k / 8) && eqb b (k % 8))
+unfolding packed
+key-same a b k h = go (ℕ-discrete (a * 8 + b) k) (ℕ-discrete a (k / 8))
+  where
+    go : Dec (a * 8 + b ≡ k) → Dec (a ≡ k / 8) → eqb (a * 8 + b) k ≡ (eqb a (k / 8) && eqb b (k % 8))
+    go (yes e) q = rw (eq-eqb _ _ e, eq-eqb a (k / 8) (omega arith), eq-eqb b (k % 8) (omega arith))
+    go (no e) (yes q) = rw (ne-eqb _ _ e, eq-eqb a (k / 8) q, ne-eqb b (k % 8) (λ r. e (omega arith)))
+    go (no e) (no q) = rw (ne-eqb _ _ e, ne-eqb a (k / 8) q)
+
 -- what the search finds is whether the key repeats
-pub seen-repeats : {form : Form} (keyed : Keyed form) (v stations seasons : List ℕ) (n : ℕ)
-    → seenIn (getD v 0 0) (getD v 1 0) stations seasons n ≡ repeats form v (keysOf stations seasons n)
+pub seen-repeats : {form : Form} (keyed : Keyed form) (v keys : List ℕ) (n : ℕ) → getD v 1 0 < 8
+    → seenIn (packed (getD v 0 0) (getD v 1 0)) keys n ≡ repeats form v (keysOf keys n)
 unfolding seenIn repeats keysOf sameKey named
-seen-repeats keyed v stations seasons zero = refl
-seen-repeats keyed v stations seasons (suc n) =
-    rw (seen-repeats keyed v stations seasons n, key-station keyed (getD stations n 0) (getD seasons n 0), key-season keyed (getD stations n 0) (getD seasons n 0), keyed .first, keyed .second)
+seen-repeats keyed v keys zero h = refl
+seen-repeats keyed v keys (suc n) h =
+    let k = getD keys n 0 in
+    rw (seen-repeats keyed v keys n h, key-same (getD v 0 0) (getD v 1 0) k h, key-station keyed (k / 8) (k % 8), key-season keyed (k / 8) (k % 8), keyed .first, keyed .second)
 
 -- ---- keys and the values that they were kept of
 
@@ -80,14 +97,36 @@ module _ {form : Form} (keyed : Keyed form) where
   finding-kept at earlier fields = rw (repeats-kept _ earlier)
 
 -- a store past the first m keys leaves them
-keys-past : (stations seasons : List ℕ) (n a b m : ℕ) → m ≤ n → keysOf (set stations n a) (set seasons n b) m ≡ keysOf stations seasons m
+keys-past : (keys : List ℕ) (n x m : ℕ) → m ≤ n → keysOf (set keys n x) m ≡ keysOf keys m
 unfolding keysOf
-keys-past stations seasons n a b zero h = refl
-keys-past stations seasons n a b (suc m) h =
-    rw (getD-set-other stations n m a 0 (λ e. omega (arith, e)), getD-set-other seasons n m b 0 (λ e. omega (arith, e)), keys-past stations seasons n a b m (omega arith))
+keys-past keys n x zero h = refl
+keys-past keys n x (suc m) h = rw (getD-set-other keys n m x 0 (λ e. omega (arith, e)), keys-past keys n x m (omega arith))
 
-pub keys-more : (stations seasons : List ℕ) (n a b : ℕ) → n < length stations → n < length seasons
-    → keysOf (set stations n a) (set seasons n b) (n + 1) ≡ keyOf a b ∷ keysOf stations seasons n
-unfolding keysOf
-keys-more stations seasons n a b h j =
-    rw (add-one, getD-set-same stations n a 0 h, getD-set-same seasons n b 0 j, keys-past stations seasons n a b n (omega arith))
+pub keys-more : (keys : List ℕ) (n a b : ℕ) → b < 8 → n < length keys → keysOf (set keys n (packed a b)) (n + 1) ≡ keyOf a b ∷ keysOf keys n
+unfolding keysOf packed
+keys-more keys n a b few h =
+    let s : (a * 8 + b) / 8 ≡ a = omega arith in
+    let t : (a * 8 + b) % 8 ≡ b = omega arith in
+    rw (add-one, getD-set-same keys n (a * 8 + b) 0 h, s, t, keys-past keys n (a * 8 + b) n (omega arith))
+
+-- ---- a sound line's key
+
+in-ranges : (form : Form) (at v : List ℕ) → finding form at v ≡ found.Sound → outOfRange form at v ≡ 0
+unfolding finding
+in-ranges form at v h = go (eqb (outOfRange form at v) 0) refl h
+  where
+    go : (b : Bool) → eqb (outOfRange form at v) 0 ≡ b → cond b (disagreement form at v) (found.OutOfRange (outOfRange form at v)) ≡ found.Sound → outOfRange form at v ≡ 0
+    go true t k = eqb-true _ 0 t
+    go false t k = let z : _≡_ {A = ℕ} 0 1 = cc in absurd (omega arith)
+
+pub key-fits : (form : CodeForm) {at : List ℕ} (v : List ℕ) → Placed (length (formOf form)) at → length v ≡ length (formOf form) → finding (formOf form) at v ≡ found.Sound
+    → Keyable (getD v 0 0) (getD v 1 0)
+unfolding formOf columns formerColumns inRange rangeAt
+key-fits form {at} v p l h = go form (in-range-at (formOf form) v l (in-range (formOf form) at v (p .count) (some-columns at _ (p .count) (p .some)) (in-ranges (formOf form) at v h)))
+  where
+    few : (a b x : ℕ) → T (leb a x && leb x b) → x ≤ b
+    few a b x t = leb→le x b (both (leb a x) (leb x b) t .1)
+
+    go : (f : CodeForm) → ((i : ℕ) → T (inRange (rangeAt (formOf f) i) (getD v i 0))) → Keyable (getD v 0 0) (getD v 1 0)
+    go Present at = record { station-few = omega (arith, few _ _ (getD v 0 0) (at 0)); season-few = omega (arith, few _ _ (getD v 1 0) (at 1)) }
+    go Former at = record { station-few = omega (arith, few _ _ (getD v 0 0) (at 0)); season-few = omega (arith, few _ _ (getD v 1 0) (at 1)) }

@@ -9,6 +9,8 @@ use lib.ListN.{length, getD}
 use borrow.Author.Tests.{eq-eqb, ne-eqb}
 use Rattle.text.specs.Text.{fieldsOf}
 use Rattle.case.specs.Columns.{Form}
+use Rattle.case.specs.declared.Finding.{Finding}
+use Rattle.case.specs.declared.Finding.the-variants as found
 use Rattle.case.specs.Check.{finding}
 use Rattle.line.specs.Line.{lineValues}
 use Rattle.line.specs.Parts.{LineValues}
@@ -18,8 +20,21 @@ use Rattle.judgement.specs.declared.LineFinding.{LineFinding}
 use Rattle.judgement.specs.declared.LineFinding.the-variants.{Sound, Form as WrongForm, OutOfRange, Disagreement, Repeated}
 use Rattle.judgement.specs.Refusal.{lineJudgement}
 use Rattle.judgement.specs.Findings.{orFinding, lineFinding}
-use Rattle.judgement.specs.Parts.{keysOf, seenIn, Checks}
+use Rattle.judgement.specs.Parts.{Keyable, packed, keysOf, seenIn, Checks}
 use Rattle.judgement.proofs.Keys.{Keyed, seen-repeats}
+
+-- what follows counts where the values are sound
+or-same : {x y : LineFinding} (f : Finding) → (f ≡ found.Sound → x ≡ y) → orFinding f x ≡ orFinding f y
+unfolding orFinding
+or-same found.Sound h = h refl
+or-same (found.OutOfRange c) h = refl
+or-same (found.Disagreement c) h = refl
+
+pub sound-case : (f : Finding) (next : LineFinding) → orFinding f next ≡ Sound → f ≡ found.Sound
+unfolding orFinding
+sound-case found.Sound next e = refl
+sound-case (found.OutOfRange c) next e = let z : _≡_ {A = ℕ} 0 1 = cc in absurd (omega arith)
+sound-case (found.Disagreement c) next e = let z : _≡_ {A = ℕ} 0 1 = cc in absurd (omega arith)
 
 module _ {form : Form} {order line row : List ℕ} {c : ℕ} (at : List ℕ) (l : LineValues (length form) order line c row) where
   pub judged-form : (earlier : List (List ℕ)) → (c ≡ 0 → ⊥) → Checks form at earlier line (WrongForm c) row
@@ -29,17 +44,19 @@ module _ {form : Form} {order line row : List ℕ} {c : ℕ} (at : List ℕ) (l 
         found-is = rw (← l .wrong-is, ne-eqb c 0 h);
         row-is = λ e. let z : _≡_ {A = ℕ} 0 1 = cc in absurd (omega arith);
         count = l .count;
+        keyable = λ e. let z : _≡_ {A = ℕ} 0 1 = cc in absurd (omega arith);
       }
 
-  pub judged-values : {f : LineFinding} (stations seasons : List ℕ) (n : ℕ) → Keyed form → c ≡ 0 → row ≡ lineValues at (fieldsOf line)
-      → f ≡ orFinding (finding form at row) (cond (seenIn (getD row 0 0) (getD row 1 0) stations seasons n) Repeated Sound)
-      → Checks form at (keysOf stations seasons n) line f row
+  pub judged-values : {f : LineFinding} (keys : List ℕ) (n : ℕ) → Keyed form → (finding form at row ≡ found.Sound → Keyable (getD row 0 0) (getD row 1 0)) → c ≡ 0
+      → row ≡ lineValues at (fieldsOf line) → f ≡ orFinding (finding form at row) (cond (seenIn (packed (getD row 0 0) (getD row 1 0)) keys n) Repeated Sound)
+      → Checks form at (keysOf keys n) line f row
   unfolding lineFinding
-  judged-values stations seasons n keyed h p q =
+  judged-values keys n keyed fits h p q =
       record {
-        found-is = rw (← l .wrong-is, eq-eqb c 0 h, ← p, ← seen-repeats keyed row stations seasons n) q;
+        found-is = rw (← l .wrong-is, eq-eqb c 0 h, ← p) (q ∙ or-same (finding form at row) (λ e. rw (seen-repeats keyed row keys n (fits e .season-few))));
         row-is = λ e. p;
         count = l .count;
+        keyable = λ e. fits (sound-case (finding form at row) _ (sym q ∙ e));
       }
 
 -- ---- what the refusal of a line says of its finding

@@ -10,27 +10,19 @@ use lib.Dec.{eqb}
 use borrow.Author.Tests.{eqb-true}
 use Rattle.text.specs.Text.{fieldsOf}
 use Rattle.case.specs.Columns.{Form}
-use Rattle.case.specs.declared.Finding.{Finding}
-use Rattle.case.specs.declared.Finding.the-variants as found
 use Rattle.judgement.specs.declared.Judgement.{Judgement}
 use Rattle.judgement.specs.declared.Judgement.the-variants.{Lines}
 use Rattle.judgement.specs.declared.LineFinding.{LineFinding}
-use Rattle.judgement.specs.declared.LineFinding.the-variants.{Sound, Form as WrongForm, OutOfRange, Disagreement}
+use Rattle.judgement.specs.declared.LineFinding.the-variants.{Sound, Form as WrongForm}
 use Rattle.line.specs.Line.{wrongForm, lineValues}
-use Rattle.judgement.specs.Findings.{orFinding, lineFinding}
+use Rattle.judgement.specs.Findings.{lineFinding}
 use Rattle.judgement.specs.Sheet.{linesJudgement}
 use Rattle.judgement.specs.Accepted.{SoundLine}
-use Rattle.judgement.proofs.LineJudged.{sound-line}
+use Rattle.judgement.proofs.LineJudged.{sound-line, sound-case}
 
 sound-form : (b : Bool) (c : ℕ) (f : LineFinding) → cond b f (WrongForm c) ≡ Sound → (b ≡ true) × (f ≡ Sound)
 sound-form true c f e = (refl, e)
 sound-form false c f e = let z : _≡_ {A = ℕ} 0 1 = cc in absurd (omega arith)
-
-sound-case : (f : Finding) (next : LineFinding) → orFinding f next ≡ Sound → f ≡ found.Sound
-unfolding orFinding
-sound-case found.Sound next e = refl
-sound-case (found.OutOfRange c) next e = let z : _≡_ {A = ℕ} 0 1 = cc in absurd (omega arith)
-sound-case (found.Disagreement c) next e = let z : _≡_ {A = ℕ} 0 1 = cc in absurd (omega arith)
 
 sound-checks : (form : Form) (at line : List ℕ) (earlier : List (List ℕ)) → lineFinding form at earlier (fieldsOf line) ≡ Sound → SoundLine form at line
 unfolding lineFinding

@@ -1,4 +1,4 @@
--- The pass over the value lines: what holds when n lines are sound, rest holds the others, the arrays the keys of the n lines, and the store their values.
+-- The pass over the value lines: what holds when n lines are sound, rest holds the others, the array the keys of the n lines, and the store their values.
 -- Assumes nothing.
 use Prim.Native.Nat.{ℕ, _+_, _*_, _-_, _≤_, _<_}
 use mathlib.Core.Path.{_≡_, refl, sym, ap, _∙_}
@@ -23,42 +23,40 @@ use Rattle.judgement.specs.Refusal.{lineJudgement}
 use Rattle.judgement.specs.Limits.{mostLines}
 use Rattle.judgement.specs.Findings.{lineFinding}
 use Rattle.judgement.specs.Sheet.{linesJudgement}
-use Rattle.judgement.specs.Parts.{keysOf, LineStored}
+use Rattle.judgement.specs.Parts.{packed, keysOf, LineStored}
 use Rattle.judgement.specs.Read.{LinesRead}
 use Rattle.judgement.proofs.Keys.{Keyed, kept, finding-kept, keys-more}
 use Rattle.judgement.proofs.LineJudged.{refused-line, sound-line}
 
-pub record Passing (form : Form) (s at stations seasons rest : List ℕ) (n : ℕ) (sound : Judgement) (before store : List ℕ) : Type 0 where
+pub record Passing (form : Form) (s at keys rest : List ℕ) (n : ℕ) (sound : Judgement) (before store : List ℕ) : Type 0 where
   pub earlier : List (List ℕ)
-  pub keys : keysOf stations seasons n ≡ map (kept form) earlier
+  pub kept-are : keysOf keys n ≡ map (kept form) earlier
   pub answer-left : linesJudgement form at [] 2 sound (linesOf s) ≡ linesJudgement form at earlier (n + 2) sound (linesOf rest)
   pub lines : drop n (linesOf s) ≡ linesOf rest
-  pub stations-count : length stations ≡ mostLines
-  pub seasons-count : length seasons ≡ mostLines
+  pub keys-count : length keys ≡ mostLines
   pub most : length (linesOf s) ≤ mostLines
   pub short : length rest ≤ length s
   pub size : length store ≡ length before
   pub stored : (i : ℕ) → i < n → partAt (length form) store i ≡ lineValues at (fieldsOf (getD (linesOf s) i []))
 
 pub passing-start : (form : Form) (s at : List ℕ) (sound : Judgement) (store : List ℕ) → length (linesOf s) ≤ mostLines
-    → Passing form s at (replicate mostLines 0) (replicate mostLines 0) s 0 sound store store
+    → Passing form s at (replicate mostLines 0) s 0 sound store store
 unfolding keysOf
 passing-start form s at sound store h =
     record {
       earlier = [];
-      keys = refl;
+      kept-are = refl;
       answer-left = refl;
       lines = refl;
-      stations-count = refl;
-      seasons-count = refl;
+      keys-count = refl;
       most = h;
       short = omega arith;
       size = refl;
       stored = λ i l. absurd (omega arith);
     }
 
-module _ {form : Form} {s at stations seasons rest : List ℕ} {n : ℕ} {sound : Judgement} {before store : List ℕ}
-    (p : Passing form s at stations seasons rest n sound before store) where
+module _ {form : Form} {s at keys rest : List ℕ} {n : ℕ} {sound : Judgement} {before store : List ℕ}
+    (p : Passing form s at keys rest n sound before store) where
   -- there is a place for each key
   pub passing-room : 0 < length rest → n < mostLines
   passing-room some = omega (arith, p .most, length-drop n (linesOf s), ap length (p .lines), ap length (lines-next rest some))
@@ -89,11 +87,11 @@ pub stored-first : {form : Form} {at line before after : List ℕ} {earlier : Li
 stored-first {after = after} {n = n} {w} l e h = ap (λ (k : ℕ). getD after k 0) (sym (add-zero (w * n))) ∙ stored-value 0 l e h
 
 -- a turn: the line before e is checked, with finding f; its values are part n of the store; a is its refusal
-module _ {form : Form} {s at stations seasons rest : List ℕ} {n : ℕ} {sound a : Judgement} {before store after : List ℕ} {f : LineFinding} (e : ℕ) (keyed : Keyed form)
-    (p : Passing form s at stations seasons rest n sound before store) (some : 0 < length rest) (ends : e ≡ indexOf 10 rest)
-    (j : LineStored form at (keysOf stations seasons n) (take e rest) n store after f) (answered : a ≡ lineJudgement (n + 2) (Lines 0) f) where
+module _ {form : Form} {s at keys rest : List ℕ} {n : ℕ} {sound a : Judgement} {before store after : List ℕ} {f : LineFinding} (e : ℕ) (keyed : Keyed form)
+    (p : Passing form s at keys rest n sound before store) (some : 0 < length rest) (ends : e ≡ indexOf 10 rest)
+    (j : LineStored form at (keysOf keys n) (take e rest) n store after f) (answered : a ≡ lineJudgement (n + 2) (Lines 0) f) where
   found-is : f ≡ lineFinding form at (p .earlier) (fieldsOf (take e rest))
-  found-is = j .checks .found-is ∙ rw (p .keys) (finding-kept keyed at (p .earlier) (fieldsOf (take e rest)))
+  found-is = j .checks .found-is ∙ rw (p .kept-are) (finding-kept keyed at (p .earlier) (fieldsOf (take e rest)))
 
   pub passing-refused : {k l c : ℕ} → a ≡ Refused k l c → LinesRead form at (linesOf s) sound before after (Refused k l c)
   unfolding linesJudgement
@@ -105,7 +103,7 @@ module _ {form : Form} {s at stations seasons rest : List ℕ} {n : ℕ} {sound 
       }
 
   pub passing-step : {m x y : ℕ} (r : ℕ) → a ≡ Lines m → x ≡ getD (j .row) 0 0 → y ≡ getD (j .row) 1 0 → Skipped e (length rest) r
-      → Passing form s at (set stations n x) (set seasons n y) (take (length rest - r) (drop r rest)) (n + 1) sound before after
+      → Passing form s at (set keys n (packed x y)) (take (length rest - r) (drop r rest)) (n + 1) sound before after
   unfolding linesJudgement lineJudgement kept named
   passing-step {x = x} {y} r h g q k =
       let t = line-turn rest e r some ends k in
@@ -114,15 +112,14 @@ module _ {form : Form} {s at stations seasons rest : List ℕ} {n : ℕ} {sound 
       let o = next-of n (linesOf s) (take e rest) _ (p .lines ∙ t) in
       record {
         earlier = lineValues at (fieldsOf (take e rest)) ∷ p .earlier;
-        keys =
-            keys-more stations seasons n x y (omega (arith, p .stations-count)) (omega (arith, p .seasons-count))
-            ∙ rw (p .keys, g, q, j .checks .row-is z, keyed .first, keyed .second);
+        kept-are =
+            keys-more keys n x y (rw q (j .checks .keyable z .season-few)) (omega (arith, p .keys-count))
+            ∙ rw (p .kept-are, g, q, j .checks .row-is z, keyed .first, keyed .second);
         answer-left =
             p .answer-left ∙ rw (t, ← found-is, z)
             (ap (λ (m : ℕ). linesJudgement form at (lineValues at (fieldsOf (take e rest)) ∷ p .earlier) m sound (linesOf (take (length rest - r) (drop r rest)))) (omega arith));
         lines = o .after;
-        stations-count = length-set stations n x ∙ p .stations-count;
-        seasons-count = length-set seasons n y ∙ p .seasons-count;
+        keys-count = length-set keys n (packed x y) ∙ p .keys-count;
         most = p .most;
         short = omega (arith, p .short, line-shorter rest e r some ends k);
         size = j .written .size ∙ p .size;

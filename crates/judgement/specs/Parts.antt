@@ -1,8 +1,8 @@
 -- What the parts of judging a sheet promise.
 -- Assumes nothing.
-use Prim.Native.Nat.{ℕ, zero, suc}
+use Prim.Native.Nat.{ℕ, zero, suc, _+_, _*_, _/_, _%_, _^_, _≤_, _<_}
 use mathlib.Core.Path.{_≡_}
-use mathlib.Core.Bool.{Bool, false, _&&_, _||_}
+use mathlib.Core.Bool.{Bool, false, _||_}
 use mathlib.Core.List.{List, [], _∷_}
 use lib.Dec.{eqb}
 use lib.ListN.{length, getD}
@@ -18,22 +18,31 @@ use Rattle.judgement.specs.Findings.{lineFinding}
 unfoldable pub keyOf : ℕ → ℕ → List ℕ
 keyOf station season = station ∷ season ∷ []
 
--- the first n keys of two arrays, the latest first
-unfoldable pub keysOf : List ℕ → List ℕ → ℕ → List (List ℕ)
-keysOf stations seasons zero = []
-keysOf stations seasons (suc n) = keyOf (getD stations n 0) (getD seasons n 0) ∷ keysOf stations seasons n
+-- a station and a season that fit one number of 32 bits, as those of a sound line do
+pub record Keyable (station season : ℕ) : Type 0 where
+  pub station-few : station < 2 ^ 29
+  pub season-few : season < 8
 
--- a station and season are among the first n of two arrays
-unfoldable pub seenIn : ℕ → ℕ → List ℕ → List ℕ → ℕ → Bool
-seenIn station season stations seasons zero = false
-seenIn station season stations seasons (suc n) =
-    (eqb station (getD stations n 0) && eqb season (getD seasons n 0)) || seenIn station season stations seasons n
+-- that number
+unfoldable pub packed : ℕ → ℕ → ℕ
+packed station season = station * 8 + season
+
+-- the first n keys of an array of such numbers, the latest first
+unfoldable pub keysOf : List ℕ → ℕ → List (List ℕ)
+keysOf keys zero = []
+keysOf keys (suc n) = keyOf (getD keys n 0 / 8) (getD keys n 0 % 8) ∷ keysOf keys n
+
+-- a number is among the first n of an array
+unfoldable pub seenIn : ℕ → List ℕ → ℕ → Bool
+seenIn key keys zero = false
+seenIn key keys (suc n) = eqb key (getD keys n 0) || seenIn key keys n
 
 -- what the checks of a line find, after the values of earlier lines, and its values in the order of the names
 pub record Checks (form : Form) (at : List ℕ) (earlier : List (List ℕ)) (line : List ℕ) (found : LineFinding) (row : List ℕ) : Type 0 where
   pub found-is : found ≡ lineFinding form at earlier (fieldsOf line)
   pub row-is : found ≡ Sound → row ≡ lineValues at (fieldsOf line)
   pub count : length row ≡ length form
+  pub keyable : found ≡ Sound → Keyable (getD row 0 0) (getD row 1 0)
 
 -- the same, with its values as part n of a store
 pub record LineStored (form : Form) (at : List ℕ) (earlier : List (List ℕ)) (line : List ℕ) (n : ℕ) (before after : List ℕ) (found : LineFinding) : Type 0 where

@@ -14,6 +14,7 @@ use crate::Judgement;
 use crate::LINES;
 use crate::LineFinding;
 use crate::check::check_line;
+use crate::check::key;
 use case::Form;
 use text::find;
 use text::skip;
@@ -37,30 +38,20 @@ fn store_line<'a>(
     line: &'a [u8],
     at: &'a [usize],
     order: &'a [usize],
-    stations: &'a [u32],
-    seasons: &'a [u32],
+    keys: &'a [u32],
     n: usize,
     values: &mut [u32],
 ) -> LineFinding
     requires { ⌜ Placed (length (formOf form)) (now at) ⌝ }
     requires { ⌜ Ordered (length (formOf form)) (now at) (now order) ⌝ }
-    requires { ⌜ (n ≤ length (now stations)) × (n ≤ length (now seasons)) ⌝ }
+    requires { ⌜ n ≤ length (now keys) ⌝ }
     requires { ⌜ length (formOf form) * n + length (formOf form) ≤ length (now values) ⌝ }
-    ensures { λ r. ⌜ LineStored (formOf form) (now (at .entry)) (keysOf (now (stations .entry)) (now (seasons .entry)) n) (now (line .entry)) n (now (values .entry)) (now (values .exit)) r ⌝ }
+    ensures { λ r. ⌜ LineStored (formOf form) (now (at .entry)) (keysOf (now (keys .entry)) n) (now (line .entry)) n (now (values .entry)) (now (values .exit)) r ⌝ }
 {
     let k = at.len();
     let a = k * n;
     let b = a + k;
-    check_line(
-        form,
-        line,
-        at,
-        order,
-        stations,
-        seasons,
-        n,
-        &mut values[a..b],
-    )
+    check_line(form, line, at, order, keys, n, &mut values[a..b])
 }
 
 // Line by line; s holds the value lines, of which there are count, and their values go into the store.
@@ -80,20 +71,18 @@ pub fn check_lines<'a>(
     ensures { λ r. ⌜ LinesRead (formOf form) (now (at .entry)) (linesOf (now (s .entry))) (Judgement.Lines count) (now (values .entry)) (now (values .exit)) r ⌝ }
 {
     let k = at.len();
-    let mut stations = [0u32; LINES];
-    let mut seasons = [0u32; LINES];
+    let mut keys = [0u32; LINES];
     let mut rest = s;
     let mut n: usize = 0;
     while 0 < rest.len() {
         let e = find(rest, 10);
-        let f = store_line(form, &rest[..e], at, order, &stations, &seasons, n, values);
+        let f = store_line(form, &rest[..e], at, order, &keys, n, values);
         let j = refusal(n + 2, f);
         if let Judgement::Refused(number, line, column) = j {
             return Judgement::Refused(number, line, column);
         }
         let a = k * n;
-        stations[n] = values[a];
-        seasons[n] = values[a + 1];
+        keys[n] = key(values[a], values[a + 1]);
         n += 1;
         let next = skip(e, rest.len());
         rest = &rest[next..];

@@ -16,7 +16,7 @@ use Rattle.text.specs.Value.{isValue, valueOf, fieldValue}
 use Rattle.text.specs.declared.Field.{Field}
 use Rattle.text.specs.declared.Field.the-variants.{Wrong, Value}
 use Rattle.line.specs.Line.{wrongForm}
-use Rattle.line.specs.Parts.{LineValues}
+use Rattle.line.specs.Parts.{LineValues, ValuesAt}
 use Rattle.case.specs.Order.{Distinct}
 
 -- what a field's value says of its form
@@ -27,13 +27,6 @@ wrong-form false n e = refl
 right-form : (b : Bool) (n x : ℕ) → cond b (Value n) Wrong ≡ Value x → (b ≡ true) × (x ≡ n)
 right-form true n x e = (refl, cc)
 right-form false n x e = let z : _≡_ {A = ℕ} 0 1 = cc in absurd (omega arith)
-
-pub record ValuesAt (n : ℕ) (order : List ℕ) (all : List (List ℕ)) (row : List ℕ) (fs : List (List ℕ)) (c : ℕ) : Type 0 where
-  pub count : length row ≡ n
-  pub most : c ≤ n
-  pub wrong-left : wrongForm n 1 all ≡ wrongForm n (c + 1) fs
-  pub values-left : (i : ℕ) → getD (map valueOf all) (c + i) 0 ≡ getD (map valueOf fs) i 0
-  pub values-put : (i : ℕ) → i < c → getD row (getD order i 0) 0 ≡ getD (map valueOf all) i 0
 
 pub values-start : (order : List ℕ) (all : List (List ℕ)) (row : List ℕ) → ValuesAt (length row) order all row all 0
 values-start order all row =

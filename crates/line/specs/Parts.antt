@@ -1,6 +1,6 @@
 -- What the parts of reading a value line promise.
 -- Assumes nothing.
-use Prim.Native.Nat.{ℕ, _<_}
+use Prim.Native.Nat.{ℕ, _+_, _≤_, _<_}
 use mathlib.Core.Path.{_≡_}
 use mathlib.Core.List.{List, map}
 use lib.ListN.{length, getD}
@@ -13,3 +13,11 @@ pub record LineValues (n : ℕ) (order line : List ℕ) (wrong : ℕ) (row : Lis
   pub wrong-is : wrong ≡ wrongForm n 1 (fieldsOf line)
   pub count : length row ≡ n
   pub values : wrong ≡ 0 → (i : ℕ) → i < n → getD row (getD order i 0) 0 ≡ getD (map valueOf (fieldsOf line)) i 0
+
+-- while the fields fs of a line are left, and the values of its first c columns are put at the indices of their names
+pub record ValuesAt (n : ℕ) (order : List ℕ) (all : List (List ℕ)) (row : List ℕ) (fs : List (List ℕ)) (c : ℕ) : Type 0 where
+  pub count : length row ≡ n
+  pub most : c ≤ n
+  pub wrong-left : wrongForm n 1 all ≡ wrongForm n (c + 1) fs
+  pub values-left : (i : ℕ) → getD (map valueOf all) (c + i) 0 ≡ getD (map valueOf fs) i 0
+  pub values-put : (i : ℕ) → i < c → getD row (getD order i 0) 0 ≡ getD (map valueOf all) i 0

@@ -6,30 +6,17 @@ use mathlib.Core.Bool.{Bool, true, false}
 use mathlib.Core.List.{List}
 use native.Mathlib.Nat.{le-of-lt, min-eq-left, min-eq-right, min-le-left, min-le-right}
 use native.Mathlib.Omega.{arith}
-use borrow.Author.Tests.{le-ltb, ltb-true, ltb-false}
+use borrow.Author.Tests.{ltb-true, ltb-false}
 use lib.Dec.{ltb}
-use Rattle.case.specs.Columns.{columns}
 use Rattle.row.specs.Row.{rowLength}
-use Rattle.judgement.specs.declared.Judgement.{Judgement}
-use Rattle.judgement.specs.declared.Judgement.the-variants as judged
 use Rattle.judgement.specs.Limits.{mostLines}
-use Rattle.judgement.specs.Sheet.{judgement}
-use Rattle.judgement.proofs.Accepted as judging
 use Rattle.sheet.specs.declared.Answer.{Answer}
 use Rattle.sheet.specs.declared.Answer.the-variants.{Rows, Refused}
-use Rattle.sheet.specs.Answer.{answerBy, answer}
+use Rattle.sheet.specs.Answer.{answer}
 use Rattle.sheet.proofs.Accepted.{accepted}
+use Rattle.sheet.proofs.AnyRoom.{same-answer}
 use Rattle.panel.specs.Bytes.{numberBytes}
 use Rattle.panel.specs.Room.{roomOf, Few}
-
--- two tables with room for the most rows have one answer
-both-answer : (a b : ℕ) (j : Judgement) → ((n : ℕ) → j ≡ judged.Lines n → n ≤ mostLines) → mostLines * rowLength ≤ a → mostLines * rowLength ≤ b
-    → answerBy a j ≡ answerBy b j
-unfolding answerBy
-both-answer a b (judged.Refused k l c) most ha hb = refl
-both-answer a b (judged.Lines n) most ha hb =
-    let h : n ≤ mostLines = most n refl in
-    rw (le-ltb a (rowLength * n) (omega arith), le-ltb b (rowLength * n) (omega arith))
 
 pub room-enough : (s : List ℕ) (bytes : ℕ) → answer s (roomOf bytes) ≡ answer s (bytes / numberBytes)
 unfolding roomOf answer
@@ -39,8 +26,7 @@ room-enough s bytes = go (ltb (bytes / numberBytes) (mostLines * rowLength)) ref
     go true e = ap (answer s) (min-eq-left (le-of-lt (ltb-true (bytes / numberBytes) (mostLines * rowLength) e)))
     go false e =
         let h = ltb-false (bytes / numberBytes) (mostLines * rowLength) e in
-        ap (answer s) (min-eq-right h)
-        ∙ both-answer (mostLines * rowLength) (bytes / numberBytes) (judgement columns s) (λ n f. judging.accepted columns s n f .most) (omega arith) h
+        ap (answer s) (min-eq-right h) ∙ same-answer s (mostLines * rowLength) (omega arith) (bytes / numberBytes) (omega arith)
 
 pub few : (s : List ℕ) (room : ℕ) (a : Answer) → a ≡ answer s room → Few a
 unfolding Few

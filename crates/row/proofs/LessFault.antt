@@ -2,42 +2,27 @@
 -- answered unsafe.
 -- Assumes nothing.
 use Prim.Native.Nat.{ℕ, _≤_}
-use mathlib.Core.Path.{_≡_, refl, ap, _∙_}
-use mathlib.Core.Bool.{Bool, true, false, _&&_}
+use mathlib.Core.Path.{_≡_, ap, _∙_}
 use native.Mathlib.Omega.{arith}
-use lib.Dec.{T}
-use lib.Signed.{leZ, leZ-yes}
 use Rattle.interval.specs.declared.Interval.{Interval}
 use Rattle.interval.proofs.Choice.{≤ℤ-trans}
 use Rattle.interval.proofs.Below.{Below, below-upper}
 use Rattle.case.specs.declared.Case.{Case}
 use Rattle.case.specs.Bounds.{Bounds}
 use Rattle.case.specs.Fault.{withFault}
-use Rattle.case.proofs.Tests.{both}
 use Rattle.tolerable.specs.Ends.{touchEnds, stepEnds}
 use Rattle.tolerable.proofs.LessFault.{same-touch, same-step}
 use Rattle.mesh.proofs.LessFault.{mesh-below}
 use Rattle.step.proofs.LessFault.{step-below}
 use Rattle.row.specs.declared.Verdict.the-variants.{Safe, Unsafe}
-use Rattle.row.specs.Verdict.{safe, unsafe, verdict}
+use Rattle.row.specs.Verdict.{verdict}
 use Rattle.row.specs.Ends.{caseVerdict}
 use Rattle.row.specs.LessFault.{LessFault}
-use Rattle.row.proofs.Verdicts.{safe-tested}
-
--- two tests that pass
-joined : (p q : Bool) → T p → T q → p && q ≡ true
-joined true true s t = refl
-joined true false s t = absurd t
-joined false q s t = absurd s
+use Rattle.row.proofs.Verdicts.{safe-ends, ends-safe}
 
 -- of four pairs that are safe, mesh and step may fall
 safe-falls : (t l : Interval) {m s m′ s′ : Interval} → Below m′ m → Below s′ s → verdict t l m s ≡ Safe → verdict t l m′ s′ ≡ Safe
-unfolding verdict safe
-safe-falls t l {m} {s} {m′} {s′} p q e =
-    let h = both (leZ (m .upper) (t .lower)) (leZ (s .upper) (l .lower)) (safe-tested (safe t l m s) (unsafe t l m s) e) in
-    let mesh = ≤ℤ-trans (below-upper p) (leZ-yes (h .0)) in
-    let step = ≤ℤ-trans (below-upper q) (leZ-yes (h .1)) in
-    rw (joined (leZ (m′ .upper) (t .lower)) (leZ (s′ .upper) (l .lower)) (mesh .le) (step .le))
+safe-falls t l {m} {s} {m′} {s′} p q e = let h = safe-ends t l m s e in ends-safe t l m′ s′ (≤ℤ-trans (below-upper p) (h .0)) (≤ℤ-trans (below-upper q) (h .1))
 
 module _ {c : Case} (b : Bounds c) where
   fault-falls : (f : ℕ) → f ≤ c .fault → caseVerdict c ≡ Safe → caseVerdict (withFault f c) ≡ Safe

@@ -6,7 +6,7 @@ use mathlib.Core.Logic.{_⊎_, inl, inr, ⊎-elim}
 use native.Mathlib.Omega.{arith}
 use Prim.Native.Nat.{ℕ}
 use lib.Dec.{T}
-use lib.Signed.{leZ, ltZ, leZ-yes, ltZ-yes}
+use lib.Signed.{_≤ℤ_, leZ, ltZ, leZ-yes, ltZ-yes}
 use Rattle.interval.specs.declared.Interval.{Interval}
 use Rattle.exact.specs.Exact.{Exact, Above, AtOrBelow}
 use Rattle.exact.specs.Reported.{Scale}
@@ -20,7 +20,7 @@ use Rattle.row.specs.Verdict.{safe, unsafe, verdict}
 
 -- ---- the tests that led to a verdict
 
-pub safe-tested : (s u : Bool) → cond s Safe (cond u Unsafe Undecided) ≡ Safe → T s
+safe-tested : (s u : Bool) → cond s Safe (cond u Unsafe Undecided) ≡ Safe → T s
 safe-tested true u e = tt
 safe-tested false true e = let z : _≡_ {A = ℕ} 0 1 = cc in absurd (omega arith)
 safe-tested false false e = let z : _≡_ {A = ℕ} 0 1 = cc in absurd (omega arith)
@@ -29,6 +29,24 @@ unsafe-tested : (s u : Bool) → cond s Safe (cond u Unsafe Undecided) ≡ Unsaf
 unsafe-tested true u e = let z : _≡_ {A = ℕ} 0 1 = cc in absurd (omega arith)
 unsafe-tested false true e = tt
 unsafe-tested false false e = let z : _≡_ {A = ℕ} 0 1 = cc in absurd (omega arith)
+
+-- two tests that pass
+joined : (p q : Bool) → T p → T q → p && q ≡ true
+joined true true s t = refl
+joined true false s t = absurd t
+joined false q s t = absurd s
+
+module _ (t l m s : Interval) where
+  -- safe just where mesh and step voltage are not above what is tolerable
+  pub safe-ends : verdict t l m s ≡ Safe → (m .upper ≤ℤ t .lower) × (s .upper ≤ℤ l .lower)
+  unfolding verdict safe
+  safe-ends e =
+      let p = both (leZ (m .upper) (t .lower)) (leZ (s .upper) (l .lower)) (safe-tested (safe t l m s) (unsafe t l m s) e) in
+      (leZ-yes (p .0), leZ-yes (p .1))
+
+  pub ends-safe : m .upper ≤ℤ t .lower → s .upper ≤ℤ l .lower → verdict t l m s ≡ Safe
+  unfolding verdict safe
+  ends-safe p q = rw (joined (leZ (m .upper) (t .lower)) (leZ (s .upper) (l .lower)) (p .le) (q .le))
 
 -- ---- the exact values
 
@@ -40,11 +58,10 @@ pub record Enclosed (u : Scale) (x : Exact) (i : Interval) : Type 0 where
 module _ {u : Scale} {touch limit mesh step : Exact} {t l m s : Interval}
     (et : Enclosed u touch t) (el : Enclosed u limit l) (em : Enclosed u mesh m) (es : Enclosed u step s) where
   pub safe-true : verdict t l m s ≡ Safe → AtOrBelow mesh touch × AtOrBelow step limit
-  unfolding verdict safe
   safe-true e =
-      let p = both (leZ (m .upper) (t .lower)) (leZ (s .upper) (l .lower)) (safe-tested (safe t l m s) (unsafe t l m s) e) in (
-        encloses-at-or-below (em .consistent) (et .consistent) (em .encloses) (et .encloses) (leZ-yes (p .0)),
-        encloses-at-or-below (es .consistent) (el .consistent) (es .encloses) (el .encloses) (leZ-yes (p .1)),
+      let p = safe-ends t l m s e in (
+        encloses-at-or-below (em .consistent) (et .consistent) (em .encloses) (et .encloses) (p .0),
+        encloses-at-or-below (es .consistent) (el .consistent) (es .encloses) (el .encloses) (p .1),
       )
 
   pub unsafe-true : verdict t l m s ≡ Unsafe → Above mesh touch ⊎ Above step limit

@@ -19,6 +19,7 @@ use Rattle.row.specs.declared.Verdict.{Verdict}
 use Rattle.row.specs.declared.Verdict.the-variants.{Safe, Unsafe, Undecided}
 use Rattle.row.specs.Verdict.{verdictNumber}
 use Rattle.row.specs.Row.{numbers}
+use Rattle.row.specs.Places.{verdictPlace}
 use Rattle.row.specs.Ends.{caseVerdict, rowOf}
 use Rattle.row.specs.LessFault.{LessFault}
 use Rattle.row.proofs.LessFault.{safe-stays}
@@ -30,7 +31,7 @@ use Rattle.sheet.proofs.StoredCases.{case-at}
 
 -- the verdict in row i of a table, by its number
 abbrev pub verdictAt : List ℤ → ℕ → ℤ
-verdictAt table i = getD (rowAt table i) 2 (pos 0)
+verdictAt table i = getD (rowAt table i) verdictPlace (pos 0)
 
 -- the case of value line i of a sheet
 abbrev pub caseAt : List ℕ → ℕ → Case
@@ -39,20 +40,20 @@ caseAt s i = getD (cases s) i (caseOf [])
 -- ---- the case of a line of an accepted sheet is within its bounds
 
 module _ {s : List ℕ} {before after : List ℤ} {n : ℕ} (h : Answered s before after (Rows n)) (i : ℕ) (l : i < length (cases s)) where
-  line-bounds : Bounds (caseAt s i)
+  pub line-bounds : Bounds (caseAt s i)
   unfolding cases
   line-bounds =
       let a = accepted s (length before) n (sym (h .answer-is)) .sheet in
       let k : i < length (valueLines s) = rw (length-map (valueLines s) (λ line. lineCase (columnsOf columns (names s)) (fieldsOf line))) at l in
       rw (case-at (columnsOf columns (names s)) (valueLines s) i k) (sound-bounds (a .placed) (a .lines .line i k))
 
-  filled : Filled (cases s) before after
+  pub filled : Filled (cases s) before after
   unfolding TableAfter
   filled = h .table-is
 
   line-verdict : verdictAt after i ≡ pos (verdictNumber (caseVerdict (caseAt s i)))
   unfolding numbers rowOf
-  line-verdict = ap (λ row. getD row 2 (pos 0)) (filled .rows i l .is)
+  line-verdict = ap (λ row. getD row verdictPlace (pos 0)) (filled .rows i l .is)
 
 -- ---- the theorem
 

@@ -3,3 +3,4 @@ pub mod RowParts
 pub mod StoredCases
 pub mod Answers
 pub mod LessFault
+pub mod AnyRoom

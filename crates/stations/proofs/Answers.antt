@@ -28,7 +28,7 @@ use Rattle.stations.specs.declared.Sums.{Sums}
 use Rattle.stations.specs.Sums.{none, sumsAt, sixes}
 use Rattle.stations.specs.Places.{stationColumn, Places}
 use Rattle.stations.specs.Answer.{sheetRows, summaryRefused, answerAfter, summaryAnswer, TablesAfter, SummaryAnswered}
-use Rattle.stations.proofs.AnyRoom.{refused-anywhere, count-most, short-there, rows-there}
+use Rattle.sheet.proofs.AnyRoom.{refused-anywhere, count-most, short-there, rows-there}
 use Rattle.stations.proofs.StationSums.{stations-found, summary-put}
 
 -- ---- rows copied from one table into another

@@ -1,6 +1,7 @@
 pub mod Same
 pub mod Tables
 pub mod RowSums
+pub mod Marks
 pub mod Appearing
 pub mod OneRowMore
 pub mod StationSums
@@ -8,6 +9,5 @@ pub mod StandsOnce
 pub mod Totals
 pub mod WorstSeason
 pub mod Copying
-pub mod AnyRoom
 pub mod Answers
 pub mod Within

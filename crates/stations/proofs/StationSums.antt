@@ -13,6 +13,7 @@ use borrow.Author.Tests.{eqb-true, eqb-false}
 use Rattle.case.specs.declared.Case.{Case}
 use Rattle.case.specs.Case.{caseOf}
 use Rattle.row.specs.declared.Row.{Row}
+use Rattle.row.specs.Places.{seasonPlace, verdictPlace, meshUpperPlace}
 use Rattle.row.specs.Row.{rowLength, numbers}
 use Rattle.row.specs.Ends.{rowOf}
 use Rattle.judgement.specs.Limits.{mostLines}
@@ -20,7 +21,7 @@ use Rattle.sheet.specs.Table.{rowAt, RowOf}
 use Rattle.stations.specs.declared.Entry.{Entry}
 use Rattle.stations.specs.declared.Sums.{Sums}
 use Rattle.stations.specs.Summary.{sameZ, byAppearance, stationsOf, stations, rowsOf, countOf, worstSeason, stationNumbers, summaryOf}
-use Rattle.stations.specs.Sums.{entryOf, seasonPlace, verdictPlace, meshUpperPlace, entryAt, addTo, none, worstMesh, sumsOf, sumsAt, six, sixes}
+use Rattle.stations.specs.Sums.{entryOf, entryAt, addTo, none, worstMesh, sumsOf, sumsAt, six, sixes}
 use Rattle.stations.specs.Places.{stationAt, stationColumn, Places}
 use Rattle.stations.proofs.Same.{same-refl, not-same}
 use Rattle.stations.proofs.OneRowMore.{rows-more, sums-more}

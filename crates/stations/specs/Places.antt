@@ -1,13 +1,27 @@
 -- The stations of a table of rows, and the place of each row's station among them.
 -- Assumes nothing.
-use Prim.Native.Nat.{ℕ, zero, suc, _*_, _≤_, _<_}
+use Prim.Native.Nat.{ℕ, zero, suc, _*_, _%_, _≤_, _<_}
 use mathlib.Core.Path.{_≡_}
 use mathlib.Core.List.{List, [], _∷_}
-use lib.IntN.{ℤ, pos}
+use lib.IntN.{ℤ, pos, negsuc}
 use lib.ListN.{getD, take, length}
 use Rattle.row.specs.Row.{rowLength}
 use Rattle.judgement.specs.Limits.{mostLines}
 use Rattle.stations.specs.Summary.{byAppearance}
+
+-- the low sixteen bits of a station, by which it is soon told from most others
+unfoldable pub markOf : ℤ → ℕ
+markOf (pos n) = n % 65536
+markOf (negsuc n) = 0
+
+-- none of the first count marks is x
+pub record NotMarked (marks : List ℕ) (count x : ℕ) : Type 0 where
+  pub none : (k : ℕ) → k < count → getD marks k 0 ≡ x → ⊥
+
+-- the marks of the first count stations
+pub record Marked (known : List ℤ) (marks : List ℕ) (count : ℕ) : Type 0 where
+  pub room : count ≤ length marks
+  pub marks-are : (k : ℕ) → k < count → getD marks k 0 ≡ markOf (getD known k (pos 0))
 
 -- the place of a station among the first count, or count where it is not among them
 pub record PlaceOf (known : List ℤ) (count : ℕ) (station : ℤ) (place : ℕ) : Type 0 where

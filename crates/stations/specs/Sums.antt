@@ -11,6 +11,7 @@ use Rattle.row.specs.declared.Row.{Row}
 use Rattle.row.specs.declared.Verdict.the-variants.{Safe, Unsafe, Undecided}
 use Rattle.row.specs.Verdict.{verdictNumber}
 use Rattle.row.specs.Row.{rowLength}
+use Rattle.row.specs.Places.{seasonPlace, verdictPlace, meshUpperPlace}
 use Rattle.stations.specs.declared.Entry.{Entry}
 use Rattle.stations.specs.declared.Sums.{Sums}
 use Rattle.stations.specs.Summary.{sameZ, one, countOf, highest, worstSeason, stationLength}
@@ -19,16 +20,6 @@ use Rattle.stations.specs.Summary.{sameZ, one, countOf, highest, worstSe
 
 unfoldable pub entryOf : Row → Entry
 entryOf r = record { season = r .season; verdict = pos (verdictNumber (r .verdict)); mesh = r .mesh .upper }
-
--- places of these numbers in a row
-abbrev pub seasonPlace : ℕ
-seasonPlace = 1
-
-abbrev pub verdictPlace : ℕ
-verdictPlace = 2
-
-abbrev pub meshUpperPlace : ℕ
-meshUpperPlace = 13
 
 -- of row i of a table
 unfoldable pub entryAt : List ℤ → ℕ → Entry

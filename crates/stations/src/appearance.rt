@@ -1,11 +1,12 @@
 // The stations of a table of rows by first appearance.
 ghost use mathlib.Core.Path.{_≡_};
+ghost use mathlib.Core.Bool.{false};
 ghost use Prim.Native.Nat.{_≤_, _*_};
 ghost use lib.ListN.{length};
 ghost use Rattle.row.specs.Row.{rowLength};
 ghost use Rattle.judgement.specs.Limits.{mostLines};
 ghost use Rattle.stations.specs.Summary.{sameZ};
-ghost use Rattle.stations.specs.Places.{PlaceOf, Places};
+ghost use Rattle.stations.specs.Places.{markOf, NotMarked, Marked, PlaceOf, Places};
 use crate::Found;
 use judgement::LINES;
 use row::ROW_LENGTH;
@@ -16,11 +17,40 @@ fn same(a: i64, b: i64) -> bool
     a == b
 }
 
-// The place of a station among the first count, or count where it is not among them.
-fn place_of(known: &[i64], count: usize, station: i64) -> usize
+// The low sixteen bits of a station.
+fn mark(station: i64) -> u16
+    ensures { λ r. ⌜ r ≡ markOf station ⌝ }
+{
+    if station < 0 {
+        return 0;
+    }
+    (station as u64 % 65536) as u16
+}
+
+// Whether a mark may be among the first count. It does not stop at the first, so that several are compared at once.
+fn is_marked(marks: &[u16], count: usize, mark: u16) -> bool
+    requires { ⌜ count ≤ length (now marks) ⌝ }
+    ensures { λ r. ⌜ (r ≡ false → NotMarked (now (marks .entry)) count mark) ⌝ }
+{
+    let mut found = false;
+    let mut i: usize = 0;
+    while i < count {
+        let here = marks[i] == mark;
+        found = found | here;
+        i += 1;
+    }
+    found
+}
+
+// The place of a station among the first count, or count where it is not among them; the marks tell soon that it is not.
+fn place_of<'a>(known: &'a [i64], marks: &'a [u16], count: usize, station: i64) -> usize
     requires { ⌜ count ≤ length (now known) ⌝ }
+    requires { ⌜ Marked (now known) (now marks) count ⌝ }
     ensures { λ r. ⌜ PlaceOf (now (known .entry)) count station r ⌝ }
 {
+    if !is_marked(marks, count, mark(station)) {
+        return count;
+    }
     let mut i: usize = 0;
     while i < count {
         if same(known[i], station) {
@@ -38,15 +68,17 @@ pub fn find_stations(table: &[i64], n: usize) -> Found
     ensures { λ r. ⌜ Places (now (table .entry)) n (r .stations) (r .places) (r .count) ⌝ }
 {
     let mut known = [0i64; LINES];
+    let mut marks = [0u16; LINES];
     let mut places = [0usize; LINES];
     let mut count: usize = 0;
     let mut i: usize = 0;
     while i < n {
         let station = table[ROW_LENGTH * i];
-        let place = place_of(&known, count, station);
+        let place = place_of(&known, &marks, count, station);
         places[i] = place;
         if place == count {
             known[count] = station;
+            marks[count] = mark(station);
             count += 1;
         }
         i += 1;

@@ -9,14 +9,10 @@ use crate::Entry;
 use crate::Sums;
 use crate::adding::add;
 use judgement::LINES;
+use row::MESH_UPPER;
 use row::ROW_LENGTH;
-
-// Places of season, verdict and upper mesh end in a row.
-const SEASON: usize = 1;
-
-const VERDICT: usize = 2;
-
-const MESH_UPPER: usize = 13;
+use row::SEASON;
+use row::VERDICT;
 
 // Row i of the table.
 fn entry(table: &[i64], i: usize) -> Entry

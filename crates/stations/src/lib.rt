@@ -22,7 +22,7 @@ const TABLE: usize = LINES * ROW_LENGTH;
 pub const STATION_LENGTH: usize = 6;
 
 // What the summary reads of a row.
-pub struct Entry {
+struct Entry {
     pub season: i64,
     pub verdict: i64,
     // upper end, millivolts
@@ -30,7 +30,7 @@ pub struct Entry {
 }
 
 // The counts of one station, and its season with the highest upper mesh end.
-pub struct Sums {
+struct Sums {
     pub seasons: usize,
     pub safe: usize,
     pub not_safe: usize,
@@ -40,7 +40,7 @@ pub struct Sums {
 }
 
 // The stations of some rows by first appearance, of which there are count, and the place of each row's station among them.
-pub struct Found {
+struct Found {
     pub stations: [i64; LINES],
     pub places: [usize; LINES],
     pub count: usize,

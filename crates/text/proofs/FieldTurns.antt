@@ -8,7 +8,7 @@ use native.Mathlib.Numerals.{add-one}
 use native.Mathlib.Nat.{eq-or-lt-of-le}
 use native.Mathlib.Omega.{arith}
 use lib.ListN.{length, take, drop, length-drop}
-use lib.Seq.{take-all, length-take-le}
+use lib.Seq.{take-all, length-take-le, drop-drop}
 use Rattle.text.specs.Text.{indexOf, fieldsOf}
 use Rattle.text.proofs.Searching.{index-within}
 use Rattle.text.proofs.Fields.{fields-more, fields-one}
@@ -32,3 +32,10 @@ module _ (rest : List ℕ) (e : ℕ) (ends : e ≡ indexOf 44 rest) where
   field-first =
       ⊎-elim (λ h. rw (field-last (omega arith))) (λ h. rw (field-next (omega arith)))
       (eq-or-lt-of-le (index-within 44 rest))
+
+-- the same where the fields that are left start at an index of the line
+pub field-after : (line : List ℕ) (next e : ℕ) → e ≡ indexOf 44 (drop next line) → e < length (drop next line)
+    → fieldsOf (drop next line) ≡ take e (drop next line) ∷ fieldsOf (drop (next + (e + 1)) line)
+field-after line next e ends h =
+    let rest = drop next line in
+    field-next rest e ends h ∙ ap (λ (t : List ℕ). take e rest ∷ fieldsOf t) (part-end rest (e + 1) ∙ drop-drop (e + 1) next line)

@@ -1,21 +1,21 @@
 -- The first field of a line by the digits at its front.
 -- Assumes nothing.
-use Prim.Native.Nat.{ℕ, zero, suc, _+_, _*_, _-_, _^_, _≤_, _<_}
+use Prim.Native.Nat.{ℕ, _+_, _*_, _-_, _%_, _^_, _≤_, _<_}
 use mathlib.Core.Path.{_≡_, refl, sym, ap, _∙_}
-use mathlib.Core.Bool.{Bool, true, false, cond, _&&_}
+use mathlib.Core.Bool.{Bool, true, false, _&&_}
 use mathlib.Core.List.{List, [], _∷_, _++_}
 use native.Mathlib.Numerals.{add-one}
 use native.Mathlib.Nat.{pow-suc, pow-le-pow-right}
 use native.Mathlib.Decide.{decLt, decLe}
 use native.Mathlib.Omega.{arith}
-use lib.ListN.{length, getD, take, drop}
-use lib.Seq.{take-suc, length-take-le, getD-take}
+use lib.ListN.{length, getD, take}
+use lib.Seq.{take-suc, take-take, length-take-le, getD-take}
 use borrow.Author.Tests.{le-leb}
 use Rattle.text.specs.Text.{indexOf}
 use Rattle.text.specs.Value.{digit, digits, numberFrom, valueOf, fieldValue}
-use Rattle.text.specs.Parts.{digitsValue, FrontDigits}
-use Rattle.text.specs.declared.Field.the-variants.{Wrong, Value}
-use Rattle.text.proofs.Searching.{searching-start, searching-found, searching-step, searching-end}
+use Rattle.text.specs.Parts.{Passed, digitsValue, IsFront}
+use Rattle.text.specs.declared.Field.the-variants.{Value}
+use Rattle.text.proofs.Searching.{searching-start, searching-found, searching-step, searching-end, index-part}
 use Rattle.text.proofs.Form.{form-one, form-more}
 
 -- one digit more
@@ -33,74 +33,82 @@ digits-next (x ∷ t) b e l k = go (digit x) (λ p. digits-next t b p l k) e
     go true next p = next p
     go false next p = p
 
--- what is read so far, and that it fits
-pub record Front (s : List ℕ) (most n i : ℕ) : Type 0 where
-  pub front : FrontDigits s i n
-  pub most-within : most ≤ length s
-  pub most-few : most ≤ 6
-  pub to-most : i ≤ most
+-- i digits at the front of a text stand for n, and no 0 leads
+pub record Front (s : List ℕ) (n i : ℕ) : Type 0 where
+  pub few : i ≤ 6
+  pub all : digits (take i s) ≡ true
+  pub number : valueOf (take i s) ≡ n
   pub small : n < 10 ^ i
+  pub no-comma : Passed 44 s i
+  pub no-zero : 1 < i → getD s 0 0 ≡ 48 → ⊥
 
-pub front-start : (s : List ℕ) (most : ℕ) → most ≤ length s → most ≤ 6 → Front s most 0 0
+pub front-start : (s : List ℕ) → Front s 0 0
 unfolding digits numberFrom valueOf
-front-start s most h k =
+front-start s =
     record {
-      front = record { few = omega arith; all = refl; number = refl; no-comma = searching-start 44 s };
-      most-within = h;
-      most-few = k;
-      to-most = omega arith;
+      few = omega arith;
+      all = refl;
+      number = refl;
       small = omega arith;
+      no-comma = searching-start 44 s;
+      no-zero = λ h. absurd (omega arith);
     }
 
-module _ {s : List ℕ} {most n i : ℕ} (a : Front s most n i) (h : i < most) where
-  pub front-inside : i < length s
-  front-inside = omega (arith, a .most-within)
+-- a difference of at most 9 is that of a digit
+pub difference-back : (d b : ℕ) → (d + 48) % 2 ^ 32 ≡ b → d ≤ 9 → b ≡ d + 48
+difference-back d b e h = omega arith
 
-  -- five digits and one more fit
-  pub front-fits : n ≤ 99999
-  front-fits =
-      let five : i ≤ 5 = omega (arith, a .most-few) in
-      omega (arith, a .small, pow-le-pow-right {n = 10} (omega arith) five)
+-- no value
+pub front-none : {s : List ℕ} → IsFront s 0 0
+front-none = record { few = omega arith; ends = λ h. absurd (omega arith); held = λ h. absurd (omega arith) }
 
-  pub front-step : 48 ≤ getD s i 0 → getD s i 0 ≤ 57 → Front s most (n * 10 + (getD s i 0 - 48)) (i + 1)
+module _ {s : List ℕ} {n i : ℕ} (a : Front s n i) where
+  -- six digits and one more fit
+  pub front-fits : n ≤ 999999
+  front-fits = omega (arith, a .small, pow-le-pow-right {n = 10} (omega arith) (a .few))
+
+  pub front-step : {d : ℕ} → i < length s → i < 6 → d ≤ 9 → getD s i 0 ≡ d + 48 → (i ≡ 1 → getD s 0 0 ≡ 48 → ⊥) → Front s (n * 10 + d) (i + 1)
   unfolding valueOf
-  front-step l k =
-      let f = a .front in
+  front-step {d} h few l e z =
+      let b = getD s i 0 in
+      let k : b - 48 ≡ d = omega arith in
       record {
-        front =
-            record {
-              few = omega (arith, a .most-few);
-              all = rw (add-one, take-suc s i 0 front-inside) (digits-next (take i s) (getD s i 0) (f .all) l k);
-              number = rw (add-one, take-suc s i 0 front-inside, number-next 0 (take i s) (getD s i 0)) (ap (λ m. m * 10 + (getD s i 0 - 48)) (f .number));
-              no-comma = searching-step (f .no-comma) front-inside (λ e. omega arith);
-            };
-        most-within = a .most-within;
-        most-few = a .most-few;
-        to-most = omega arith;
+        few = omega arith;
+        all = rw (add-one, take-suc s i 0 h) (digits-next (take i s) b (a .all) (omega arith) (omega arith));
+        number = rw (add-one, take-suc s i 0 h, number-next 0 (take i s) b, k) (ap (λ m. m * 10 + d) (a .number));
         small = rw (add-one, pow-suc 10 i) (omega (arith, a .small));
+        no-comma = searching-step (a .no-comma) h (λ q. omega arith);
+        no-zero = λ m. lead m (decLt 1 i);
       }
-
--- a text's front digits are its first field where the line ends there or a comma follows, and no 0 stands before them
-module _ {s : List ℕ} {e n : ℕ} (f : FrontDigits s e n) where
-  pub front-ends : (e < length s → getD s e 0 ≡ 44) → e ≡ indexOf 44 s
-  front-ends h = go (decLt e (length s))
     where
-      go : Dec (e < length s) → e ≡ indexOf 44 s
-      go (yes k) = searching-found (f .no-comma) k (h k)
-      go (no k) = searching-end (f .no-comma) (omega arith)
+      lead : 1 < i + 1 → Dec (1 < i) → getD s 0 0 ≡ 48 → ⊥
+      lead m (yes k) = a .no-zero k
+      lead m (no k) = z (omega arith)
 
-  front-value : Value n ≡ digitsValue (take e s)
+  -- where a comma follows or the line ends, the digits are the first field
+  pub front-value : (i < length s → getD s i 0 ≡ 44) → IsFront s i n
   unfolding digitsValue
-  front-value = rw (f .all, f .number)
-
-  pub front-held : 1 ≤ e → (getD s 0 0 ≡ 48 → e ≤ 1) → Value n ≡ fieldValue (take e s)
-  front-held h z = front-value ∙ go (decLe e 1)
+  front-value h = record { few = a .few; ends = λ k. ends (decLt i (length s)); held = λ k. value ∙ form k (decLe i 1) }
     where
-      long : length (take e s) ≡ e
-      long = length-take-le e s (f .no-comma .within)
+      ends : Dec (i < length s) → i ≡ indexOf 44 s
+      ends (yes k) = searching-found (a .no-comma) k (h k)
+      ends (no k) = searching-end (a .no-comma) (omega arith)
 
-      go : Dec (e ≤ 1) → digitsValue (take e s) ≡ fieldValue (take e s)
-      go (yes k) = form-one (take e s) (omega (arith, long)) (omega (arith, long))
-      go (no k) =
-          form-more (take e s) (omega (arith, long)) (omega (arith, long, f .few))
-          (λ q. k (z (sym (getD-take e s 0 0 (omega arith)) ∙ q)))
+      value : Value n ≡ digitsValue (take i s)
+      value = rw (a .all, a .number)
+
+      long : length (take i s) ≡ i
+      long = length-take-le i s (a .no-comma .within)
+
+      form : 1 ≤ i → Dec (i ≤ 1) → digitsValue (take i s) ≡ fieldValue (take i s)
+      form k (yes l) = form-one (take i s) (omega (arith, long)) (omega (arith, long))
+      form k (no l) =
+          form-more (take i s) (omega (arith, long)) (omega (arith, long, a .few))
+          (λ q. a .no-zero (omega arith) (sym (getD-take i s 0 0 (omega arith)) ∙ q))
+
+-- a value at the front of the first k bytes of a line, which are more than a value's, is at the front of the line
+pub front-whole : (k : ℕ) (line : List ℕ) {e n : ℕ} → IsFront (take k line) e n → 6 < k → k ≤ length line → IsFront line e n
+front-whole k line {e} f h l = record { few = f .few; ends = ends; held = λ o. f .held o ∙ ap fieldValue (take-take e k line (omega (arith, f .few))) }
+  where
+    ends : 1 ≤ e → e ≡ indexOf 44 line
+    ends o = f .ends o ∙ sym (index-part 44 k line l (omega (arith, f .few, f .ends o)))

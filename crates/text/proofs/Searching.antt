@@ -1,7 +1,7 @@
 -- The search for a byte: what holds while it has not been met before index i.
 -- Assumes nothing.
 use Prim.Native.Nat.{ℕ, zero, suc, _+_, _≤_, _<_}
-use mathlib.Core.Path.{_≡_, refl, sym, _∙_}
+use mathlib.Core.Path.{_≡_, refl, sym, ap, _∙_}
 use mathlib.Core.Bool.{Bool, true, false, cond, _||_}
 use mathlib.Core.List.{List, [], _∷_}
 use native.Mathlib.Numerals.{add-one}
@@ -74,6 +74,18 @@ index-past b (suc k) (x ∷ s) h l = step (eqb x b) (λ m. index-past b k s (ome
         → cond t zero (suc (indexOf b s)) ≡ suc k + indexOf b (drop k s)
     step true next m = absurd (omega arith)
     step false next m = omega (arith, next (omega arith))
+
+-- a text whose first b is among its first k bytes
+pub index-part : (b k : ℕ) (s : List ℕ) → k ≤ length s → indexOf b (take k s) < k → indexOf b s ≡ indexOf b (take k s)
+unfolding indexOf
+index-part b zero s h l = absurd (omega arith)
+index-part b (suc k) [] h l = absurd (omega arith)
+index-part b (suc k) (x ∷ s) h l = step (eqb x b) (λ m. index-part b k s (omega arith) m) l
+  where
+    step : (t : Bool) → (indexOf b (take k s) < k → indexOf b s ≡ indexOf b (take k s)) → cond t zero (suc (indexOf b (take k s))) < suc k
+        → cond t zero (suc (indexOf b s)) ≡ cond t zero (suc (indexOf b (take k s)))
+    step true next m = refl
+    step false next m = ap suc (next (omega arith))
 
 -- a part of k bytes from i on, none of them b
 pub part-passed : {b : ℕ} {s : List ℕ} {i : ℕ} (k : ℕ) → Passed b s i → i + k ≤ length s → Passed b (take k (drop i s)) k → Passed b s (i + k)

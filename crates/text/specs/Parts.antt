@@ -2,7 +2,7 @@
 -- Assumes nothing.
 use Prim.Native.Nat.{ℕ, zero, suc, _+_, _≤_, _<_}
 use mathlib.Core.Path.{_≡_}
-use mathlib.Core.Bool.{true, cond}
+use mathlib.Core.Bool.{cond}
 use mathlib.Core.List.{List, [], _∷_}
 use lib.Dec.{eqb}
 use lib.ListN.{length, take, drop}
@@ -32,14 +32,13 @@ pub record Skipped (e n r : ℕ) : Type 0 where
   pub next : e < n → r ≡ e + 1
   pub none : n ≤ e → r ≡ n
 
--- i digits at the front of a text stand for n
-pub record FrontDigits (s : List ℕ) (i n : ℕ) : Type 0 where
-  pub few : i ≤ 6
-  pub all : digits (take i s) ≡ true
-  pub number : valueOf (take i s) ≡ n
-  pub no-comma : Passed 44 s i
-
 -- the first field of a line
 pub record IsFirst (line : List ℕ) (r : FirstField) : Type 0 where
   pub ends : r .end ≡ indexOf 44 line
   pub held : r .field ≡ fieldValue (take (r .end) line)
+
+-- the first field of a line is a value n that ends at e, where e is not 0
+pub record IsFront (line : List ℕ) (e n : ℕ) : Type 0 where
+  pub few : e ≤ 6
+  pub ends : 1 ≤ e → e ≡ indexOf 44 line
+  pub held : 1 ≤ e → Value n ≡ fieldValue (take e line)

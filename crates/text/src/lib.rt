@@ -5,7 +5,8 @@ ghost use Prim.Native.Nat.{_≤_};
 ghost use lib.ListN.{length};
 ghost use Rattle.text.specs.Text.{indexOf, linesOf, same as sameText};
 ghost use Rattle.text.specs.Value.{fieldValue};
-ghost use Rattle.text.specs.Parts.{Passed, countOf, digitsValue, Skipped, FrontDigits, IsFirst};
+ghost use Rattle.text.specs.Parts.{Passed, countOf, digitsValue, Skipped, IsFirst, IsFront};
+use std::num::wrapping_sub_u32;
 
 // What a field holds: a value, or bytes of a wrong form.
 pub enum Field {
@@ -19,11 +20,14 @@ pub struct FirstField {
     pub field: Field,
 }
 
-// Digits: how many, and the number that they stand for.
-struct Prefix {
-    count: usize,
-    number: u32,
+// A value and where it ends, or an end of 0 where there is none.
+pub struct FrontValue {
+    pub end: usize,
+    pub value: u32,
 }
+
+// The bytes of the longest value and the one after it.
+pub const FRONT: usize = 7;
 
 // Whether b is among the bytes of a block.
 fn holds(s: &[u8], b: u8) -> bool
@@ -178,73 +182,48 @@ pub fn value(s: &[u8]) -> Field
     number(s)
 }
 
-// At most six.
-fn six_at_most(n: usize) -> usize
-    ensures { λ r. ⌜ (r ≤ n) × (r ≤ 6) ⌝ }
+// The value at the front of a line, read in one pass: digits that a comma or the line's end follows.
+pub fn front_value(s: &[u8]) -> FrontValue
+    ensures { λ r. ⌜ IsFront (now (s .entry)) (r .end) (r .value) ⌝ }
 {
-    if n < 6 { n } else { 6 }
-}
-
-// Digits at the front of s, six at most.
-fn front_digits(s: &[u8]) -> Prefix
-    ensures { λ r. ⌜ FrontDigits (now (s .entry)) (r .count) (r .number) ⌝ }
-{
-    let most = six_at_most(s.len());
+    let none = FrontValue { end: 0, value: 0 };
     let mut n: u32 = 0;
-    let mut i = 0;
-    while i < most {
+    let mut i: usize = 0;
+    while i < s.len() {
         let b = s[i];
-        if b < 48 {
-            return Prefix {
-                count: i,
-                number: n,
-            };
+        let d = wrapping_sub_u32(b as u32, 48);
+        if 9 < d {
+            if b != 44 {
+                return none;
+            }
+            return FrontValue { end: i, value: n };
         }
-        if 57 < b {
-            return Prefix {
-                count: i,
-                number: n,
-            };
+        if i == 6 {
+            return none;
         }
-        n = n * 10 + (b - 48) as u32;
+        if i == 1 {
+            if s[0] == 48 {
+                return none;
+            }
+        }
+        n = n * 10 + d;
         i += 1;
     }
-    Prefix {
-        count: i,
-        number: n,
-    }
+    FrontValue { end: i, value: n }
 }
 
-// The first field of a line of any form.
-fn any_field(s: &[u8]) -> FirstField
-    ensures { λ r. ⌜ IsFirst (now (s .entry)) r ⌝ }
-{
-    let e = find(s, 44);
-    let f = value(&s[..e]);
-    FirstField { end: e, field: f }
-}
-
-// The first field of a line: where it ends, and what it holds. A value is read in one pass.
+// The first field of a line: where it ends, and what it holds.
 pub fn first_field(s: &[u8]) -> FirstField
     ensures { λ r. ⌜ IsFirst (now (s .entry)) r ⌝ }
 {
-    let d = front_digits(s);
-    let e = d.count;
-    if e == 0 {
-        return any_field(s);
+    let v = front_value(s);
+    if 0 < v.end {
+        return FirstField {
+            end: v.end,
+            field: Field::Value(v.value),
+        };
     }
-    if e < s.len() {
-        if s[e] != 44 {
-            return any_field(s);
-        }
-    }
-    if s[0] == 48 {
-        if 1 < e {
-            return any_field(s);
-        }
-    }
-    FirstField {
-        end: e,
-        field: Field::Value(d.number),
-    }
+    let e = find(s, 44);
+    let f = value(&s[..e]);
+    FirstField { end: e, field: f }
 }

@@ -1,25 +1,39 @@
 -- `line::read_values` meets its contract: the reading of proofs/ValuesReading.antt.
 -- Assumes nothing.
 use Prim.Native.Nat.{_+_, _≤_, _<_}
-use mathlib.Core.Path.{_≡_, refl, _∙_}
-use mathlib.Core.List.{List, []}
+use mathlib.Core.Path.{refl}
+use mathlib.Core.List.{[]}
 use native.Mathlib.Omega.{arith}
 use borrow.Author.Needs.{needs}
 use lib.ListN.{length, getD, set}
 use Rattle.text.specs.Text.{fieldsOf}
-use Rattle.text.proofs.FieldTurns.{field-first, field-last, field-next}
-use Rattle.line.proofs.ValuesReading.{ValuesAt, values-start, values-wrong, values-step, values-refused, values-many, values-few, values-end}
+use Rattle.text.proofs.FieldTurns.{part-end, field-first, field-last, field-next}
+use Rattle.line.specs.Parts.{ValuesAt}
+use Rattle.line.proofs.ValuesReading.{values-wrong, values-step, values-refused, values-many, values-few, values-end}
 use Rattle.line.proofs.read_values.Statement.{statement}
 use Rattle.line.proofs.read_values.Tie as tie
 
 abbrev Inv-loop : tie.InvT-loop
-Inv-loop line order row₀ n rest₀ c₀ row rest c = ValuesAt n order (fieldsOf line) row (fieldsOf rest) c × (length rest ≤ length line)
+Inv-loop line order row₀ n next rest₀ c₀ row rest c = ValuesAt n order (fieldsOf line) row (fieldsOf rest) c × (length rest ≤ length line)
 
 abbrev μ-loop : tie.MeasureT-loop
-μ-loop line order row₀ n rest₀ c₀ row rest c = length rest
+μ-loop line order row₀ n next rest₀ c₀ row rest c = length rest
 
+front-values-requires : tie.Need-front-values-requires Inv-loop μ-loop
+front-values-requires c κs = c .before .before .before .before .pre
+
+sub-rest : tie.Need-sub-rest Inv-loop μ-loop
+sub-rest c = search needs
+
+part-rest-start : tie.Need-part-rest-start Inv-loop μ-loop
+part-rest-start c = search needs
+
+part-rest-end : tie.Need-part-rest-end Inv-loop μ-loop
+part-rest-end c = search needs
+
+-- the fields that are left start where the values at the front end
 loop-holds : tie.Need-loop-holds Inv-loop μ-loop
-loop-holds c = (values-start _ _ _, search needs)
+loop-holds c = (rw (part-end _ _) (c .before .before .before .front-values .ensures .1), omega (arith, c .rest .given .2))
 
 add-result : tie.Need-add-result Inv-loop μ-loop
 add-result c = search needs
@@ -54,16 +68,19 @@ returns-2 c =
 mul-k : tie.Need-mul-k Inv-loop μ-loop
 mul-k c = search needs
 
--- the turn of the loop, and the index of the next column's name
+-- the turn of the loop, and its start
 abbrev turn : tie.After-shared-slice-known3 Inv-loop μ-loop → tie.Else1 Inv-loop μ-loop
 turn c = c .before .before .before .before .before
 
+abbrev start : tie.After-shared-slice-known3 Inv-loop μ-loop → tie.Start Inv-loop μ-loop
+start c = turn c .before .before .before .before .before .before .before .before .before .before
+
 shared-slice-read-k : tie.Need-shared-slice-read-k Inv-loop μ-loop
-shared-slice-read-k c = omega (arith, turn c .if1 .left, turn c .before .before .before .before .before .pre .count)
+shared-slice-read-k c = omega (arith, turn c .if1 .left, start c .pre .count)
 
 within : (c : tie.After-shared-slice-known3 Inv-loop μ-loop)
-    → getD (turn c .before .before .before .before .before .args .order .now) (turn c .before .loop .c) 0 < length (turn c .before .before .before .before .before .args .row .now)
-within c = turn c .before .before .before .before .before .pre .within _ (turn c .if1 .left)
+    → getD (start c .args .order .now) (turn c .before .loop .c) 0 < length (start c .args .row .now)
+within c = start c .pre .within _ (turn c .if1 .left)
 
 mul-row : tie.Need-mul-row Inv-loop μ-loop
 mul-row c = omega (arith, within c)
@@ -77,14 +94,14 @@ add-c c = search needs
 add-rest : tie.Need-add-rest Inv-loop μ-loop
 add-rest c = search needs
 
-sub-rest : tie.Need-sub-rest Inv-loop μ-loop
-sub-rest c = search needs
+sub-rest-2 : tie.Need-sub-rest-2 Inv-loop μ-loop
+sub-rest-2 c = search needs
 
-part-rest-start : tie.Need-part-rest-start Inv-loop μ-loop
-part-rest-start c = search needs
+part-rest-start-2 : tie.Need-part-rest-start-2 Inv-loop μ-loop
+part-rest-start-2 c = search needs
 
-part-rest-end : tie.Need-part-rest-end Inv-loop μ-loop
-part-rest-end c = search needs
+part-rest-end-2 : tie.Need-part-rest-end-2 Inv-loop μ-loop
+part-rest-end-2 c = search needs
 
 loop-less : tie.Need-loop-less Inv-loop μ-loop
 loop-less c = search needs
@@ -93,17 +110,17 @@ loop-again : tie.Need-loop-again Inv-loop μ-loop
 loop-again c =
     let k = c .before .before in
     let m = k .before .before .before .before .first-field .ensures in (
-      values-step (turn k .before .loop .inv .0) (field-next _ _ (m .ends) (c .before .if2 .left)) (m .held) (turn k .if1 .left) _ (turn k .before .before .before .before .before .pre) (k .before .before .f .given .1),
-      omega (arith, c .rest .given .2),
+      values-step (turn k .before .loop .inv .0) (field-next _ _ (m .ends) (c .before .if2 .left)) (m .held) (turn k .if1 .left) _ (start k .pre) (k .before .before .f .given .1),
+      omega (arith, c .rest2 .given .2),
     )
 
 -- the last value
 stepped : (c : tie.Then2 Inv-loop μ-loop)
-    → ValuesAt (length (turn (c .before) .before .before .before .before .before .args .row .now)) (turn (c .before) .before .before .before .before .before .args .order .now) (fieldsOf (turn (c .before) .before .before .before .before .before .args .line .now)) (set (turn (c .before) .before .loop .row) (getD (turn (c .before) .before .before .before .before .before .args .order .now) (turn (c .before) .before .loop .c) 0) (c .before .before .before .f .given .0 .0)) [] (turn (c .before) .before .loop .c + 1)
+    → ValuesAt (length (start (c .before) .args .row .now)) (start (c .before) .args .order .now) (fieldsOf (start (c .before) .args .line .now)) (set (turn (c .before) .before .loop .row) (getD (start (c .before) .args .order .now) (turn (c .before) .before .loop .c) 0) (c .before .before .before .f .given .0 .0)) [] (turn (c .before) .before .loop .c + 1)
 stepped c =
     let k = c .before in
     let m = k .before .before .before .before .first-field .ensures in
-    values-step (turn k .before .loop .inv .0) (field-last _ _ (m .ends) (c .if2 .taken)) (m .held) (turn k .if1 .left) _ (turn k .before .before .before .before .before .pre) (k .before .before .f .given .1)
+    values-step (turn k .before .loop .inv .0) (field-last _ _ (m .ends) (c .if2 .taken)) (m .held) (turn k .if1 .left) _ (start k .pre) (k .before .before .f .given .1)
 
 add-result-3 : tie.Need-add-result-3 Inv-loop μ-loop
 add-result-3 c = search needs
@@ -126,6 +143,10 @@ read-values-spec =
     (tie.spec
     Inv-loop
     μ-loop
+    front-values-requires
+    sub-rest
+    part-rest-start
+    part-rest-end
     loop-holds
     add-result
     same-length
@@ -142,9 +163,9 @@ read-values-spec =
     slice-write-row
     add-c
     add-rest
-    sub-rest
-    part-rest-start
-    part-rest-end
+    sub-rest-2
+    part-rest-start-2
+    part-rest-end-2
     loop-less
     loop-again
     add-result-3

@@ -5,17 +5,17 @@ use Rattle.case.specs.Parts.{formOf}
 use Rattle.case.proofs.Order.{distinct}
 use Rattle.line.specs.Parts.{LineValues}
 use Rattle.line.proofs.Arranging.{arranged}
-use Rattle.judgement.proofs.Keys.{form-keyed}
+use Rattle.judgement.proofs.Keys.{form-keyed, key-fits}
 use Rattle.judgement.proofs.LineJudged.{judged-form, judged-values}
 use Rattle.judgement.proofs.check.check_line.Statement.{statement}
 use Rattle.judgement.proofs.check.check_line.Tie as tie
 
 read-values-requires : tie.Need-read-values-requires
-read-values-requires c κs = let s = c .before .before .before .before .before .before .before in rw (s .pre .1 .1 .1) (distinct (s .pre .1 .0))
+read-values-requires c κs = let s = c .before .before .before .before .before .before in rw (s .pre .1 .1 .1) (distinct (s .pre .1 .0))
 
 -- the line that was read, as a line of the form
 abbrev start : tie.After-read-values → tie.Start
-start v = v .before .before .before .before .before .before .before .before
+start v = v .before .before .before .before .before .before .before
 
 line-values : (v : tie.After-read-values)
     → LineValues (length (formOf (start v .args .form))) (start v .args .order .now) (start v .args .line .now) (v .read-values .result) (v .read-values .last .1 .1 .0)
@@ -30,7 +30,7 @@ returns c = judged-form _ (line-values (c .before .before .before)) _ (c .if1 .t
 values-finding-requires : tie.Need-values-finding-requires
 values-finding-requires c κs =
     let v = c .before .before .before .before in
-    (start v .pre .0 .count, (line-values v .count, start v .pre .1 .1 .0))
+    (start v .pre .0, (line-values v .count, start v .pre .1 .1 .0))
 
 same-length-2 : tie.Need-same-length-2
 same-length-2 c = c .before .before .before .before .before .read-values .ensures .count
@@ -39,7 +39,7 @@ returns-2 : tie.Need-returns-2
 returns-2 c =
     let e = c .before .before in
     let v = e .before .before .before in
-    judged-values _ (line-values v) _ _ _ (form-keyed (start v .args .form)) (e .if1 .left)
+    judged-values _ (line-values v) _ _ (form-keyed (start v .args .form)) (key-fits (start v .args .form) _ (start v .pre .0) (line-values v .count)) (e .if1 .left)
     (arranged (start v .pre .0) (start v .pre .1 .0) (line-values v) (e .if1 .left)) (c .values-finding .ensures)
 
 pub check-line-spec : {M : Type 1} → statement M

@@ -8,25 +8,19 @@ use Rattle.judgement.proofs.check.seen.Statement.{statement}
 use Rattle.judgement.proofs.check.seen.Tie as tie
 
 abbrev Inv-loop : tie.InvT-loop
-Inv-loop stations seasons n station season found₀ j₀ found j = Seeking station season stations seasons n found j
+Inv-loop keys n key found₀ j₀ found j = Seeking key keys n found j
 
 abbrev μ-loop : tie.MeasureT-loop
-μ-loop stations seasons n station season found₀ j₀ found j = n - j
+μ-loop keys n key found₀ j₀ found j = n - j
 
 loop-holds : tie.Need-loop-holds Inv-loop μ-loop
-loop-holds c = seeking-start _ _ _ _ _
+loop-holds c = seeking-start _ _ _
 
-mul-a : tie.Need-mul-a Inv-loop μ-loop
-mul-a c = search needs
+mul-here : tie.Need-mul-here Inv-loop μ-loop
+mul-here c = search needs
 
-shared-slice-read-a : tie.Need-shared-slice-read-a Inv-loop μ-loop
-shared-slice-read-a c = search needs
-
-mul-b : tie.Need-mul-b Inv-loop μ-loop
-mul-b c = search needs
-
-shared-slice-read-b : tie.Need-shared-slice-read-b Inv-loop μ-loop
-shared-slice-read-b c = search needs
+shared-slice-read-here : tie.Need-shared-slice-read-here Inv-loop μ-loop
+shared-slice-read-here c = search needs
 
 add-j : tie.Need-add-j Inv-loop μ-loop
 add-j c = search needs
@@ -36,7 +30,7 @@ loop-less c = search needs
 
 loop-again : tie.Need-loop-again Inv-loop μ-loop
 loop-again c =
-    let t = c .before .before in
+    let t = c .before in
     seeking-step (t .before .loop .inv) (omega arith)
 
 returns : tie.Need-returns Inv-loop μ-loop
@@ -44,4 +38,4 @@ returns c = seeking-end (c .before .loop .inv) (omega arith)
 
 pub seen-spec : {M : Type 1} → statement M
 seen-spec =
-    tie.close (tie.spec Inv-loop μ-loop loop-holds mul-a shared-slice-read-a mul-b shared-slice-read-b add-j loop-less loop-again returns)
+    tie.close (tie.spec Inv-loop μ-loop loop-holds mul-here shared-slice-read-here add-j loop-less loop-again returns)

@@ -5,6 +5,7 @@ use native.Mathlib.Omega.{arith}
 use borrow.Author.Needs.{needs}
 use Rattle.case.proofs.Findings.{rods-place}
 use Rattle.judgement.specs.Findings.{orFinding}
+use Rattle.judgement.proofs.Keys.{key-fits}
 use Rattle.judgement.proofs.check.values_finding.Statement.{statement}
 use Rattle.judgement.proofs.check.values_finding.Tie as tie
 
@@ -20,15 +21,21 @@ enum-known-column-2 c = search needs
 enum-told : tie.Need-enum-told
 enum-told c = search needs
 
-shared-slice-read-seen : tie.Need-shared-slice-read-seen
-shared-slice-read-seen c =
+shared-slice-read-key : tie.Need-shared-slice-read-key
+shared-slice-read-key c =
+    let s = c .before .before .before .before .before .before .before in
+    omega (arith, s .pre .1 .0, rods-place (s .args .form) .thick)
+
+shared-slice-read-key-2 : tie.Need-shared-slice-read-key-2
+shared-slice-read-key-2 c =
     let s = c .before .before .before .before .before .before .before .before in
     omega (arith, s .pre .1 .0, rods-place (s .args .form) .thick)
 
-shared-slice-read-seen-2 : tie.Need-shared-slice-read-seen-2
-shared-slice-read-seen-2 c =
-    let s = c .before .before .before .before .before .before .before .before .before in
-    omega (arith, s .pre .1 .0, rods-place (s .args .form) .thick)
+key-requires : tie.Need-key-requires
+key-requires c κs =
+    let e = c .before .before in
+    let s = c .before .before .before .before .before .before .before .before in
+    key-fits (s .args .form) _ (s .pre .0) (s .pre .1 .0) (sym (e .before .before .check-values .ensures) ∙ e .enum-told .given .1)
 
 seen-requires : tie.Need-seen-requires
 seen-requires c κs = search needs
@@ -44,14 +51,14 @@ returns-2 c = rw (sym (c .before .before .before .check-values .ensures) ∙ c .
 returns-3 : tie.Need-returns-3
 unfolding orFinding
 returns-3 c =
-    let e = c .before .before .before .before in
-    rw (sym (e .before .before .check-values .ensures) ∙ e .enum-told .given .1, sym (c .before .seen .ensures) ∙ c .if1 .taken)
+    let e = c .before .before .before .before .before in
+    rw (sym (e .before .before .check-values .ensures) ∙ e .enum-told .given .1, ← c .before .before .key .ensures, sym (c .before .seen .ensures) ∙ c .if1 .taken)
 
 returns-4 : tie.Need-returns-4
 unfolding orFinding
 returns-4 c =
-    let e = c .before .before .before .before in
-    rw (sym (e .before .before .check-values .ensures) ∙ e .enum-told .given .1, sym (c .before .seen .ensures) ∙ c .if1 .left)
+    let e = c .before .before .before .before .before in
+    rw (sym (e .before .before .check-values .ensures) ∙ e .enum-told .given .1, ← c .before .before .key .ensures, sym (c .before .seen .ensures) ∙ c .if1 .left)
 
 pub values-finding-spec : {M : Type 1} → statement M
 values-finding-spec =
@@ -61,8 +68,9 @@ values-finding-spec =
     enum-known-column
     enum-known-column-2
     enum-told
-    shared-slice-read-seen
-    shared-slice-read-seen-2
+    shared-slice-read-key
+    shared-slice-read-key-2
+    key-requires
     seen-requires
     returns
     returns-2

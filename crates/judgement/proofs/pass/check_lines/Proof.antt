@@ -12,16 +12,17 @@ use Rattle.case.proofs.Findings.{rods-place}
 use Rattle.judgement.specs.declared.Judgement.the-variants.{Lines}
 use Rattle.judgement.specs.Limits.{mostLines}
 use Rattle.judgement.proofs.Keys.{form-keyed}
+use Rattle.judgement.proofs.LineJudged.{sound-line}
 use Rattle.judgement.proofs.Passing.{Passing, passing-start, passing-room, passing-store, stored-value, stored-first, passing-refused, passing-step, passing-end}
 use Rattle.judgement.proofs.pass.check_lines.Statement.{statement}
 use Rattle.judgement.proofs.pass.check_lines.Tie as tie
 
 abbrev Inv-loop : tie.InvT-loop
-Inv-loop form s at order count values₀ k stations₀ seasons₀ rest₀ n₀ values stations seasons rest n =
-    Passing (formOf form) s at stations seasons rest n (Lines count) values₀ values
+Inv-loop form s at order count values₀ k keys₀ rest₀ n₀ values keys rest n =
+    Passing (formOf form) s at keys rest n (Lines count) values₀ values
 
 abbrev μ-loop : tie.MeasureT-loop
-μ-loop form s at order count values₀ k stations₀ seasons₀ rest₀ n₀ values stations seasons rest n = length rest
+μ-loop form s at order count values₀ k keys₀ rest₀ n₀ values keys rest n = length rest
 
 loop-holds : tie.Need-loop-holds Inv-loop μ-loop
 loop-holds c = passing-start _ _ _ _ _ (search needs)
@@ -35,9 +36,6 @@ slice-aggregate-store-line c = part-length 10 _ _ (c .before .find .ensures)
 slice-aggregate-store-line-2 : tie.Need-slice-aggregate-store-line-2 Inv-loop μ-loop
 slice-aggregate-store-line-2 c = search needs
 
-slice-aggregate-store-line-3 : tie.Need-slice-aggregate-store-line-3 Inv-loop μ-loop
-slice-aggregate-store-line-3 c = search needs
-
 abbrev start : tie.In-loop Inv-loop μ-loop → tie.Start Inv-loop μ-loop
 start c = c .before .before .before .before .before .before
 
@@ -47,13 +45,13 @@ room c = passing-room (c .before .loop .inv) (c .loop-test .taken)
 
 store-line-requires : tie.Need-store-line-requires Inv-loop μ-loop
 store-line-requires c κs =
-    let i = c .before .before .before .before .before in
+    let i = c .before .before .before .before in
     let p = start i .pre in
     let a = i .before .loop .inv in
-    (p .0, (p .1 .0, ((omega (arith, room i, a .stations-count), omega (arith, room i, a .seasons-count)), passing-store a refl (p .1 .1 .1 .1) (i .loop-test .taken))))
+    (p .0, (p .1 .0, (omega (arith, room i, a .keys-count), passing-store a refl (p .1 .1 .1 .1) (i .loop-test .taken))))
 
 add-refusal : tie.Need-add-refusal Inv-loop μ-loop
-add-refusal c = omega (arith, room (c .before .before .before .before .before .before .before .before))
+add-refusal c = omega (arith, room (c .before .before .before .before .before .before .before))
 
 refusal-requires : tie.Need-refusal-requires Inv-loop μ-loop
 refusal-requires c κs = search needs
@@ -64,14 +62,14 @@ enum-known-j c = search needs
 same-length : tie.Need-same-length Inv-loop μ-loop
 same-length c =
     let l = c .before .before .before .before .before .before in
-    l .store-line .ensures .written .size ∙ l .before .before .before .before .before .before .before .loop .inv .size
+    l .store-line .ensures .written .size ∙ l .before .before .before .before .before .before .loop .inv .size
 
 returns : tie.Need-returns Inv-loop μ-loop
 returns c =
     let r = c .before .before .before in
     let l = r .before .before .before in
-    let i = l .before .before .before .before .before .before in
-    passing-refused _ (form-keyed (start i .args .form)) (i .before .loop .inv) (i .loop-test .taken) (l .before .before .before .before .before .find .ensures) (l .store-line .ensures)
+    let i = l .before .before .before .before .before in
+    passing-refused _ (form-keyed (start i .args .form)) (i .before .loop .inv) (i .loop-test .taken) (l .before .before .before .before .find .ensures) (l .store-line .ensures)
     (r .refusal .ensures) (c .before .j .given .1)
 
 enum-told : tie.Need-enum-told Inv-loop μ-loop
@@ -79,11 +77,11 @@ enum-told c = search needs
 
 -- the turn of a sound line
 abbrev turn : tie.After-enum-told Inv-loop μ-loop → tie.In-loop Inv-loop μ-loop
-turn c = c .before .before .before .before .before .before .before .before .before .before .before
+turn c = c .before .before .before .before .before .before .before .before .before .before
 
 -- its values are within the store
 within : (c : tie.After-enum-told Inv-loop μ-loop)
-    → length (start (turn c) .args .at .now) * turn c .before .loop .n + length (start (turn c) .args .at .now) ≤ length (c .before .before .before .before .before .store-line .last .1 .1 .1 .1 .1 .1 .1 .0)
+    → length (start (turn c) .args .at .now) * turn c .before .loop .n + length (start (turn c) .args .at .now) ≤ length (c .before .before .before .before .before .store-line .last .1 .1 .1 .1 .1 .1 .0)
 within c =
     let i = turn c in
     omega (arith, c .before .before .before .before .before .store-line .ensures .written .size, passing-store (i .before .loop .inv) (start i .pre .0 .count) (start i .pre .1 .1 .1 .1) (i .loop-test .taken))
@@ -94,35 +92,38 @@ some c = omega (arith, start (turn c) .pre .0 .count, rods-place (start (turn c)
 mul-a : tie.Need-mul-a Inv-loop μ-loop
 mul-a c = omega (arith, within c)
 
-mul-stations : tie.Need-mul-stations Inv-loop μ-loop
-mul-stations c = omega (arith, within c)
+mul-key : tie.Need-mul-key Inv-loop μ-loop
+mul-key c = omega (arith, within c)
 
-slice-read-stations : tie.Need-slice-read-stations Inv-loop μ-loop
-slice-read-stations c = omega (arith, within (c .before), some (c .before))
+slice-read-key : tie.Need-slice-read-key Inv-loop μ-loop
+slice-read-key c = omega (arith, within (c .before), some (c .before))
 
-mul-stations-2 : tie.Need-mul-stations-2 Inv-loop μ-loop
-mul-stations-2 c = omega (arith, room (turn (c .before)))
+add-key : tie.Need-add-key Inv-loop μ-loop
+add-key c = omega (arith, within (c .before), some (c .before))
 
-array-write-stations : tie.Need-array-write-stations Inv-loop μ-loop
-array-write-stations c = room (turn (c .before))
+mul-key-2 : tie.Need-mul-key-2 Inv-loop μ-loop
+mul-key-2 c = omega (arith, within (c .before), some (c .before))
 
-add-seasons : tie.Need-add-seasons Inv-loop μ-loop
-add-seasons c = omega (arith, within (c .before), some (c .before))
+slice-read-key-2 : tie.Need-slice-read-key-2 Inv-loop μ-loop
+slice-read-key-2 c = omega (arith, within (c .before .before), some (c .before .before))
 
-mul-seasons : tie.Need-mul-seasons Inv-loop μ-loop
-mul-seasons c = omega (arith, within (c .before), some (c .before))
+-- a sound line's station and season, in the store
+key-requires : tie.Need-key-requires Inv-loop μ-loop
+key-requires c κs =
+    let t = c .before .before in
+    let r = t .before .before in
+    let j = r .before .before .before .store-line .ensures in
+    let p = start (turn t) .pre .0 .count in
+    rw (stored-first j p (omega (arith, some t)), stored-value 1 j p (some t)) (j .checks .keyable (sound-line _ _ _ (r .refusal .ensures) (t .enum-told .given .1) .0))
 
-slice-read-seasons : tie.Need-slice-read-seasons Inv-loop μ-loop
-slice-read-seasons c = omega (arith, within (c .before .before), some (c .before .before))
+mul-keys : tie.Need-mul-keys Inv-loop μ-loop
+mul-keys c = omega (arith, room (turn (c .before .before .before)))
 
-mul-seasons-2 : tie.Need-mul-seasons-2 Inv-loop μ-loop
-mul-seasons-2 c = omega (arith, room (turn (c .before .before)))
-
-array-write-seasons : tie.Need-array-write-seasons Inv-loop μ-loop
-array-write-seasons c = room (turn (c .before .before))
+array-write-keys : tie.Need-array-write-keys Inv-loop μ-loop
+array-write-keys c = room (turn (c .before .before .before))
 
 add-n : tie.Need-add-n Inv-loop μ-loop
-add-n c = omega (arith, room (turn (c .before .before)))
+add-n c = omega (arith, room (turn (c .before .before .before)))
 
 skip-requires : tie.Need-skip-requires Inv-loop μ-loop
 skip-requires c κs = search needs
@@ -138,21 +139,22 @@ part-rest-end c = search needs
 
 loop-less : tie.Need-loop-less Inv-loop μ-loop
 loop-less c =
-    let l = c .before .before .before .before .before .before .before .before .before in
-    let f = l .before .before .before .before .before in
+    let l = c .before .before .before .before .before .before .before .before .before .before in
+    let f = l .before .before .before .before in
     line-shorter _ _ _ (f .before .loop-test .taken) (f .find .ensures) (c .before .skip .ensures)
 
 loop-again : tie.Need-loop-again Inv-loop μ-loop
 loop-again c =
-    let t = c .before .before .before .before in
+    let t = c .before .before .before .before .before in
     let r = t .before .before in
     let l = r .before .before .before in
-    let f = l .before .before .before .before .before in
+    let f = l .before .before .before .before in
     let i = f .before in
     let j = l .store-line .ensures in
     let p = start i .pre .0 .count in
-    passing-step _ (form-keyed (start i .args .form)) (i .before .loop .inv) (i .loop-test .taken) (f .find .ensures) j (r .refusal .ensures) _ (t .enum-told .given .1)
-    (stored-first j p (omega (arith, some t))) (stored-value 1 j p (some t)) (c .before .skip .ensures)
+    rw (c .before .before .key .ensures)
+    (passing-step _ (form-keyed (start i .args .form)) (i .before .loop .inv) (i .loop-test .taken) (f .find .ensures) j (r .refusal .ensures) _ (t .enum-told .given .1)
+    (stored-first j p (omega (arith, some t))) (stored-value 1 j p (some t)) (c .before .skip .ensures))
 
 same-length-2 : tie.Need-same-length-2 Inv-loop μ-loop
 same-length-2 c = c .before .loop .inv .size
@@ -170,7 +172,6 @@ check-lines-spec =
     find-requires
     slice-aggregate-store-line
     slice-aggregate-store-line-2
-    slice-aggregate-store-line-3
     store-line-requires
     add-refusal
     refusal-requires
@@ -179,15 +180,14 @@ check-lines-spec =
     returns
     enum-told
     mul-a
-    mul-stations
-    slice-read-stations
-    mul-stations-2
-    array-write-stations
-    add-seasons
-    mul-seasons
-    slice-read-seasons
-    mul-seasons-2
-    array-write-seasons
+    mul-key
+    slice-read-key
+    add-key
+    mul-key-2
+    slice-read-key-2
+    key-requires
+    mul-keys
+    array-write-keys
     add-n
     skip-requires
     sub-rest

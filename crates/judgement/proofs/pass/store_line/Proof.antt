@@ -13,7 +13,7 @@ use Rattle.judgement.proofs.pass.store_line.Statement.{statement}
 use Rattle.judgement.proofs.pass.store_line.Tie as tie
 
 abbrev start : tie.After-slice-known → tie.Start
-start c = c .before .before .before .before .before .before
+start c = c .before .before .before .before .before
 
 -- there is room for as many numbers as there are columns
 room : (c : tie.After-slice-known)
@@ -47,14 +47,14 @@ check-line-requires c κs =
 -- the line's values in their place
 stored : (v : tie.After-check-line)
     → LineStored (formOf (start (v .before .before) .args .form)) (start (v .before .before) .args .at .now)
-    (keysOf (start (v .before .before) .args .stations .now) (start (v .before .before) .args .seasons .now) (start (v .before .before) .args .n))
+    (keysOf (start (v .before .before) .args .keys .now) (start (v .before .before) .args .n))
     (start (v .before .before) .args .line .now) (start (v .before .before) .args .n) (start (v .before .before) .args .values .now)
-    (putMid (length (start (v .before .before) .args .at .now) * start (v .before .before) .args .n) (length (start (v .before .before) .args .at .now) * start (v .before .before) .args .n + length (start (v .before .before) .args .at .now) - length (start (v .before .before) .args .at .now) * start (v .before .before) .args .n) (start (v .before .before) .args .values .now) (v .check-line .last .1 .1 .1 .1 .1 .1 .1 .0))
+    (putMid (length (start (v .before .before) .args .at .now) * start (v .before .before) .args .n) (length (start (v .before .before) .args .at .now) * start (v .before .before) .args .n + length (start (v .before .before) .args .at .now) - length (start (v .before .before) .args .at .now) * start (v .before .before) .args .n) (start (v .before .before) .args .values .now) (v .check-line .last .1 .1 .1 .1 .1 .1 .0))
     (v .check-line .result)
 stored v =
     let k = v .before .before in
     record {
-      row = v .check-line .last .1 .1 .1 .1 .1 .1 .1 .0;
+      row = v .check-line .last .1 .1 .1 .1 .1 .1 .0;
       checks = v .check-line .ensures;
       written = put-written-as _ _ _ _ (start k .pre .0 .count) (room k) (v .check-line .ensures .count);
     }

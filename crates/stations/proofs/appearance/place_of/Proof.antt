@@ -1,4 +1,4 @@
--- `place_of` goes up to the first equal station.
+-- `place_of` asks the marks, then goes up to the first equal station.
 -- Assumes nothing.
 use Prim.Native.Nat.{ℕ, _-_, _≤_, _<_}
 use mathlib.Core.Path.{_≡_, sym, _∙_}
@@ -6,31 +6,47 @@ use native.Mathlib.Omega.{arith}
 use lib.IntN.{pos}
 use lib.ListN.{getD}
 use borrow.Author.Count.{below-more}
+use borrow.Author.Tests.{not-true}
 use mir.Syntax.{w64}
 use mir.Val.{SFits, toZ}
 use mir.Facts.{toZ-ofZ}
 use Rattle.stations.specs.Summary.{sameZ}
+use Rattle.stations.specs.Places.{markOf, NotMarked}
 use Rattle.stations.proofs.Same.{same-eq, same-apart}
+use Rattle.stations.proofs.Marks.{not-marked}
 use borrow.Author.Needs.{needs}
 use Rattle.stations.proofs.appearance.place_of.Statement.{statement}
 use Rattle.stations.proofs.appearance.place_of.Tie as tie
 
 abbrev Inv-loop : tie.InvT-loop
-Inv-loop known count station i₀ i = (i ≤ count) × ((k : ℕ) → k < i → getD known k (pos 0) ≡ toZ w64 station → ⊥)
+Inv-loop known marks count station i₀ i = (i ≤ count) × ((k : ℕ) → k < i → getD known k (pos 0) ≡ toZ w64 station → ⊥)
 
 abbrev μ-loop : tie.MeasureT-loop
-μ-loop known count station i₀ i = count - i
+μ-loop known marks count station i₀ i = count - i
 
-held : (s : tie.Start Inv-loop μ-loop) → SFits w64 (s .args .station)
-held s = search needs
+abbrev start : tie.At-loop Inv-loop μ-loop → tie.Start Inv-loop μ-loop
+start a = a .before .before .before .before .before
 
-element : (c : tie.After-same-arg Inv-loop μ-loop) → SFits w64 (getD (c .before .before .before .args .known .now) (c .before .before .loop .i) (pos 0))
+element : (c : tie.After-same-arg Inv-loop μ-loop) → SFits w64 (getD (start (c .before .before) .args .known .now) (c .before .before .loop .i) (pos 0))
 element c = search needs
 
 -- what the comparison tells
 told : (c : tie.After-same Inv-loop μ-loop)
-    → c .same .result ≡ sameZ (getD (c .before .before .before .before .args .known .now) (c .before .before .before .loop .i) (pos 0)) (c .before .before .before .before .args .station)
-told c = rw (toZ-ofZ (element (c .before)), toZ-ofZ (held (c .before .before .before .before))) at (c .same .ensures)
+    → c .same .result ≡ sameZ (getD (start (c .before .before .before) .args .known .now) (c .before .before .before .loop .i) (pos 0)) (start (c .before .before .before) .args .station)
+told c = rw (toZ-ofZ (element (c .before)), toZ-ofZ (start (c .before .before .before) .fits .station)) at (c .same .ensures)
+
+mark-requires : tie.Need-mark-requires Inv-loop μ-loop
+mark-requires c κs = search needs
+
+is-marked-requires : tie.Need-is-marked-requires Inv-loop μ-loop
+is-marked-requires c κs = c .before .before .pre .1 .room
+
+returns : tie.Need-returns Inv-loop μ-loop
+returns c =
+    let m = c .before .before in
+    let s = m .before .before in
+    let mark : m .mark .result ≡ markOf (s .args .station) = rw (toZ-ofZ (s .fits .station)) at (m .mark .ensures) in
+    not-marked (s .pre .1) (rw mark at (c .before .is-marked .ensures (not-true _ (c .if1 .taken))))
 
 loop-holds : tie.Need-loop-holds Inv-loop μ-loop
 loop-holds c = search needs
@@ -44,14 +60,14 @@ shared-slice-copy-out-same c = search needs
 same-requires : tie.Need-same-requires Inv-loop μ-loop
 same-requires c κs = search needs
 
-returns : tie.Need-returns Inv-loop μ-loop
-returns c =
+returns-2 : tie.Need-returns-2 Inv-loop μ-loop
+returns-2 c =
     let l = c .before .before .before .before in
-    let station = toZ-ofZ (held (l .before)) in
+    let station = toZ-ofZ (start l .fits .station) in
     record {
       most = omega arith;
       before = λ k h e. l .loop .inv .1 k h (e ∙ sym station);
-      here = λ _. same-eq _ _ (sym (told (c .before)) ∙ c .if1 .taken);
+      here = λ _. same-eq _ _ (sym (told (c .before)) ∙ c .if2 .taken);
     }
 
 add-i : tie.Need-add-i Inv-loop μ-loop
@@ -61,10 +77,14 @@ loop-less : tie.Need-loop-less Inv-loop μ-loop
 loop-less c = search needs
 
 loop-again : tie.Need-loop-again Inv-loop μ-loop
-loop-again c = (omega arith, below-more _ _ (c .before .before .before .before .loop .inv .1) (λ e. same-apart (sym (told (c .before)) ∙ c .if1 .left) (e ∙ toZ-ofZ (held (c .before .before .before .before .before)))))
+loop-again c =
+    let l = c .before .before .before .before in
+    (omega arith, below-more _ _ (l .loop .inv .1) (λ e. same-apart (sym (told (c .before)) ∙ c .if2 .left) (e ∙ toZ-ofZ (start l .fits .station))))
 
-returns-2 : tie.Need-returns-2 Inv-loop μ-loop
-returns-2 c = record { most = c .before .loop .inv .0; before = λ k h e. c .before .loop .inv .1 k h (e ∙ sym (toZ-ofZ (held (c .before .before)))); here = λ h. absurd (omega arith) }
+returns-3 : tie.Need-returns-3 Inv-loop μ-loop
+returns-3 c =
+    let l = c .before in
+    record { most = l .loop .inv .0; before = λ k h e. l .loop .inv .1 k h (e ∙ sym (toZ-ofZ (start l .fits .station))); here = λ h. absurd (omega arith) }
 
 pub place-of-spec : {M : Type 1} → statement M
 place-of-spec =
@@ -72,12 +92,15 @@ place-of-spec =
     (tie.spec
     Inv-loop
     μ-loop
+    mark-requires
+    is-marked-requires
+    returns
     loop-holds
     mul-same
     shared-slice-copy-out-same
     same-requires
-    returns
+    returns-2
     add-i
     loop-less
     loop-again
-    returns-2)
+    returns-3)

@@ -7,7 +7,8 @@ use mir.Syntax.{w64}
 use mir.Val.{SFits}
 use mir.Facts.{toZ-ofZ}
 use Rattle.row.specs.Row.{rowLength}
-use Rattle.stations.specs.Sums.{seasonPlace, verdictPlace, meshUpperPlace, entryAt}
+use Rattle.row.specs.Places.{seasonPlace, verdictPlace, meshUpperPlace}
+use Rattle.stations.specs.Sums.{entryAt}
 use borrow.Author.Needs.{needs}
 use Rattle.stations.proofs.gather.entry.Statement.{statement}
 use Rattle.stations.proofs.gather.entry.Tie as tie

@@ -12,8 +12,9 @@ use Rattle.judgement.specs.declared.Judgement.the-variants as judged
 use Rattle.judgement.specs.Limits.{mostLines}
 use Rattle.judgement.specs.Sheet.{judgement}
 use Rattle.judgement.proofs.Accepted.{accepted}
+use Rattle.sheet.specs.declared.Answer.{Answer}
 use Rattle.sheet.specs.declared.Answer.the-variants.{Rows, Refused}
 use Rattle.sheet.specs.Answer.{tableRefused, answerBy, answer}
 
 -- the judgement of a sheet names at most the limit of lines
 within : (s : List ℕ) (n : ℕ) → judgement columns s ≡ judged.Lines n → n ≤ mostLines
@@ -63,3 +64,11 @@ module _ (s : List ℕ) (whole : ℕ) (enough : rowLength * mostLines ≤ whole)
     pub rows-there : (room : ℕ) → rowLength * n ≤ room → Rows n ≡ answer s room
     unfolding answer answerBy
     rows-there room h = rw (lines, le-ltb room (rowLength * n) h)
+
+  -- another table with that room has the same answer
+  pub same-answer : (room : ℕ) → rowLength * mostLines ≤ room → answer s whole ≡ answer s room
+  same-answer room h = go (answer s whole) refl
+    where
+      go : (a : Answer) → a ≡ answer s whole → a ≡ answer s room
+      go (Refused number line column) e = refused-anywhere room e
+      go (Rows n) e = rows-there e room (omega (arith, count-most e))

@@ -1,0 +1,21 @@
+-- Places in a row of the numbers that are read from it again, by the order of `numbers`.
+-- Assumes nothing.
+use Prim.Native.Nat.{ℕ}
+
+abbrev pub seasonPlace : ℕ
+seasonPlace = 1
+
+abbrev pub verdictPlace : ℕ
+verdictPlace = 2
+
+abbrev pub touchLowerPlace : ℕ
+touchLowerPlace = 8
+
+abbrev pub limitLowerPlace : ℕ
+limitLowerPlace = 10
+
+abbrev pub meshUpperPlace : ℕ
+meshUpperPlace = 13
+
+abbrev pub stepUpperPlace : ℕ
+stepUpperPlace = 15

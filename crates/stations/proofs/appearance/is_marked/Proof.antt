@@ -1,0 +1,49 @@
+-- `is_marked` compares every mark.
+-- Assumes nothing.
+use Prim.Native.Nat.{_-_}
+use native.Mathlib.Omega.{arith}
+use Rattle.stations.proofs.Marks.{Marking, marking-start, marking-step, marking-end}
+use borrow.Author.Needs.{needs}
+use Rattle.stations.proofs.appearance.is_marked.Statement.{statement}
+use Rattle.stations.proofs.appearance.is_marked.Tie as tie
+
+abbrev Inv-loop : tie.InvT-loop
+Inv-loop marks count mark found₀ i₀ found i = Marking marks count mark found i
+
+abbrev μ-loop : tie.MeasureT-loop
+μ-loop marks count mark found₀ i₀ found i = count - i
+
+loop-holds : tie.Need-loop-holds Inv-loop μ-loop
+loop-holds c = marking-start _ _ _
+
+mul-here : tie.Need-mul-here Inv-loop μ-loop
+mul-here c = search needs
+
+shared-slice-read-here : tie.Need-shared-slice-read-here Inv-loop μ-loop
+shared-slice-read-here c = search needs
+
+add-i : tie.Need-add-i Inv-loop μ-loop
+add-i c = search needs
+
+loop-less : tie.Need-loop-less Inv-loop μ-loop
+loop-less c = search needs
+
+loop-again : tie.Need-loop-again Inv-loop μ-loop
+loop-again c = marking-step (c .before .before .loop .inv) (omega arith)
+
+returns : tie.Need-returns Inv-loop μ-loop
+returns c = marking-end (c .before .loop .inv) (omega arith)
+
+pub is-marked-spec : {M : Type 1} → statement M
+is-marked-spec =
+    tie.close
+    (tie.spec
+    Inv-loop
+    μ-loop
+    loop-holds
+    mul-here
+    shared-slice-read-here
+    add-i
+    loop-less
+    loop-again
+    returns)
