@@ -21,12 +21,12 @@ lines_of() { # SHEET STORED STATUS COMMAND..
     [ "$status" -eq "$wanted" ] || fail "$sheet: exit status $status"
     diff "$stored" "$work/lines" || fail "$sheet: other lines than $stored"
 }
-lines_of tests/sample.csv examples/sample.out 0 "$out/panel"
-lines_of crates/rows/stdin examples/rows.out 0 "$out/panel"
-lines_of examples/refused.csv examples/refused.out 1 "$out/panel"
+lines_of tests/sample.csv examples/panel/sample.out 0 "$out/panel"
+lines_of crates/rows/stdin examples/panel/rows.out 0 "$out/panel"
+lines_of examples/panel/refused.csv examples/panel/refused.out 1 "$out/panel"
 valgrind=(valgrind --quiet --error-exitcode=9 --leak-check=full)
-lines_of tests/sample.csv examples/sample.out 0 "${valgrind[@]}" "$out/panel"
-lines_of examples/refused.csv examples/refused.out 1 "${valgrind[@]}" "$out/panel"
+lines_of tests/sample.csv examples/panel/sample.out 0 "${valgrind[@]}" "$out/panel"
+lines_of examples/panel/refused.csv examples/panel/refused.out 1 "${valgrind[@]}" "$out/panel"
 echo "host: the example's lines are the stored ones, and valgrind has no report"
 
 # an installed copy serves C and C++
@@ -36,7 +36,7 @@ flags=$(pkg-config --cflags hocsimbur)
 libs=$(pkg-config --libs hocsimbur)
 # shellcheck disable=SC2086
 cc -Wall -Wextra -Werror -std=c11 $flags examples/panel.c $libs -o "$work/panel"
-lines_of tests/sample.csv examples/sample.out 0 "$work/panel"
+lines_of tests/sample.csv examples/panel/sample.out 0 "$work/panel"
 printf '#include <hocsimbur.h>\nint main() { unsigned char s = 10, b = 0; return hocsimbur_rows(&s, 1, &b, 1) == -2 ? 0 : 1; }\n' >"$work/host.cpp"
 # shellcheck disable=SC2086
 g++ -Wall -Wextra -Werror -std=c++17 $flags "$work/host.cpp" $libs -o "$work/host"

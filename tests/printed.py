@@ -18,6 +18,13 @@ ROW_NAMES = (
 VERDICT_NAMES = ("station", "season", "verdict", "kcmil")
 WORDS = ("safe", "unsafe", "undecided")
 
+# The columns of the program `margins`.
+MARGIN_NAMES = (
+    "station", "season", "verdict",
+    "mesh_upper_above_tolerable_touch_lower_tenths_of_percent",
+    "step_upper_above_tolerable_step_lower_tenths_of_percent",
+)
+
 
 def whole(field):
     """A number in decimal digits, with no sign but minus and no zero in front."""
@@ -75,3 +82,14 @@ def read_verdict(fields):
 def read_verdicts(text):
     """What the program `verdict` printed: a refusal, or each row's first four numbers."""
     return read_answer(text, VERDICT_NAMES, read_verdict)
+
+
+def read_margin(fields):
+    """Station, season, verdict, of which the last is a word, and the two numbers of a row."""
+    station, season, word, mesh, step = fields
+    return [whole(station), whole(season), WORDS.index(word) + 1, whole(mesh), whole(step)]
+
+
+def read_margins(text):
+    """What the program `margins` printed: a refusal, or five numbers for each row in the order printed."""
+    return read_answer(text, MARGIN_NAMES, read_margin)

@@ -137,7 +137,7 @@ class Panel(unittest.TestCase):
             self.assertLess(exact, tenths + 1 + slack, line)
 
     def stored(self, name):
-        return (ROOT / "examples" / name).read_text("ascii").splitlines()
+        return (ROOT / "examples/panel" / name).read_text("ascii").splitlines()
 
     def test_sample(self):
         self.judge((ROOT / "tests/sample.csv").read_bytes(), self.stored("sample.out"))
@@ -155,7 +155,7 @@ class Panel(unittest.TestCase):
                 self.judge(sheet, changed)
 
     def test_refused(self):
-        refusal = calc.read_sheet((ROOT / "examples/refused.csv").read_bytes())
+        refusal = calc.read_sheet((ROOT / "examples/panel/refused.csv").read_bytes())
         (line,) = self.stored("refused.out")
         self.assertTrue(line.startswith("refused with %d, line %d, column %d: " % refusal))
 

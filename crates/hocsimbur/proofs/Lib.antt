@@ -1,3 +1,4 @@
 pub mod Answers
 pub mod LessFault
 pub mod Carried
+pub mod LineMargins

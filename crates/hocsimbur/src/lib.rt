@@ -12,6 +12,8 @@ pub use interval::Pair;
 ghost use mathlib.Core.Path.{_≡_};
 ghost use Rattle.hocsimbur.specs.Asked.{FactorAnswered, sizeAnswer, TolerableAnswered, ResistanceAnswered, RowAnswered};
 pub use logarithm::logarithm;
+pub use margin::Compared;
+pub use margin::margins;
 pub use readings::Report;
 pub use readings::Sounding;
 pub use readings::soil;

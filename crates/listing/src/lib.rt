@@ -18,6 +18,7 @@ pub use held::hold;
 pub use rows::numbers;
 pub use search::fewest;
 pub use summary::summary_and_rows;
+pub use verdicts::verdict_word;
 
 // A row for each of the most value lines.
 pub const TABLE: usize = LINES * ROW_LENGTH;
@@ -26,7 +27,7 @@ pub const TABLE: usize = LINES * ROW_LENGTH;
 pub const SUMMARY: usize = LINES * STATION_LENGTH;
 
 // One byte more than a sheet may have, so that a longer one is refused.
-const SPACE: usize = BYTES + 1;
+pub const SPACE: usize = BYTES + 1;
 
 // What is listed of each row.
 pub enum Listing {

@@ -8,7 +8,8 @@ pub fn names() {
     bytes(b"station,season,verdict,kcmil\n");
 }
 
-fn word(verdict: i64) {
+// The word of a verdict's number, between commas.
+pub fn verdict_word(verdict: i64) {
     if verdict == 1 {
         bytes(b",safe,");
     } else if verdict == 2 {
@@ -24,7 +25,7 @@ pub fn verdict(row: &[i64])
     signed(row[0]);
     bytes(b",");
     signed(row[1]);
-    word(row[2]);
+    verdict_word(row[2]);
     signed(row[3]);
     bytes(b"\n");
 }

@@ -1,0 +1,40 @@
+-- The exact voltage is at or below its share of the exact tolerable voltage.
+-- Assumes nothing.
+use Prim.Native.Nat.{ℕ, _*_, _<_, _^_}
+use mathlib.Core.Path.{_≡_, refl, ap}
+use native.Mathlib.Omega.{arith}
+use lib.IntN.{ℤ, pos, _*ℤ_}
+use Rattle.interval.specs.declared.Interval.{Interval}
+use Rattle.interval.specs.Whole.{ceilDiv}
+use Rattle.interval.specs.Operations.{scaledOf}
+use Rattle.interval.proofs.Rounding.{ceilDiv-above}
+use Rattle.exact.specs.Fraction.{_≤f_, _≈f_}
+use Rattle.exact.specs.Exact.{Exact, exactly, _·x_, AtOrBelow}
+use Rattle.exact.specs.Depth.{Consistent}
+use Rattle.exact.specs.Reported.{ten, over, reported}
+use Rattle.exact.proofs.Consistency.{consistent-exactly, consistent-product}
+use Rattle.exact.proofs.Verdict.{at-or-below}
+use Rattle.enclosure.specs.Enclosure.{Encloses}
+use Rattle.enclosure.proofs.Basics.{holds}
+use Rattle.enclosure.proofs.Multiples.{encloses-multiple}
+use Rattle.formulas.specs.Width.{mV}
+use Rattle.margin.specs.Margin.{whole, margin}
+use Rattle.margin.specs.Meaning.{share}
+use Rattle.margin.proofs.Least.{share-parts}
+
+module _ (v : ℕ) {t : ℕ} (p : 0 < t) where
+  share-is : share (margin v t) ≈f over (pos (ceilDiv (whole * v) t)) (ten 3)
+  unfolding share over ten
+  share-is = let e = ap (λ n. n * 1000) (share-parts v t) in record { to = record { le = omega (arith, e) }; fro = record { le = omega (arith, e) } }
+
+  upper-below : over (pos v) mV ≤f over (pos t *ℤ pos (ceilDiv (whole * v) t)) (ten 6)
+  unfolding mV over ten
+  upper-below = record { le = omega (arith, ceilDiv-above (whole * v) p) }
+
+  pub share-below : {x y : Exact} {i j : Interval} → Consistent x → Consistent y → Encloses x mV i → Encloses y mV j → i .upper ≡ pos v → j .lower ≡ pos t
+      → AtOrBelow x (exactly (share (margin v t)) ·x y)
+  unfolding mV ten reported scaledOf
+  share-below cx cy ex ey upper lower =
+      at-or-below (holds cx ex)
+      (holds (consistent-product (consistent-exactly _) cy) (encloses-multiple (ceilDiv (whole * v) t) (ten 3) (ten 6) refl share-is cy ey))
+      (rw (upper, lower) upper-below)

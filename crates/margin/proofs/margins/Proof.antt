@@ -1,0 +1,58 @@
+-- `margins` reads the four ends of a row.
+-- Assumes nothing.
+use mathlib.Core.Path.{_∙_}
+use lib.IntN.{pos}
+use lib.ListN.{getD}
+use mir.Syntax.{w64}
+use mir.Val.{SFits}
+use mir.Facts.{toZ-ofZ}
+use borrow.Author.Needs.{needs}
+use borrow.Author.Tests.{ne-eqb}
+use Rattle.margin.specs.Margin.{marginsOf}
+use Rattle.margin.proofs.margins.Statement.{statement}
+use Rattle.margin.proofs.margins.Tie as tie
+
+shared-slice-copy-out-compare : tie.Need-shared-slice-copy-out-compare
+shared-slice-copy-out-compare c = search needs
+
+shared-slice-copy-out-compare-2 : tie.Need-shared-slice-copy-out-compare-2
+shared-slice-copy-out-compare-2 c = search needs
+
+shared-slice-copy-out-compare-3 : tie.Need-shared-slice-copy-out-compare-3
+shared-slice-copy-out-compare-3 c = search needs
+
+shared-slice-copy-out-compare-4 : tie.Need-shared-slice-copy-out-compare-4
+shared-slice-copy-out-compare-4 c = search needs
+
+compare-requires : tie.Need-compare-requires
+compare-requires c κs = search needs
+
+held : (c : tie.After-compare)
+    → SFits w64 (getD (c .before .before .before .before .before .before .args .row .now) 13 (pos 0))
+    × SFits w64 (getD (c .before .before .before .before .before .before .args .row .now) 8 (pos 0))
+    × SFits w64 (getD (c .before .before .before .before .before .before .args .row .now) 15 (pos 0))
+    × SFits w64 (getD (c .before .before .before .before .before .before .args .row .now) 10 (pos 0))
+held c = search needs
+
+returns : tie.Need-returns
+unfolding marginsOf
+returns c =
+    let h = held c in
+    (rw (toZ-ofZ (h .0), toZ-ofZ (h .1), toZ-ofZ (h .2), toZ-ofZ (h .3)) at (c .compare .ensures))
+    ∙ rw (c .before .before .before .before .before .if1 .taken)
+
+returns-2 : tie.Need-returns-2
+unfolding marginsOf
+returns-2 c = rw (ne-eqb _ _ (c .if1 .left))
+
+pub margins-spec : {M : Type 1} → statement M
+margins-spec =
+    tie.close
+    (tie.spec
+    shared-slice-copy-out-compare
+    shared-slice-copy-out-compare-2
+    shared-slice-copy-out-compare-3
+    shared-slice-copy-out-compare-4
+    compare-requires
+    returns
+    returns-2)

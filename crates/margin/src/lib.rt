@@ -1,0 +1,74 @@
+// How far the voltages of a row lie above what is tolerable, from the ends on the cautious side: a voltage's upper end against the tolerable
+// voltage's lower end.
+ghost use mathlib.Core.Path.{_≡_};
+ghost use lib.Dec.{T};
+ghost use lib.IntN.{natAbs};
+ghost use Rattle.margin.specs.Margin.{inRange, comparable as comparableEnds, margin as marginOf, fourMargins, marginsOf};
+use interval::wide;
+use row::LIMIT_LOWER;
+use row::MESH_UPPER;
+use row::ROW_LENGTH;
+use row::STEP_UPPER;
+use row::TOUCH_LOWER;
+
+// Mesh voltage above tolerable touch, then step voltage above tolerable step, in tenths of a percent of what is tolerable and below it as a
+// negative number; or None where the numbers are no row's.
+pub enum Compared {
+    Margins(i64, i64),
+    None,
+}
+
+// In mV; no row has so many.
+const MOST: i64 = 1000000000000000;
+
+// All of a tolerable voltage in tenths of a percent.
+const WHOLE: u64 = 1000;
+
+// Whether z lies from low to MOST.
+fn in_range(low: i64, z: i64) -> bool
+    ensures { λ r. ⌜ r ≡ inRange low z ⌝ }
+{
+    (low <= z) & (z <= MOST)
+}
+
+// Whether a voltage and a tolerable one may be those of a row.
+fn comparable(voltage: i64, tolerable: i64) -> bool
+    ensures { λ r. ⌜ r ≡ comparableEnds voltage tolerable ⌝ }
+{
+    in_range(0, voltage) & in_range(1, tolerable)
+}
+
+// The smallest whole m with 1000 · voltage ≤ (1000 + m) · tolerable.
+fn margin(voltage: i64, tolerable: i64) -> i64
+    requires { ⌜ T (comparableEnds voltage tolerable) ⌝ }
+    ensures { λ r. ⌜ r ≡ marginOf (natAbs voltage) (natAbs tolerable) ⌝ }
+{
+    wide::ceil(WHOLE, voltage as u64, tolerable as u64) as i64 - WHOLE as i64
+}
+
+// Mesh voltage against tolerable touch, step voltage against tolerable step.
+fn compare(mesh: i64, touch: i64, step: i64, limit: i64) -> Compared
+    ensures { λ r. ⌜ r ≡ fourMargins mesh touch step limit ⌝ }
+{
+    if comparable(mesh, touch) {
+        if comparable(step, limit) {
+            return Compared::Margins(margin(mesh, touch), margin(step, limit));
+        }
+    }
+    Compared::None
+}
+
+// The margins of a row of the table.
+pub fn margins(row: &[i64]) -> Compared
+    ensures { λ r. ⌜ r ≡ marginsOf (now (row .entry)) ⌝ }
+{
+    if row.len() == ROW_LENGTH {
+        return compare(
+            row[MESH_UPPER],
+            row[TOUCH_LOWER],
+            row[STEP_UPPER],
+            row[LIMIT_LOWER],
+        );
+    }
+    Compared::None
+}
