@@ -2,13 +2,13 @@
 -- Assumes nothing.
 use Prim.Native.Nat.{ℕ, zero, suc, _-_, _≤_, _<_}
 use mathlib.Core.Path.{_≡_, refl, sym}
-use mathlib.Core.Bool.{cond}
+use mathlib.Core.Bool.{Bool, cond}
 use mathlib.Core.List.{List}
 use native.Mathlib.Numerals.{sub-one}
 use native.Mathlib.Omega.{arith}
 use lib.ListN.{length, getD, drop, drop-of-length-le}
 use lib.Seq.{drop-cons}
-use Rattle.case.specs.Columns.{Range, Form, inRange}
+use Rattle.case.specs.Columns.{Form, inRange}
 use Rattle.case.specs.Check.{leftOf, outOfRange}
 use Rattle.case.specs.Parts.{rangeAt, noColumn}
 
@@ -37,9 +37,9 @@ leftmost-step {form} {at} {v} {c} {k = suc k} r a h e =
           (rw sub-one at e);
     }
 
--- the same, with the range of the name by an equation
-pub leftmost-by : {form : Form} {at v : List ℕ} {c k : ℕ} {range : Range} (r : ℕ) → Leftmost form at v c k → 0 < k → range ≡ rangeAt form (k - 1)
-    → r ≡ cond (inRange range (getD v (k - 1) 0)) c (leftOf (getD at (k - 1) 0) c) → Leftmost form at v r (k - 1)
+-- the same, with the test of the value by an equation
+pub leftmost-by : {form : Form} {at v : List ℕ} {c k : ℕ} {b : Bool} (r : ℕ) → Leftmost form at v c k → 0 < k
+    → b ≡ inRange (rangeAt form (k - 1)) (getD v (k - 1) 0) → r ≡ cond b c (leftOf (getD at (k - 1) 0) c) → Leftmost form at v r (k - 1)
 leftmost-by r a h q e = leftmost-step r a h (rw q at e)
 
 pub leftmost-end : {form : Form} {at v : List ℕ} {c k : ℕ} → Leftmost form at v c k → k ≤ 0 → c ≡ outOfRange form at v

@@ -3,7 +3,7 @@ pub mod Ranges
 pub mod Agreement
 pub mod Bounds
 pub mod Places
-pub mod RangeTable
+pub mod FormerPlaces
 pub mod RangeNumbers
 pub mod Leftmost
 pub mod Findings

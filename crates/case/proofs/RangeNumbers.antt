@@ -11,15 +11,11 @@ use lib.Dec.{leb, eqb}
 use borrow.Author.Tests.{eq-eqb, ne-eqb, le-leb, lt-leb}
 use Rattle.case.specs.Columns.{Range, from, zeroOr, either, inRange, Form, columns, nameCount, name-count}
 use Rattle.case.specs.Check.{outOfRange}
-use Rattle.case.specs.Parts.{rangeAt, lowOf, highOf, otherOf, InRanges}
+use Rattle.case.specs.Parts.{rangeAt, lowOf, highOf, otherOf, passes, InRanges}
 
--- the test by three numbers
-abbrev pub passes : ℕ → ℕ → ℕ → ℕ → Bool
-passes low high other x = (leb low x && leb x high) || eqb x other
-
-or-split : (a b : Bool) → (a || b) ≡ true → b ≡ false → a ≡ true
-or-split true b e f = refl
-or-split false b e f = sym f ∙ e
+or-false : (a : Bool) → (a || false) ≡ a
+or-false true = refl
+or-false false = refl
 
 and-left : (a b : Bool) → (a && b) ≡ true → a ≡ true
 and-left true b e = refl
@@ -29,20 +25,21 @@ and-right : (a b : Bool) → (a && b) ≡ true → b ≡ true
 and-right true b e = e
 and-right false b e = let z : _≡_ {A = ℕ} 0 1 = cc in absurd (omega arith)
 
-passes-in : (r : Range) (x : ℕ) → leb (lowOf r) (highOf r) ≡ true → passes (lowOf r) (highOf r) (otherOf r) x ≡ true → inRange r x ≡ true
-unfolding inRange lowOf highOf otherOf
-passes-in (from low high) x o e = go (ℕ-discrete x low)
+-- the test is that of the range, where its low end is not above its high end
+passes-is : (r : Range) (x : ℕ) → leb (lowOf r) (highOf r) ≡ true → passes (lowOf r) (highOf r) (otherOf r) x ≡ inRange r x
+unfolding inRange lowOf highOf otherOf passes
+passes-is (from low high) x o = go (ℕ-discrete x low)
   where
-    go : Dec (x ≡ low) → (leb low x && leb x high) ≡ true
-    go (yes p) = rw (p, le-leb low low (omega arith)) o
-    go (no p) = or-split _ _ e (ne-eqb x low p)
-passes-in (zeroOr low high) x o e = or-comm (eqb x 0) _ ∙ e
-passes-in (either a b) x o e = go (ℕ-discrete x a) (decLt x a)
+    go : Dec (x ≡ low) → ((leb low x && leb x high) || eqb x low) ≡ (leb low x && leb x high)
+    go (yes p) = rw (p, le-leb low low (omega arith), o)
+    go (no p) = rw (ne-eqb x low p, or-false)
+passes-is (zeroOr low high) x o = or-comm _ (eqb x 0)
+passes-is (either a b) x o = go (ℕ-discrete x a) (decLt x a)
   where
-    go : Dec (x ≡ a) → Dec (x < a) → (eqb x a || eqb x b) ≡ true
-    go (yes p) d = rw (eq-eqb x a p)
-    go (no p) (yes l) = rw (ne-eqb x a p) (rw (lt-leb a x l) at e)
-    go (no p) (no l) = rw (ne-eqb x a p) (rw (le-leb a x (omega arith), lt-leb x a (omega (arith, p))) at e)
+    go : Dec (x ≡ a) → Dec (x < a) → ((leb a x && leb x a) || eqb x b) ≡ (eqb x a || eqb x b)
+    go (yes p) d = rw (p, le-leb a a (omega arith), eq-eqb a a refl)
+    go (no p) (yes l) = rw (ne-eqb x a p, lt-leb a x l)
+    go (no p) (no l) = rw (ne-eqb x a p, le-leb a x (omega arith), lt-leb x a (omega (arith, p)))
 
 -- ---- the tables of a form
 
@@ -63,16 +60,20 @@ abbrev orderly : Form → Bool
 orderly [] = true
 orderly (c ∷ form) = leb (lowOf (c .range)) (highOf (c .range)) && orderly form
 
-entry-in : (form : Form) → orderly form ≡ true → (k : ℕ) → k < length form → (x : ℕ)
-    → passes (getD (lows form) k 0) (getD (highs form) k 0) (getD (others form) k 0) x ≡ true → inRange (rangeAt form k) x ≡ true
+entry-is : (form : Form) → orderly form ≡ true → (k : ℕ) → k < length form → (x : ℕ)
+    → passes (getD (lows form) k 0) (getD (highs form) k 0) (getD (others form) k 0) x ≡ inRange (rangeAt form k) x
 unfolding rangeAt
-entry-in [] o k h x e = absurd (omega arith)
-entry-in (c ∷ form) o zero h x e = passes-in (c .range) x (and-left (leb (lowOf (c .range)) (highOf (c .range))) (orderly form) o) e
-entry-in (c ∷ form) o (suc k) h x e = entry-in form (and-right (leb (lowOf (c .range)) (highOf (c .range))) (orderly form) o) k (omega arith) x e
+entry-is [] o k h x = absurd (omega arith)
+entry-is (c ∷ form) o zero h x = passes-is (c .range) x (and-left (leb (lowOf (c .range)) (highOf (c .range))) (orderly form) o)
+entry-is (c ∷ form) o (suc k) h x = entry-is form (and-right (leb (lowOf (c .range)) (highOf (c .range))) (orderly form) o) k (omega arith) x
 
 orderly-columns : orderly columns ≡ true
 unfolding columns lowOf highOf
 orderly-columns = refl
+
+-- by the tables of today's form
+pub table-entry : (k x : ℕ) → k < nameCount → passes (getD (lows columns) k 0) (getD (highs columns) k 0) (getD (others columns) k 0) x ≡ inRange (rangeAt columns k) x
+table-entry k x h = entry-is columns orderly-columns k (omega (arith, name-count)) x
 
 -- ---- the pass over the values of today's form: what holds when the first k are done
 
@@ -92,7 +93,7 @@ tested-step {v} {all} {k} a h =
     go : (j : ℕ) → Dec (j ≡ k) → j < k + 1 → all ≡ true
         → passes (getD (lows columns) k 0) (getD (highs columns) k 0) (getD (others columns) k 0) (getD v k 0) ≡ true
         → inRange (rangeAt columns j) (getD v j 0) ≡ true
-    go j (yes p) l e f = rw p (entry-in columns orderly-columns k (omega (arith, name-count)) (getD v k 0) f)
+    go j (yes p) l e f = rw p (sym (table-entry k (getD v k 0) h) ∙ f)
     go j (no p) l e f = a .each e j (omega (arith, p))
 
 pub tested-end : {v : List ℕ} {all : Bool} {k : ℕ} → Tested v all k → nameCount ≤ k → all ≡ true → InRanges columns v

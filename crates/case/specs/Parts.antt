@@ -2,20 +2,13 @@
 -- Assumes nothing.
 use Prim.Native.Nat.{ℕ, _+_, _≤_, _<_}
 use mathlib.Core.Path.{_≡_}
-use mathlib.Core.Bool.{true}
+use mathlib.Core.Bool.{Bool, true, _&&_, _||_}
 use mathlib.Core.List.{List, []}
+use lib.Dec.{leb, eqb}
 use lib.ListN.{length, getD}
 use Rattle.case.specs.Columns.{Range, from, zeroOr, either, inRange, Column, Form, columns, nameCount, formerColumns}
 use Rattle.case.specs.declared.Form.{Form as CodeForm}
 use Rattle.case.specs.declared.Form.the-variants.{Present, Former}
-use Rattle.case.specs.declared.range.Range.{Range as CodeRange}
-use Rattle.case.specs.declared.range.Range.the-variants.{From, ZeroOr, Either}
-
--- the range that the code's table names
-unfoldable pub rangeOf : CodeRange → Range
-rangeOf (From low high) = from low high
-rangeOf (ZeroOr low high) = zeroOr low high
-rangeOf (Either a b) = either a b
 
 -- past the table's end
 abbrev pub noColumn : Column
@@ -62,6 +55,10 @@ unfoldable pub otherOf : Range → ℕ
 otherOf (from low high) = low
 otherOf (zeroOr low high) = 0
 otherOf (either a b) = b
+
+-- the test by these: a value between the first two, or the third
+unfoldable pub passes : ℕ → ℕ → ℕ → ℕ → Bool
+passes low high other x = (leb low x && leb x high) || eqb x other
 
 -- every value of a form is in its range
 pub record InRanges (form : Form) (v : List ℕ) : Type 0 where

@@ -2,15 +2,15 @@
 ghost use mathlib.Core.Path.{_≡_};
 ghost use mathlib.Core.Bool.{cond};
 ghost use lib.ListN.{length};
-ghost use Rattle.case.specs.Columns.{inRange};
 ghost use Rattle.case.specs.Check.{leftOf, outOfRange, agree as agreeing, disagreement as disagreeing};
-ghost use Rattle.case.specs.Parts.{rangeOf, formOf, RodsPlace};
+ghost use Rattle.case.specs.Parts.{passes, formOf, RodsPlace};
 use crate::Finding;
 use crate::Form;
-use crate::range::RANGES;
-use crate::range::Range;
+use crate::range::HIGHS;
+use crate::range::LOWS;
+use crate::range::OTHERS;
+use crate::range::in_range;
 use crate::range::place;
-use crate::range::within;
 
 // The places of layer and thick among the names of either form, from 0.
 const LAYER: usize = 3;
@@ -40,29 +40,31 @@ fn left_of(a: usize, c: usize) -> usize
     c
 }
 
-// The leftmost column at fault from a name on: r is its range, v its value, a its column, c the leftmost after it.
-fn worse(r: Range, v: u32, a: usize, c: usize) -> usize
-    ensures { λ n. ⌜ n ≡ cond (inRange (rangeOf r) v) c (leftOf a c) ⌝ }
+// The leftmost column at fault from a name on: its range as three numbers, its value v, its column a, and the leftmost after it, c.
+fn worse(low: u32, high: u32, other: u32, v: u32, a: usize, c: usize) -> usize
+    ensures { λ n. ⌜ n ≡ cond (passes low high other v) c (leftOf a c) ⌝ }
 {
-    if within(r, v) {
+    if in_range(low, high, other, v) {
         return c;
     }
     left_of(a, c)
 }
 
-// The leftmost column whose value is out of its range, or 0. The table is a local: a constant would be made anew for each name.
+// The leftmost column whose value is out of its range, or 0. The tables are locals: a constant would be made anew for each name.
 pub fn out_of_range<'a>(form: Form, at: &'a [usize], v: &'a [u32]) -> usize
     requires { ⌜ length (now at) ≡ length (formOf form) ⌝ }
     requires { ⌜ length (now v) ≡ length (formOf form) ⌝ }
     ensures { λ r. ⌜ r ≡ outOfRange (formOf form) (now (at .entry)) (now (v .entry)) ⌝ }
 {
-    let ranges = RANGES;
+    let lows = LOWS;
+    let highs = HIGHS;
+    let others = OTHERS;
     let mut c: usize = 0;
     let mut k: usize = v.len();
     while 0 < k {
         k -= 1;
         let p = place(form, k);
-        c = worse(ranges[p], v[k], at[k], c);
+        c = worse(lows[p], highs[p], others[p], v[k], at[k], c);
     }
     c
 }

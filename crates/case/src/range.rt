@@ -2,55 +2,94 @@
 ghost use mathlib.Core.Path.{_≡_};
 ghost use Prim.Native.Nat.{_<_};
 ghost use mathlib.Core.Bool.{true};
-ghost use Rattle.case.specs.Columns.{columns, nameCount, inRange};
+ghost use Rattle.case.specs.Columns.{columns, nameCount};
 ghost use lib.ListN.{length};
-ghost use Rattle.case.specs.Parts.{rangeOf, formOf, SameRange, InRanges};
+ghost use Rattle.case.specs.Parts.{passes, formOf, SameRange, InRanges};
 use crate::FORMER_NAMES;
 use crate::Form;
 use crate::NAMES;
 
-// The three kinds of range: "1..4", "0 or 20..300", "50 or 70".
-pub enum Range {
-    From(u32, u32),
-    ZeroOr(u32, u32),
-    Either(u32, u32),
-}
-
-// The ranges in the order of the names.
-pub const RANGES: [Range; NAMES] = [
-    Range::From(1, 65535),
-    Range::From(1, 4),
-    Range::From(10, 5000),
-    Range::ZeroOr(100, 10000),
-    Range::ZeroOr(20, 300),
-    Range::From(9, 3000),
-    Range::From(9, 3000),
-    Range::From(9, 3000),
-    Range::Either(50, 70),
-    Range::From(100, 80000),
-    Range::From(1, 1000),
-    Range::From(1, 40),
-    Range::From(2, 25),
-    Range::From(2, 25),
-    Range::From(2500, 30000),
-    Range::From(250, 2500),
-    Range::From(50, 300),
-    Range::From(0, 200),
-    Range::ZeroOr(1000, 10000),
-    Range::From(0, 2),
-    Range::From(1, 11),
-    Range::Either(50, 60),
+// The ranges in the order of the names, three numbers each: low end, high end, and one value more that is in the range, where there is one.
+pub const LOWS: [u32; NAMES] = [
+    1, // station
+    1, // season
+    10, // soil
+    100, // layer
+    20, // thick
+    9, // shock
+    9, // clear
+    9, // wire
+    50, // body
+    100, // fault
+    1, // split
+    1, // xr
+    2, // across
+    2, // along
+    2500, // space
+    250, // depth
+    50, // dia
+    0, // rods
+    1000, // rodlen
+    0, // place
+    1, // metal
+    50, // hz
 ];
 
-// Whether a value is in a range.
-pub fn within(r: Range, v: u32) -> bool
-    ensures { λ b. ⌜ b ≡ inRange (rangeOf r) v ⌝ }
+pub const HIGHS: [u32; NAMES] = [
+    65535, // station
+    4, // season
+    5000, // soil
+    10000, // layer
+    300, // thick
+    3000, // shock
+    3000, // clear
+    3000, // wire
+    50, // body
+    80000, // fault
+    1000, // split
+    40, // xr
+    25, // across
+    25, // along
+    30000, // space
+    2500, // depth
+    300, // dia
+    200, // rods
+    10000, // rodlen
+    2, // place
+    11, // metal
+    50, // hz
+];
+
+pub const OTHERS: [u32; NAMES] = [
+    1, // station
+    1, // season
+    10, // soil
+    0, // layer
+    0, // thick
+    9, // shock
+    9, // clear
+    9, // wire
+    70, // body
+    100, // fault
+    1, // split
+    1, // xr
+    2, // across
+    2, // along
+    2500, // space
+    250, // depth
+    50, // dia
+    0, // rods
+    0, // rodlen
+    0, // place
+    1, // metal
+    60, // hz
+];
+
+// Whether a value is in the range of three numbers.
+pub fn in_range(low: u32, high: u32, other: u32, v: u32) -> bool
+    ensures { λ r. ⌜ r ≡ passes low high other v ⌝ }
 {
-    match r {
-        Range::From(low, high) => low <= v && v <= high,
-        Range::ZeroOr(low, high) => v == 0 || (low <= v && v <= high),
-        Range::Either(a, b) => v == a || v == b,
-    }
+    ((low <= v) & (v <= high)) | (v == other)
 }
 
 // The places in the table of the former form's names: ms has the range of shock, lines that of across.
@@ -86,82 +125,6 @@ pub fn place(form: Form, k: usize) -> usize
     }
 }
 
-// The ranges as numbers, in the order of the names: low end, high end, and one value more that is in the range.
-const LOWS: [u32; NAMES] = [
-    1,
-    1,
-    10,
-    100,
-    20,
-    9,
-    9,
-    9,
-    50,
-    100,
-    1,
-    1,
-    2,
-    2,
-    2500,
-    250,
-    50,
-    0,
-    1000,
-    0,
-    1,
-    50,
-];
-
-const HIGHS: [u32; NAMES] = [
-    65535,
-    4,
-    5000,
-    10000,
-    300,
-    3000,
-    3000,
-    3000,
-    50,
-    80000,
-    1000,
-    40,
-    25,
-    25,
-    30000,
-    2500,
-    300,
-    200,
-    10000,
-    2,
-    11,
-    50,
-];
-
-const OTHERS: [u32; NAMES] = [
-    1,
-    1,
-    10,
-    0,
-    0,
-    9,
-    9,
-    9,
-    70,
-    100,
-    1,
-    1,
-    2,
-    2,
-    2500,
-    250,
-    50,
-    0,
-    0,
-    0,
-    1,
-    60,
-];
-
 // Whether every value of today's form is in its range. Where it is not, the values are looked through again for the column.
 fn present_in_range(v: &[u32]) -> bool
     requires { ⌜ length (now v) ≡ nameCount ⌝ }
@@ -174,7 +137,7 @@ fn present_in_range(v: &[u32]) -> bool
     let mut k: usize = 0;
     while k < NAMES {
         let x = v[k];
-        let here = ((lows[k] <= x) & (x <= highs[k])) | (x == others[k]);
+        let here = in_range(lows[k], highs[k], others[k], x);
         all = all & here;
         k += 1;
     }

@@ -6,7 +6,7 @@ use lib.ListN.{length}
 use borrow.Author.Needs.{needs}
 use Rattle.case.specs.Columns.{formerColumns, former-name-count}
 use Rattle.case.specs.Parts.{formOf}
-use Rattle.case.proofs.RangeTable.{formerPlaces, former-place, present-place}
+use Rattle.case.proofs.FormerPlaces.{formerPlaces, former-place, present-place}
 use Rattle.case.proofs.range.place.Statement.{statement}
 use Rattle.case.proofs.range.place.Tie as tie
 
