@@ -1,7 +1,7 @@
 -- The margins of a case's row are right.
 -- Assumes nothing.
 use Prim.Native.Nat.{ℕ, _≤_}
-use mathlib.Core.Path.{_≡_, sym}
+use mathlib.Core.Path.{_≡_, refl, _∙_}
 use lib.IntN.{ℤ, pos, natAbs}
 use lib.Signed.{_≤ℤ_}
 use Rattle.interval.proofs.Choice.{pos≤, le-pos}
@@ -45,10 +45,16 @@ module _ {c : Case} (b : Bounds c) where
   step : ℤ
   step = marginOf (step-voltages b)
 
+  -- the ends that are compared
+  row-compared : marginsOf (numbers (rowOf c)) ≡ fourMargins (meshEnds c .upper) (touchEnds c .lower) (stepVoltageEnds c .upper) (stepEnds c .lower)
+  unfolding marginsOf numbers rowOf
+  row-compared = refl
+
   row-margins : marginsOf (numbers (rowOf c)) ≡ Margins mesh step
-  unfolding marginsOf fourMargins numbers rowOf mesh step marginOf
+  unfolding fourMargins mesh step marginOf
   row-margins =
-      rw (voltages-comparable (mesh-voltages b), voltages-comparable (step-voltages b), mesh-voltages b .v .is, mesh-voltages b .t .is, step-voltages b .v .is, step-voltages b .t .is)
+      row-compared
+      ∙ rw (voltages-comparable (mesh-voltages b), voltages-comparable (step-voltages b), mesh-voltages b .v .is, mesh-voltages b .t .is, step-voltages b .v .is, step-voltages b .t .is)
 
   right : RightMargins c mesh step
   unfolding mesh step marginOf caseVerdict
