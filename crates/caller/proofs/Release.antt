@@ -1,25 +1,47 @@
--- A right row that is safe is so of the exact values.
+-- A right row that is safe is so of the exact values; what is no safe row is not released.
 -- Assumes nothing.
 use Prim.Native.Nat.{ℕ}
-use mathlib.Core.Path.{_≡_, sym, _∙_}
+use mathlib.Core.Path.{_≡_, refl, sym, _∙_}
 use mathlib.Core.Bool.{true, false}
 use native.Mathlib.Omega.{arith}
 use Rattle.case.specs.declared.Case.{Case}
 use Rattle.row.specs.declared.Row.{Row}
-use Rattle.row.specs.declared.Verdict.the-variants.{Safe}
+use Rattle.row.specs.declared.Verdict.{Verdict}
+use Rattle.row.specs.declared.Verdict.the-variants.{Safe, Unsafe, Undecided}
 use Rattle.row.specs.Row.{RightRow}
 use Rattle.hocsimbur.specs.declared.RowAnswer.{RowAnswer}
-use Rattle.hocsimbur.specs.declared.RowAnswer.the-variants.{Is}
-use Rattle.hocsimbur.specs.Asked.{RightAnswer, RowAnswered}
+use Rattle.hocsimbur.specs.declared.RowAnswer.the-variants.{Is, Refused}
+use Rattle.hocsimbur.specs.Asked.{RightAnswer, rowAnswer, RowAnswered}
 use Rattle.caller.specs.Release.{Released}
 
-pub not-released : (c : Case) → Released c false
-not-released c =
-    record { touch = λ e. let z : _≡_ {A = ℕ} 0 1 = cc in absurd (omega arith); step = λ e. let z : _≡_ {A = ℕ} 0 1 = cc in absurd (omega arith) }
+-- not released, where no row of the answer is safe
+held : (c : Case) → ((row : Row) → rowAnswer c ≡ Is row → row .verdict ≡ Safe → ⊥) → Released c false
+held c none =
+    record {
+      touch = λ e. let z : _≡_ {A = ℕ} 0 1 = cc in absurd (omega arith);
+      step = λ e. let z : _≡_ {A = ℕ} 0 1 = cc in absurd (omega arith);
+      none-held-back = λ row e s. absurd (none row e s);
+    }
 
-pub released : (c : Case) (r : RowAnswer) (row : Row) → RowAnswered c r → r ≡ Is row → row .verdict ≡ Safe → Released c true
-unfolding RightAnswer
-released c r row a e s =
-    let right : RightRow c row = rw e at (a .right) in
-    let safe = right .safe-true (sym (right .verdict) ∙ s) in
-    record { touch = λ t. safe .0; step = λ t. safe .1 }
+module _ {c : Case} {r : RowAnswer} (a : RowAnswered c r) where
+  pub refused-held : {number line column : ℕ} → r ≡ Refused number line column → Released c false
+  refused-held {number} {line} {column} q =
+      held c (λ row e s. let k : Is row ≡ Refused number line column = sym e ∙ sym (a .answer) ∙ q in let z : _≡_ {A = ℕ} 0 1 = cc in omega arith)
+
+  module _ {row : Row} (q : r ≡ Is row) where
+    pub verdict-held : (v : Verdict) → row .verdict ≡ v → (v ≡ Safe → ⊥) → Released c false
+    verdict-held v t n =
+        held c (λ other e s. let k : Is row ≡ Is other = sym q ∙ a .answer ∙ e in let same : row ≡ other = cc in n (sym t ∙ (rw same s)))
+
+    pub released : row .verdict ≡ Safe → Released c true
+    unfolding RightAnswer
+    released s =
+        let right : RightRow c row = rw q at (a .right) in
+        let safe = right .safe-true (sym (right .verdict) ∙ s) in
+        record { touch = λ t. safe .0; step = λ t. safe .1; none-held-back = λ other e v. refl }
+
+pub not-unsafe : Unsafe ≡ Safe → ⊥
+not-unsafe e = let z : _≡_ {A = ℕ} 0 1 = cc in omega arith
+
+pub not-undecided : Undecided ≡ Safe → ⊥
+not-undecided e = let z : _≡_ {A = ℕ} 0 1 = cc in omega arith

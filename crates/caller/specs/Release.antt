@@ -1,4 +1,4 @@
--- A yard that may be released is safe of its exact voltages.
+-- A yard that may be released is safe of its exact voltages, and no yard answered safe is held back.
 -- Assumes nothing.
 use mathlib.Core.Path.{_≡_}
 use mathlib.Core.Bool.{Bool, true}
@@ -7,7 +7,12 @@ use Rattle.case.specs.declared.Case.{Case}
 use Rattle.formulas.specs.Mesh as Mesh
 use Rattle.formulas.specs.Step as Step
 use Rattle.formulas.specs.Tolerable.{tolerableTouch, tolerableStep}
+use Rattle.row.specs.declared.Row.{Row}
+use Rattle.row.specs.declared.Verdict.the-variants.{Safe}
+use Rattle.hocsimbur.specs.declared.RowAnswer.the-variants.{Is}
+use Rattle.hocsimbur.specs.Asked.{rowAnswer}
 
 pub record Released (c : Case) (r : Bool) : Type 0 where
   pub touch : r ≡ true → AtOrBelow (Mesh.mesh c) (tolerableTouch c)
   pub step : r ≡ true → AtOrBelow (Step.step c) (tolerableStep c)
+  pub none-held-back : (row : Row) → rowAnswer c ≡ Is row → row .verdict ≡ Safe → r ≡ true

@@ -15,6 +15,7 @@ pub fn may_release(c: Case) -> bool
     let verdict = row.verdict;
     match verdict {
         Verdict::Safe => true,
-        _ => false,
+        Verdict::Unsafe => false,
+        Verdict::Undecided => false,
     }
 }
