@@ -6,3 +6,4 @@ pub mod Order
 pub mod Parts
 pub mod Examples
 pub mod Fault
+pub mod Key

@@ -1,5 +1,5 @@
 -- π. Document 01, 'What exact means': "π is 16·arctan(1/5) − 4·arctan(1/239), each by its alternating series, 2k terms from below
--- and 2k+1 terms from above."
+-- and 2k+1 from above."
 -- Assumes nothing.
 use Prim.Native.Nat.{ℕ, zero, suc, _+_, _*_, _^_}
 use Rattle.exact.specs.Fraction.{Fraction, whole, _−f_, inv}

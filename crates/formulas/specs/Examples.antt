@@ -21,7 +21,7 @@ metals : map (λ metal. sizeOf 20000 1000 metal 1000000000) (1 ∷ 2 ∷ 3 ∷ 4
 unfolding sizeOf
 metals = refl
 
--- the asymmetrical current sizes the conductor: a factor of 1, 1.576 and 1.688 at 80,000 A and 9 ms; just enough, and a billionth more
+-- the asymmetrical current sizes the conductor: a factor of 1, and of 1.576 and 1.688 (those of Table 10 for 8.33 ms), at 80,000 A and 9 ms; just enough, and a billionth more
 asymmetrical : map (sizeOf 80000 9 11) (1000000000 ∷ 1576000000 ∷ 1688000000 ∷ []) ∷ map (sizeOf 20000 1000 1) (1000000000 ∷ 1000000001 ∷ []) ∷ []
     ≡ (229 ∷ 360 ∷ 385 ∷ []) ∷ (140 ∷ 141 ∷ []) ∷ []
 unfolding sizeOf

@@ -3,10 +3,9 @@ mod decide;
 mod put;
 mod work;
 
-pub use decide::verdict_number;
-pub use decide::verdict_of;
 use interval::Interval;
 pub use put::put_row;
+pub use put::row_numbers;
 pub use work::work_row;
 
 // How many numbers a row has.

@@ -7,7 +7,7 @@ use crate::Row;
 use crate::decide::verdict_number;
 
 // The numbers in the table's order.
-fn row_numbers(r: Row) -> [i64; ROW_LENGTH]
+pub fn row_numbers(r: Row) -> [i64; ROW_LENGTH]
     ensures { λ a. ⌜ a ≡ numbers r ⌝ }
 {
     let verdict = r.verdict;

@@ -7,7 +7,7 @@ use judgement::Judgement;
 use judgement::VALUES;
 use judgement::read;
 use row::ROW_LENGTH;
-pub use rows::write_rows;
+use rows::write_rows;
 
 // The count of rows, or a refusal with number, line and column.
 pub enum Answer {

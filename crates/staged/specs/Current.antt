@@ -11,7 +11,7 @@ everyOther [] = []
 everyOther (z ∷ []) = z ∷ []
 everyOther (z ∷ w ∷ s) = z ∷ everyOther s
 
--- "in-phase and quadrature parts .., the injected pair first, then 1 to 16 branch pairs"
+-- "in-phase and quadrature parts in signed milliamperes, the injected pair first, then 1 to 16 branch pairs"
 unfoldable pub inPhase : List ℤ → List ℤ
 inPhase s = everyOther s
 

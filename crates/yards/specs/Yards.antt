@@ -25,7 +25,7 @@ spaceRange = rangeAt columns (nameIndex columns (bytes "space"))
 unfoldable pub fits : ℕ → ℕ → Bool
 fits side lines = eqb (side % (lines - 1)) 0 && inRange spaceRange (spacing side lines)
 
--- the case with a yard's lines and rods at the perimeter; "a yard without rods has rod length and place 0"
+-- the case with a yard's lines and rods at the perimeter; "A yard without rods has rod length and place 0."
 unfoldable pub yard : Case → ℕ → ℕ → ℕ → Case
 yard c side lines rods =
     record {
@@ -82,6 +82,6 @@ meansSafe Undecided = false
 unfoldable pub isSafe : Case → Bool
 isSafe c = meansSafe (caseVerdict c)
 
--- "the case's own counts, spacing, rods and place are not read, nor compared with rodlen": a yard that agrees with the rod length in their stead
+-- "The case's own counts, spacing, rods and place are not read, nor compared with rodlen": a yard that agrees with the rod length in their stead
 unfoldable pub trial : Case → Case
 trial c = cond (eqb (c .rodlen) 0) (yard c 2500 2 0) (yard c 2500 2 4)
