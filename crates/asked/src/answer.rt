@@ -8,8 +8,6 @@ use hocsimbur::RowAnswer;
 use hocsimbur::Tolerable;
 use print::bytes;
 use print::refused;
-use row::ROW_LENGTH;
-use row::put_row;
 
 // No question has this kind, or not with these numbers.
 pub fn unknown() {
@@ -54,8 +52,7 @@ pub fn voltages(answer: Tolerable) {
 }
 
 fn whole(row: Row) {
-    let mut numbers = [0i64; ROW_LENGTH];
-    put_row(row, &mut numbers);
+    let numbers = hocsimbur::row_numbers(row);
     listing::numbers(&numbers);
 }
 

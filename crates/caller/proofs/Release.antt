@@ -18,6 +18,7 @@ use Rattle.caller.specs.Release.{Released}
 held : (c : Case) → ((row : Row) → rowAnswer c ≡ Is row → row .verdict ≡ Safe → ⊥) → Released c false
 held c none =
     record {
+      safe = λ e. let z : _≡_ {A = ℕ} 0 1 = cc in absurd (omega arith);
       touch = λ e. let z : _≡_ {A = ℕ} 0 1 = cc in absurd (omega arith);
       step = λ e. let z : _≡_ {A = ℕ} 0 1 = cc in absurd (omega arith);
       none-held-back = λ row e s. absurd (none row e s);
@@ -38,7 +39,12 @@ module _ {c : Case} {r : RowAnswer} (a : RowAnswered c r) where
     released s =
         let right : RightRow c row = rw q at (a .right) in
         let safe = right .safe-true (sym (right .verdict) ∙ s) in
-        record { touch = λ t. safe .0; step = λ t. safe .1; none-held-back = λ other e v. refl }
+        record {
+          safe = λ t. record { row = row; is = sym (a .answer) ∙ q; verdict = s };
+          touch = λ t. safe .0;
+          step = λ t. safe .1;
+          none-held-back = λ other e v. refl;
+        }
 
 pub not-unsafe : Unsafe ≡ Safe → ⊥
 not-unsafe e = let z : _≡_ {A = ℕ} 0 1 = cc in omega arith

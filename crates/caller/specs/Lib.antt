@@ -1,1 +1,3 @@
 pub mod Release
+pub mod Later
+pub mod Margins

@@ -1,4 +1,4 @@
--- A yard that may be released is safe of its exact voltages, and no yard answered safe is held back.
+-- A yard that may be released is answered safe and safe of its exact voltages, and no yard answered safe is held back.
 -- Assumes nothing.
 use mathlib.Core.Path.{_≡_}
 use mathlib.Core.Bool.{Bool, true}
@@ -10,9 +10,10 @@ use Rattle.formulas.specs.Tolerable.{tolerableTouch, tolerableStep}
 use Rattle.row.specs.declared.Row.{Row}
 use Rattle.row.specs.declared.Verdict.the-variants.{Safe}
 use Rattle.hocsimbur.specs.declared.RowAnswer.the-variants.{Is}
-use Rattle.hocsimbur.specs.Asked.{rowAnswer}
+use Rattle.hocsimbur.specs.Asked.{rowAnswer, AnsweredWith}
 
 pub record Released (c : Case) (r : Bool) : Type 0 where
+  pub safe : r ≡ true → AnsweredWith Safe (rowAnswer c)
   pub touch : r ≡ true → AtOrBelow (Mesh.mesh c) (tolerableTouch c)
   pub step : r ≡ true → AtOrBelow (Step.step c) (tolerableStep c)
   pub none-held-back : (row : Row) → rowAnswer c ≡ Is row → row .verdict ≡ Safe → r ≡ true

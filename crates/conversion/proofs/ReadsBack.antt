@@ -26,10 +26,10 @@ use Rattle.line.specs.Line.{wrongForm, lineValues}
 use Rattle.judgement.specs.declared.Judgement.{Judgement}
 use Rattle.judgement.specs.declared.Judgement.the-variants.{Lines}
 use Rattle.judgement.specs.declared.LineFinding.the-variants as line
-use Rattle.judgement.specs.Limits.{mostBytes, mostLines}
+use Rattle.judgement.specs.Limits.{today, mostBytes, mostLines}
 use Rattle.judgement.specs.Refusal.{lineJudgement}
 use Rattle.judgement.specs.Findings.{orFinding, repeats, lineFinding}
-use Rattle.judgement.specs.Sheet.{names, valueLines, badText, linesJudgement, valuesJudgement, namesJudgement, judgement}
+use Rattle.judgement.specs.Sheet.{names, valueLines, badText, linesJudgement, valuesJudgement, namesJudgement, judgementWithin, judgement}
 use Rattle.writing.specs.Decimal.{decimal}
 use Rattle.writing.specs.Text.{moreFields, parted, ended, textOf, valueLine, sheetText, lacks, allLack, allValues}
 use Rattle.writing.proofs.Decimal.{decimal-is-value}
@@ -141,7 +141,7 @@ module _ (form : CodeForm) (vs : List (List ℕ)) (s : SoundCases (formOf form) 
   unfolding sheetOf
   lines-are = sheet-lines (formNames form) vs (names-plain form .ends)
 
-  names-are : names text ≡ formNames form
+  pub names-are : names text ≡ formNames form
   unfolding names sheetOf
   names-are = sheet-back (formNames form) (length (formOf form)) vs (names-plain form) (some-names form) (all-lines form [] vs s) .names-are
 
@@ -156,7 +156,7 @@ module _ (form : CodeForm) (vs : List (List ℕ)) (s : SoundCases (formOf form) 
       let k : 7 * length (formOf form) * length vs ≤ 7 * nameCount * mostLines = omega (arith, mul-le-mul (form-most form) h) in
       omega (arith, sheet-most (formNames form) (length (formOf form)) vs (some-names form) (all-lines form [] vs s), names-short form)
 
-  text-right : length vs ≤ mostLines → badText text ≡ false
+  text-right : length vs ≤ mostLines → badText today text ≡ false
   unfolding badText sheetOf sheetText
   text-right h =
       let l = last-byte (parted (formNames form)) (map valueLine vs) in
@@ -168,7 +168,7 @@ module _ (form : CodeForm) (vs : List (List ℕ)) (s : SoundCases (formOf form) 
   cases-back = rw (names-are, names-columns form, values-are) (lines-cases form [] vs s)
 
   pub accepted-back : 1 ≤ length vs → length vs ≤ mostLines → judgement (formOf form) text ≡ Lines (length vs)
-  unfolding judgement namesJudgement valuesJudgement
+  unfolding judgement judgementWithin namesJudgement valuesJudgement
   accepted-back some most =
       let n : length (map valueLine vs) ≡ length vs = length-map vs valueLine in
       rw (text-right most, names-are, names-sound form, names-columns form, values-are, n, ne-eqb (length vs) 0 (λ e. omega (arith, e)), le-ltb mostLines (length vs) most)

@@ -11,7 +11,7 @@ use Rattle.case.specs.declared.Form.the-variants.{Present, Former}
 use Rattle.case.specs.Parts.{formOf}
 use Rattle.judgement.specs.declared.Judgement.the-variants.{Lines}
 use Rattle.judgement.specs.Limits.{mostBytes}
-use Rattle.judgement.specs.Sheet.{judgement}
+use Rattle.judgement.specs.Sheet.{names, judgement}
 use Rattle.judgement.specs.Accepted.{Accepted}
 use Rattle.judgement.proofs.Accepted.{accepted}
 use Rattle.judgement.proofs.StoredLines.{values-count}
@@ -19,7 +19,7 @@ use Rattle.conversion.specs.Values.{other, carried}
 use Rattle.conversion.specs.Sheet.{casesIn}
 use Rattle.conversion.specs.Answer.{changes, carriedText}
 use Rattle.conversion.proofs.SoundCases.{SoundCases, accepted-cases, carried-cases}
-use Rattle.conversion.proofs.ReadsBack.{text-short, cases-back, accepted-back}
+use Rattle.conversion.proofs.ReadsBack.{names-are, text-short, cases-back, accepted-back}
 use Rattle.conversion.proofs.Restored.{restored, nothing-left-out}
 
 other-twice : (form : Form) → other (other form) ≡ form
@@ -52,6 +52,11 @@ module _ (form : Form) (s : List ℕ) (n : ℕ) (e : judgement (formOf (other fo
   unfolding carriedText
   carried-accepted =
       accepted-back form (map (carried form) (casesIn (formOf (other form)) s)) made (omega (arith, count, source .some)) (omega (arith, count, source .most)) ∙ ap Lines count
+
+  -- its names are the form's, in the form's order
+  pub carried-names : names (carriedText form s) ≡ map (λ c. c .name) (formOf form)
+  unfolding carriedText
+  carried-names = names-are form (map (carried form) (casesIn (formOf (other form)) s)) made
 
   -- and no longer than a sheet may be
   pub carried-short : length (carriedText form s) ≤ mostBytes

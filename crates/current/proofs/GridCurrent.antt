@@ -60,6 +60,12 @@ module _ {c : Case} (b : Bounds c) where
       let k = entering-bounds in
       span-wider (span-scaled (c .fault * c .split) (factor-span b)) (omega (arith, k .low)) (omega (arith, k .high)) (omega (arith, k .high))
 
+  pub current-encloses : Encloses (IG c) μA (currentEnds c)
+  unfolding IG currentEnds μA billionths ten
+  current-encloses =
+      encloses-outward {u = ten 12} (ten 6) (10 ^ 6) refl
+      (encloses-multiple (c .fault * c .split) (ten 3) (ten 12) refl (entering-is (c .fault) (c .split)) (consistent-Df b) (encloses-Df b))
+
   -- from 0.1 A to 178,885.44 A
   pub current-span : Span (currentEnds c) 100000 178885440000 40001
   unfolding currentEnds
@@ -77,12 +83,6 @@ module _ {c : Case} (b : Bounds c) where
         is = rw (s .is, natural-scaled (s .a) (s .b) k) (natural-outward (s .a * k) (s .b * k) (lit< tt));
         near = near k (s .a) (s .b) _ _ (s .near) (s .from) (ceilDiv-below (s .b * k) (lit< tt)) (floorDiv-above (s .a * k) (lit< tt));
       }
-
-  pub current-encloses : Encloses (IG c) μA (currentEnds c)
-  unfolding IG currentEnds μA billionths ten
-  current-encloses =
-      encloses-outward {u = ten 12} (ten 6) (10 ^ 6) refl
-      (encloses-multiple (c .fault * c .split) (ten 3) (ten 12) refl (entering-is (c .fault) (c .split)) (consistent-Df b) (encloses-Df b))
 
   pub current-reports : Reports (IG c) μA currentWidth (currentEnds c)
   current-reports =

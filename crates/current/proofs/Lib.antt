@@ -3,5 +3,4 @@ pub mod Smallest
 pub mod WholeRoot
 pub mod GridCurrent
 pub mod Metals
-pub mod Yards
 pub mod LessFault

@@ -2,4 +2,3 @@ pub mod Spans
 pub mod Widths
 pub mod Enclosed
 pub mod Right
-pub mod Computed

@@ -11,9 +11,8 @@ use Rattle.exact.specs.Fraction.{Fraction, _≤f_, _<f_, _≈f_, whole, decimal
 use Rattle.exact.specs.Exact.{exactly, _·x_, _÷x_}
 use Rattle.exact.specs.Reported.{ten, over}
 use Rattle.exact.proofs.Order.{trans≤, refl≤, refl≈, le-of-lt, whole≤, whole-pos, nonneg}
-use Rattle.exact.proofs.Products.{mul≤, one-mul}
+use Rattle.exact.proofs.Products.{mul≤}
 use Rattle.exact.proofs.Divisors.{expand}
-use Rattle.exact.proofs.Quotients.{div≤}
 use Rattle.exact.proofs.Powers.{square}
 use Rattle.exact.proofs.Consistency.{consistent-exactly}
 use Rattle.exact.proofs.Roots.{consistent-root}
@@ -23,7 +22,7 @@ use Rattle.exact.proofs.Quantity.{Quantity, quantity-exactly, quantity-product,
 use Rattle.case.specs.declared.Case.{Case}
 use Rattle.case.specs.Bounds.{Bounds}
 use Rattle.formulas.specs.Lengths.{D, Lx, Ly, Lp, area, equalCounts, √area, s, na, nb, n}
-use Rattle.formulas.proofs.Positive.{decimal-pos, one-thousandth, Lx-pos, area-least, Lp-pos, na-least, na-pos}
+use Rattle.formulas.proofs.Positive.{decimal-pos, one-thousandth, add-pos, Lx-pos, Ly-pos, area-least, Lp-pos, na-least, na-pos}
 
 -- a definition by two cases
 pub by-place : {A : Type 0} (P : A → Type 0) (b : Bool) {x y : A} → (b ≡ true → P x) → (b ≡ false → P y) → P (cond b x y)
@@ -36,25 +35,23 @@ pub by-both : {A B : Type 0} (P : A → B → Type 0) (t : Bool) {x y : A} {x′
 by-both P true f g = f refl
 by-both P false f g = g refl
 
--- ---- the root of the area is not above the perimeter
+-- ---- the root of the area is not above half the perimeter
 
 -- x and y in millimetres
-area-below : (x y : ℕ) → 1 ≤ x → 1 ≤ y → 1000 ^ 2 * (x * y) < (2 * (x + y)) ^ 2 * 10 ^ 6
-area-below x y p q = rw (square (2 * (x + y))) (omega (arith, mul-le-mul p p))
+area-below : (x y : ℕ) → 1 ≤ x → 1 ≤ y → 1000 ^ 2 * (x * y) < (x + y) ^ 2 * 10 ^ 6
+area-below x y p q = rw (square (x + y)) (omega (arith, mul-le-mul p p))
 
 top-decimal : (m e : ℕ) → top (decimal m e) ≡ m
 unfolding top decimal
 top-decimal m e = omega arith
 
--- q over 4q
-quarter : {q : Fraction} → whole 0 <f q → decimal 25 2 ≤f q ÷f (whole 4 ·f q)
+-- 2q over 4q
+half-ratio : {q : Fraction} → whole 0 <f q → decimal 5 1 ≤f (whole 2 ·f q) ÷f (whole 4 ·f q)
 unfolding decimal whole inv _÷f_ _·f_
-quarter {q} p =
-    let e : whole 1 ÷f whole 4 ≈f (whole 1 ·f q) ÷f (whole 4 ·f q) = expand (whole 1) (whole-pos (omega arith)) p (refl≈ _) in
-    trans≤ fourth (trans≤ (e .to) (div≤ (whole 4 ·f q) (one-mul q .to)))
+half-ratio {q} p = trans≤ half (expand (whole 2) (whole-pos (omega arith)) p (refl≈ _) .to)
   where
-    fourth : decimal 25 2 ≤f whole 1 ÷f whole 4
-    fourth = record { le = lit≤ tt }
+    half : decimal 5 1 ≤f whole 2 ÷f whole 4
+    half = record { le = lit≤ tt }
 
 half-pos : whole 0 <f decimal 5 1
 half-pos = decimal-pos 1 (omega arith)
@@ -81,9 +78,9 @@ module _ {c : Case} (b : Bounds c) where
   unfolding y
   y-pos = nat-pos (omega (arith, b .along .low)) (omega (arith, b .space .low))
 
-  perimeter-is : Lp c ≈f over (pos (2 * (x + y))) (ten 3)
-  unfolding Lp Lx Ly D x y whole decimal over ten _+f_ _·f_
-  perimeter-is = omega arith
+  half-perimeter : Lx c +f Ly c ≈f over (pos (x + y)) (ten 3)
+  unfolding Lx Ly D x y whole decimal over ten _+f_ _·f_
+  half-perimeter = omega arith
 
   area-is : area c ≈f decimal (x * y) 6
   unfolding area Lx Ly D x y whole decimal _·f_
@@ -93,16 +90,16 @@ module _ {c : Case} (b : Bounds c) where
   unfolding √area
   quantity-√area = quantity-root 2 (omega arith) (one-thousandth (area-least b))
 
-  √area-high : NotAbove (Lp c) (√area c)
+  √area-high : NotAbove (Lx c +f Ly c) (√area c)
   unfolding √area exactly ten decimal
   √area-high =
-      let below : 1000 ^ 2 * (x * y) < (2 * (x + y)) ^ 2 * 10 ^ 6 = area-below x y x-pos y-pos in
+      let below : 1000 ^ 2 * (x * y) < (x + y) ^ 2 * 10 ^ 6 = area-below x y x-pos y-pos in
       record {
         most = λ k d.
             trans≤
-            (not-above-root 2 (decimal (x * y) 6) (2 * (x + y)) (omega arith) (rw (top-decimal (x * y) 6) below)
+            (not-above-root 2 (decimal (x * y) 6) (x + y) (omega arith) (rw (top-decimal (x * y) 6) below)
             (record { most = λ j e. area-is .to }) .most k d)
-            (perimeter-is .fro);
+            (half-perimeter .fro);
       }
 
   -- ---- nb
@@ -113,12 +110,13 @@ module _ {c : Case} (b : Bounds c) where
   pub quantity-ratio : Quantity (exactly (Lp c) ÷x (exactly (whole 4) ·x √area c))
   quantity-ratio = quantity-quotient (quantity-exactly (Lp-pos b)) quantity-divisor
 
-  -- Lp/(4·√area) is at least a quarter
-  ratio-least : AtLeast (decimal 25 2) (exactly (Lp c) ÷x (exactly (whole 4) ·x √area c))
+  -- Lp/(4·√area) is at least a half
+  ratio-least : AtLeast (decimal 5 1) (exactly (Lp c) ÷x (exactly (whole 4) ·x √area c))
+  unfolding Lp
   ratio-least =
       record {
         least = λ k d.
-            trans≤ (quarter (Lp-pos b))
+            trans≤ (half-ratio (add-pos (Lx-pos b) (le-of-lt (Ly-pos b))))
             (at-least-quotient (le-of-lt (Lp-pos b)) (consistent-exactly (Lp c)) (quantity-divisor .consistent) (quantity-divisor .positive)
             (at-least-exactly (refl≤ (Lp c))) (not-above-times (whole 4) (nonneg 4) (quantity-√area .consistent) √area-high) .least k d);
       }
@@ -128,14 +126,14 @@ module _ {c : Case} (b : Bounds c) where
   nb-least =
       record {
         least = λ k d.
-            trans≤ (record { le = lit≤ tt }) (at-least-root 2 (decimal 25 2) 500 (omega arith) (lit≤ tt) ratio-least .least k d);
+            trans≤ (record { le = lit≤ tt }) (at-least-root _ (decimal 5 1) 500 (omega arith) (lit≤ tt) ratio-least .least k d);
       }
 
   pub quantity-nb : Quantity (nb c)
   unfolding nb
   quantity-nb =
       record {
-        consistent = consistent-root 2 (omega arith) (quantity-ratio .consistent);
+        consistent = consistent-root _ (omega arith) (quantity-ratio .consistent);
         positive = positive-at-least half-pos nb-least;
       }
 

@@ -8,3 +8,11 @@ pub mod Consistent
 pub mod Square
 pub mod Size
 pub mod Widths
+pub mod ReportedSize
+pub mod Known
+pub mod KnownFunctions
+pub mod KnownFactor
+pub mod KnownGrid
+pub mod SampleYard
+pub mod RectangleYard
+pub mod Yards

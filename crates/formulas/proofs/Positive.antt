@@ -149,7 +149,7 @@ module _ {c : Case} (b : Bounds c) where
 
   pub LS-pos : whole 0 <f LS c
   unfolding LS
-  LS-pos = add-pos (mul-pos (decimal-pos 2 (omega arith)) Lc-pos) (mul-nonneg (decimal-nonneg 85 2) LR-nonneg)
+  LS-pos = add-pos (mul-pos (decimal-pos 2 (omega arith)) Lc-pos) (mul-nonneg (decimal-nonneg _ 2) LR-nonneg)
 
   pub G′-pos : whole 0 <f G′ c
   unfolding G′

@@ -4,7 +4,7 @@ use mathlib.Core.Path.{_≡_}
 use mathlib.Core.Bool.{true}
 use native.Mathlib.Omega.{arith}
 use lib.Dec.{lit<, eqb, eqb→eq}
-use Rattle.exact.specs.Fraction.{_<f_, whole, decimal, _·f_}
+use Rattle.exact.specs.Fraction.{Fraction, _<f_, whole, decimal, _·f_}
 use Rattle.exact.specs.Exact.{exactly, _+x_, _−x_, _·x_, _÷x_}
 use Rattle.exact.specs.Logarithm.{ln}
 use Rattle.exact.specs.Depth.{Consistent}
@@ -16,7 +16,7 @@ use Rattle.exact.proofs.Products.{mul-pos}
 use Rattle.exact.proofs.Consistency.{consistent-exactly, consistent-difference, consistent-product, consistent-minus}
 use Rattle.exact.proofs.Logarithm.{consistent-ln}
 use Rattle.exact.proofs.Exponential.{consistent-exp, positive-exp}
-use Rattle.exact.proofs.Positive.{at-least-times, positive-less}
+use Rattle.exact.proofs.Positive.{at-least-times, positive-exactly, positive-less}
 use Rattle.exact.proofs.Quantity.{Quantity, quantity-exactly, quantity-sum, quantity-product, quantity-quotient, quantity-root, quantity-π}
 use Rattle.case.specs.declared.Case.{Case}
 use Rattle.case.specs.Bounds.{Bounds, Rodded}
@@ -69,16 +69,25 @@ module _ {c : Case} (b : Bounds c) where
   pub twice-n : Quantity (exactly (whole 2) ·x n c)
   twice-n = quantity-product two (quantity-n b)
 
+  -- (p/n)·ln(q·n)
+  pub consistent-logarithm : {p q : Fraction} → whole 0 <f p → whole 0 <f q → Consistent (exactly p ÷x n c ·x ln (exactly q ·x n c))
+  consistent-logarithm p q =
+      let m = quantity-product (quantity-exactly q) (quantity-n b) in
+      consistent-product (quantity-quotient (quantity-exactly p) (quantity-n b) .consistent) (consistent-ln (m .positive) (m .consistent))
+
   -- (2/n)·ln(2n)
   pub consistent-inner : Consistent (exactly (whole 2) ÷x n c ·x ln (exactly (whole 2) ·x n c))
-  consistent-inner =
-      consistent-product (quantity-quotient two (quantity-n b) .consistent) (consistent-ln (twice-n .positive) (twice-n .consistent))
+  consistent-inner = consistent-logarithm (whole-pos (omega arith)) (whole-pos (omega arith))
 
   pub quantity-innerWeight : Quantity (innerWeight c)
   unfolding innerWeight
   quantity-innerWeight =
       by-place Quantity (equalCounts c) (λ e. quantity-quotient one quantity-line-root)
-      (λ e. record { consistent = consistent-exp (consistent-minus consistent-inner); positive = positive-exp _ })
+      (λ e.
+      record {
+        consistent = consistent-exp (consistent-minus (consistent-logarithm (whole-pos (omega arith)) (whole-pos (omega arith))));
+        positive = positive-exp _;
+      })
 
   pub quantity-Kii : Quantity (Kii c)
   unfolding Kii
@@ -101,15 +110,19 @@ module _ {c : Case} (b : Bounds c) where
 
   -- ---- 0.5^(n−2)
 
+  -- (n − p)·ln q
+  pub consistent-halvings : (p : Fraction) {q : Fraction} → whole 0 <f q → Consistent ((n c −x exactly p) ·x ln (exactly q))
+  consistent-halvings p {q} l =
+      consistent-product (consistent-difference (quantity-n b .consistent) (consistent-exactly p))
+      (consistent-ln (positive-exactly l) (consistent-exactly q))
+
   pub consistent-half-exponent : Consistent ((n c −x exactly (whole 2)) ·x ln (exactly (whole 2)))
-  consistent-half-exponent =
-      consistent-product (consistent-difference (quantity-n b .consistent) (consistent-exactly (whole 2)))
-      (consistent-ln (two .positive) (two .consistent))
+  consistent-half-exponent = consistent-halvings (whole 2) (whole-pos (omega arith))
 
   pub consistent-halfPower : Consistent (halfPower c)
   unfolding halfPower
   consistent-halfPower =
-      by-place Consistent (equalCounts c) (λ e. consistent-exactly _) (λ e. consistent-exp (consistent-minus consistent-half-exponent))
+      by-place Consistent (equalCounts c) (λ e. consistent-exactly _) (λ e. consistent-exp (consistent-minus (consistent-halvings _ (whole-pos (omega arith)))))
 
   -- ---- LM
 
@@ -117,11 +130,13 @@ module _ {c : Case} (b : Bounds c) where
   unfolding diagonal
   quantity-diagonal = quantity-root 2 (omega arith) (one-thousandth (diagonal-least b))
 
+  -- p + q·Lr/diagonal
+  weighted : {p q : Fraction} → whole 0 <f p → whole 0 <f q → Rodded c → Quantity (exactly p +x exactly (q ·f Lr c) ÷x diagonal c)
+  weighted p q r = quantity-sum (quantity-exactly p) (quantity-quotient (quantity-exactly (mul-pos q (Lr-pos r))) quantity-diagonal)
+
   pub quantity-weight : Rodded c
       → Quantity (exactly (decimal 155 2) +x exactly (decimal 122 2 ·f Lr c) ÷x diagonal c)
-  quantity-weight r =
-      quantity-sum (quantity-exactly (decimal-pos 2 (omega arith)))
-      (quantity-quotient (quantity-exactly (mul-pos (decimal-pos 2 (omega arith)) (Lr-pos r))) quantity-diagonal)
+  quantity-weight r = weighted (decimal-pos 2 (omega arith)) (decimal-pos 2 (omega arith)) r
 
   pub place-rodded : eqb (c .place) 1 ≡ true → Rodded c
   place-rodded e = rodded b (eqb→eq (c .place) 1 (rw e tt))
@@ -132,5 +147,5 @@ module _ {c : Case} (b : Bounds c) where
       by-place Quantity (eqb (c .place) 1)
       (λ e.
       let r = place-rodded e in
-      quantity-sum (quantity-exactly (Lc-pos b)) (quantity-product (quantity-weight r) (quantity-exactly (LR-pos r))))
+      quantity-sum (quantity-exactly (Lc-pos b)) (quantity-product (weighted (decimal-pos 2 (omega arith)) (decimal-pos 2 (omega arith)) r) (quantity-exactly (LR-pos r))))
       (λ e. quantity-exactly (LT-pos b))

@@ -39,19 +39,19 @@ module _ (c : Case) (e : c .across ≡ c .along) where
 
   -- ---- n, s, the inner weight and the half-power
 
-  n-whole : n c ≡ exactly (whole (c .across))
+  pub n-whole : n c ≡ exactly (whole (c .across))
   unfolding n
   n-whole = rw equal
 
-  s-side : s c ≡ exactly (Lx c)
+  pub s-side : s c ≡ exactly (Lx c)
   unfolding s
   s-side = rw equal
 
-  weight-root : innerWeight c ≡ exactly (whole 1) ÷x root (c .across) (exactly (whole 4 ·f whole (c .across) ·f whole (c .across)))
+  pub weight-root : innerWeight c ≡ exactly (whole 1) ÷x root (c .across) (exactly (whole 4 ·f whole (c .across) ·f whole (c .across)))
   unfolding innerWeight
   weight-root = rw equal
 
-  half-power : halfPower c ≡ exactly (inv (whole (2 ^ (c .across - 2))))
+  pub half-power : halfPower c ≡ exactly (inv (whole (2 ^ (c .across - 2))))
   unfolding halfPower
   half-power = rw equal
 
@@ -61,18 +61,18 @@ module _ (c : Case) (e : c .across ≡ c .along) where
   unfolding Lx Ly
   sides = ap (λ m. whole (m - 1) ·f D c) (sym e)
 
-  conductors : Lc c ≈f whole 2 ·f whole (c .across) ·f Lx c
+  pub conductors : Lc c ≈f whole 2 ·f whole (c .across) ·f Lx c
   unfolding Lc
   conductors =
       subst (λ y. whole (c .across) ·f y +f whole (c .along) ·f Lx c ≈f whole 2 ·f whole (c .across) ·f Lx c) (sym sides)
       (subst (λ m. whole (c .across) ·f Lx c +f whole m ·f Lx c ≈f whole 2 ·f whole (c .across) ·f Lx c) e (doubled (c .across) (Lx c)))
 
-  diagonal-square : (k : ℕ) → SameEnds (diagonal c k) (root 2 (exactly (whole 2 ·f (Lx c ·f Lx c))) k)
+  pub diagonal-square : (k : ℕ) → SameEnds (diagonal c k) (root 2 (exactly (whole 2 ·f (Lx c ·f Lx c))) k)
   unfolding diagonal
   diagonal-square k = rw sides (root-value 2 (lit≤ tt) (twice (Lx c ·f Lx c)) k)
 
   -- na is n, so that the widths refer to Ki of n
-  na-whole : Bounds c → na c ≈f whole (c .across)
+  pub na-whole : Bounds c → na c ≈f whole (c .across)
   unfolding na Lp _÷f_
   na-whole b =
       let m = whole (c .across) in

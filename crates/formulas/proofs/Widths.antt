@@ -10,26 +10,15 @@ use Rattle.exact.specs.Fraction.{Fraction, _≈f_, whole, decimal, _+f_, _·f_,
 use Rattle.exact.specs.Ends.{Ends}
 use Rattle.exact.specs.Reported.{ten, over, reported}
 use Rattle.case.specs.declared.Case.{Case}
-use Rattle.case.specs.Case.{caseOf}
 use Rattle.formulas.specs.Lengths.{ρ, D, Lr, Lx, Ly, Lc, Lp, LR, LT, na}
 use Rattle.formulas.specs.Step.{LS}
 use Rattle.formulas.specs.Width.{mV, μΩ, μA, billionths, factorWidth, currentWidth, tolerableWidth, resistanceWidth, riseWidth, referenceKi, meshWidth, stepWidth}
+use Rattle.formulas.specs.Yards.{grid, sample, rectangle}
 use Rattle.formulas.proofs.Tables.{Every}
 
--- the sample by its counts and its rods, their length and their place
-sampleWith : ℕ → ℕ → ℕ → ℕ → ℕ → Case
-sampleWith across along rods rodlen place =
-    caseOf (7 ∷ 1 ∷ 400 ∷ 2500 ∷ 102 ∷ 500 ∷ 500 ∷ 500 ∷ 70 ∷ 3180 ∷ 600 ∷ 10 ∷ across ∷ along ∷ 7000 ∷ 500 ∷ 100 ∷ rods ∷ rodlen ∷ place ∷ 1 ∷ 60 ∷ [])
-
-abbrev sample : Case
-sample = sampleWith 11 11 0 0 0
-
+-- the sample with twenty rods of 7.5 m along the perimeter
 abbrev rodded : Case
-rodded = sampleWith 11 11 20 7500 1
-
--- IEEE Std 80-2013, B.3: 63 m by 84 m, 38 rods of 10 m
-abbrev rectangle : Case
-rectangle = sampleWith 10 13 38 10000 1
+rodded = grid 11 11 20 7500 1
 
 -- a pair by its lower end, which counts; the upper end stands a little above
 abbrev from : ℕ → Interval
@@ -65,11 +54,11 @@ widths =
     -- with rods: over 1690 and over 1282.5
     ∷ worked (meshWidth rodded current) (whole 34239904 ÷f whole 1690000000)
     ∷ worked (stepWidth rodded current) (whole 30164904 ÷f whole 1282500000)
-    -- of the rectangle na is 79/7 and Ki of it 81/35: 1/100,000 of 400·81/35·1908 over 2039 and over 1567.25, and 10 mV
+    -- of IEEE Std 80-2013, B.3, na is 79/7 and Ki of it 81/35: 1/100,000 of 400·81/35·1908 over 2039 and over 1567.25, and 10 mV
     ∷ worked (meshWidth rectangle current) (whole 665921 ÷f whole 35682500)
     ∷ worked (stepWidth rectangle current) (whole 2333459 ÷f whole 109707500)
     ∷ []
 
 as-worked : Every (λ w. w .width ≈f w .number) widths
-unfolding widths sampleWith factorWidth currentWidth tolerableWidth resistanceWidth riseWidth meshWidth stepWidth referenceKi ρ D Lr Lx Ly Lc Lp LR LT na LS mV μΩ μA billionths reported ten over inv whole decimal _+f_ _·f_ _÷f_
+unfolding widths factorWidth currentWidth tolerableWidth resistanceWidth riseWidth meshWidth stepWidth referenceKi ρ D Lr Lx Ly Lc Lp LR LT na LS mV μΩ μA billionths reported ten over inv whole decimal _+f_ _·f_ _÷f_
 as-worked = (record { to = record { le = lit≤ tt }; fro = record { le = lit≤ tt } }, (record { to = record { le = lit≤ tt }; fro = record { le = lit≤ tt } }, (record { to = record { le = lit≤ tt }; fro = record { le = lit≤ tt } }, (record { to = record { le = lit≤ tt }; fro = record { le = lit≤ tt } }, (record { to = record { le = lit≤ tt }; fro = record { le = lit≤ tt } }, (record { to = record { le = lit≤ tt }; fro = record { le = lit≤ tt } }, (record { to = record { le = lit≤ tt }; fro = record { le = lit≤ tt } }, (record { to = record { le = lit≤ tt }; fro = record { le = lit≤ tt } }, (record { to = record { le = lit≤ tt }; fro = record { le = lit≤ tt } }, (record { to = record { le = lit≤ tt }; fro = record { le = lit≤ tt } }, (record { to = record { le = lit≤ tt }; fro = record { le = lit≤ tt } }, tt)))))))))))

@@ -8,3 +8,4 @@ pub mod Step
 pub mod Resistance
 pub mod Width
 pub mod Examples
+pub mod Yards

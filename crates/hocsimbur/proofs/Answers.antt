@@ -1,7 +1,9 @@
 -- The answer to a record, from what its checks answer.
 -- Assumes nothing.
 use Prim.Native.Nat.{ℕ}
+use lib.IntN.{natAbs}
 use mathlib.Core.Path.{_≡_, refl, sym, _∙_}
+use native.Mathlib.Omega.{arith}
 use Rattle.interval.specs.declared.Interval.{Interval}
 use Rattle.interval.specs.declared.Pair.the-variants as pair
 use Rattle.exact.specs.Fraction.{Fraction}
@@ -15,14 +17,43 @@ use Rattle.case.specs.declared.Judged.the-variants.{Sound, Refused}
 use Rattle.case.specs.Check.{recordJudged, recordAnswer}
 use Rattle.case.specs.Bounds.{Bounds}
 use Rattle.case.proofs.Bounds.{record-bounds}
+use Rattle.case.proofs.BoundsSound.{bounds-sound}
+use Rattle.formulas.specs.Decrement.{Df}
+use Rattle.formulas.specs.Resistance.{resistance}
+use Rattle.formulas.specs.Width.{μΩ, billionths, factorWidth, resistanceWidth}
+use Rattle.formulas.proofs.Size.{duty-pos, size-not-below, size-smallest}
+use Rattle.decrement.proofs.Right.{factor-reports}
+use Rattle.current.proofs.GridCurrent.{upper-bounds}
 use Rattle.tolerable.specs.declared.TouchAndStep.{TouchAndStep}
 use Rattle.tolerable.specs.Ends.{touchEnds, stepEnds, touchAndStep}
 use Rattle.row.specs.declared.Row.{Row}
 use Rattle.row.specs.Ends.{rowOf}
-use Rattle.row.proofs.Right.{touch-reports, limit-reports, right-row}
+use Rattle.row.proofs.Right.{touch-reports, limit-reports, resistance-reports, right-row}
+use Rattle.hocsimbur.specs.declared.Number.the-variants as number
 use Rattle.hocsimbur.specs.declared.Tolerable.the-variants as tolerable
+use Rattle.hocsimbur.specs.declared.RowAnswer.{RowAnswer}
 use Rattle.hocsimbur.specs.declared.RowAnswer.the-variants as row
-use Rattle.hocsimbur.specs.Asked.{pairAnswer, PairAnswered, tolerableAnswer, RightTolerable, TolerableAnswered, rowAnswer, RightAnswer, RowAnswered}
+use Rattle.hocsimbur.specs.Asked.{pairAnswer, PairAnswered, factorInRow, resistanceInRow, sizeByRow, sizeAnswer, SmallestSize, RightSize, SizeAnswered}
+use Rattle.hocsimbur.specs.Asked.{tolerableAnswer, RightTolerable, TolerableAnswered, rowAnswer, RightAnswer, RowAnswered}
+
+-- ---- what holds of the ends and the size by their names
+
+module _ {c : Case} (b : Bounds c) where
+  pub factor-right : Reports (Df c) billionths factorWidth (factorInRow c)
+  unfolding factorInRow rowOf
+  factor-right = factor-reports b
+
+  pub resistance-right : Reports (resistance c) μΩ resistanceWidth (resistanceInRow c)
+  unfolding resistanceInRow rowOf
+  resistance-right = resistance-reports b
+
+  pub smallest-size : SmallestSize c (natAbs (factorInRow c .upper)) (sizeByRow c)
+  unfolding sizeByRow factorInRow rowOf
+  smallest-size =
+      let d = duty-pos b (upper-bounds b) in
+      record { not-below = size-not-below c _ d; smallest = size-smallest c _ d }
+
+-- ---- the answers
 
 module _ (c : Case) {j : Judged} (judged : j ≡ recordJudged c) where
   pub sound-bounds : j ≡ Sound → Bounds c
@@ -48,6 +79,21 @@ module _ (c : Case) {j : Judged} (judged : j ≡ recordJudged c) where
     unfolding pairAnswer RightPair
     pair-refused fault = record { answer = refused-answer pair.Refused (pair.Ends (ends c)) fault; right = tt }
 
+  -- the question for the size
+  pub size-told : {n : ℕ} → j ≡ Sound → n ≡ sizeByRow c → SizeAnswered c (number.Is n)
+  unfolding sizeAnswer RightSize
+  size-told sound e =
+      let b = sound-bounds sound in
+      rw e
+      (record {
+        answer = asked-answer number.Refused (number.Is (sizeByRow c)) sound;
+        right = record { factor-right = factor-right b; size-right = smallest-size b };
+      })
+
+  pub size-refused : {n l k : ℕ} → j ≡ Refused n l k → SizeAnswered c (number.Refused n l k)
+  unfolding sizeAnswer RightSize
+  size-refused fault = record { answer = refused-answer number.Refused (number.Is (sizeByRow c)) fault; right = tt }
+
   -- the question for both tolerable voltages
   pub voltages-told : {v : TouchAndStep} → j ≡ Sound → v ≡ touchAndStep c → TolerableAnswered c (tolerable.Ends (v .touch) (v .step))
   unfolding tolerableAnswer RightTolerable touchAndStep rowOf
@@ -72,3 +118,21 @@ module _ (c : Case) {j : Judged} (judged : j ≡ recordJudged c) where
   pub row-refused : {n l k : ℕ} → j ≡ Refused n l k → RowAnswered c (row.Refused n l k)
   unfolding rowAnswer RightAnswer
   row-refused fault = record { answer = refused-answer row.Refused (row.Is (rowOf c)) fault; right = tt }
+
+-- ---- what the answer for a row says of its record
+
+pub row-sound : (c : Case) {r : Row} → row.Is r ≡ rowAnswer c → (recordJudged c ≡ Sound) × (r ≡ rowOf c)
+unfolding rowAnswer recordAnswer
+row-sound c {r} a = go (recordJudged c) a
+  where
+    go : (j : Judged) → row.Is r ≡ recordAnswer row.Refused (row.Is (rowOf c)) j → (j ≡ Sound) × (r ≡ rowOf c)
+    go Sound e = (refl, cc)
+    go (Refused n l k) e = let z : _≡_ {A = ℕ} 0 1 = cc in absurd (omega arith)
+
+-- a sound case is answered with its row, and a case within its bounds is sound
+pub sound-answered : {c : Case} {r : RowAnswer} → recordJudged c ≡ Sound → RowAnswered c r → r ≡ row.Is (rowOf c)
+unfolding rowAnswer recordAnswer
+sound-answered e a = a .answer ∙ rw e
+
+pub bounds-answered : {c : Case} {r : RowAnswer} → Bounds c → RowAnswered c r → r ≡ row.Is (rowOf c)
+bounds-answered b a = sound-answered (bounds-sound b) a

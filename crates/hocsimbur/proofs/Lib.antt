@@ -1,4 +1,3 @@
 pub mod Answers
 pub mod LessFault
-pub mod Carried
 pub mod LineMargins

@@ -1,25 +1,27 @@
 -- What is asked of one case as a record. Document 01, 'The result table': "Decrement factor (in thousandths), conductor size, tolerable touch,
 -- tolerable step and resistance may each be asked alone, from a record, with the same checks.", as changed by requests (f) and (d) of document 02.
 -- Assumes nothing.
+use Prim.Native.Nat.{ℕ, _<_}
 use mathlib.Core.Path.{_≡_}
 use lib.IntN.{natAbs}
 use Rattle.interval.specs.declared.Interval.{Interval}
 use Rattle.interval.specs.declared.Pair.{Pair}
 use Rattle.interval.specs.declared.Pair.the-variants as pair
-use Rattle.exact.specs.Fraction.{Fraction}
+use Rattle.exact.specs.Fraction.{Fraction, whole}
 use Rattle.exact.specs.Ends.{Ends}
-use Rattle.exact.specs.Exact.{Exact}
+use Rattle.exact.specs.Exact.{Exact, exactly, Above, AtOrBelow}
 use Rattle.exact.specs.Reported.{Scale, Reports}
 use Rattle.exact.specs.Answered.{RightPair}
 use Rattle.case.specs.declared.Case.{Case}
 use Rattle.case.specs.Check.{recordJudged, recordAnswer}
 use Rattle.formulas.specs.Decrement.{Df}
-use Rattle.formulas.specs.Size.{size}
+use Rattle.formulas.specs.Size.{required, size}
 use Rattle.formulas.specs.Tolerable.{tolerableTouch, tolerableStep}
 use Rattle.formulas.specs.Resistance as R
 use Rattle.formulas.specs.Width.{mV, μΩ, billionths, factorWidth, tolerableWidth, resistanceWidth}
 use Rattle.tolerable.specs.Ends.{touchEnds, stepEnds}
-use Rattle.resistance.specs.Ends.{resistanceEnds}
+use Rattle.row.specs.declared.Row.{Row}
+use Rattle.row.specs.declared.Verdict.{Verdict}
 use Rattle.row.specs.Row.{RightRow}
 use Rattle.row.specs.Ends.{rowOf}
 use Rattle.hocsimbur.specs.declared.Number.{Number}
@@ -28,6 +30,7 @@ use Rattle.hocsimbur.specs.declared.Tolerable.{Tolerable}
 use Rattle.hocsimbur.specs.declared.Tolerable.the-variants as tolerable
 use Rattle.hocsimbur.specs.declared.RowAnswer.{RowAnswer}
 use Rattle.hocsimbur.specs.declared.RowAnswer.the-variants as row
+use Rattle.hocsimbur.specs.declared.RowAnswer.the-variants.{Is}
 
 -- a pair, or refusal 5 or 6 with line 0
 unfoldable pub pairAnswer : (Case → Interval) → Case → Pair
@@ -39,8 +42,12 @@ pub record PairAnswered (x : Exact) (u : Scale) (width : Ends → Fraction) (end
   pub answer : r ≡ pairAnswer ends c
   pub right : RightPair x u width r
 
+-- the resistance's ends are those in the case's row
+unfoldable pub resistanceInRow : Case → Interval
+resistanceInRow c = rowOf c .resistance
+
 abbrev pub ResistanceAnswered : Case → Pair → Type 0
-ResistanceAnswered c = PairAnswered (R.resistance c) μΩ resistanceWidth resistanceEnds c
+ResistanceAnswered c = PairAnswered (R.resistance c) μΩ resistanceWidth resistanceInRow c
 
 -- ---- request (d): "for one case the factor's ends are the same in the row, in the factor asked alone and in the size asked alone"
 
@@ -51,9 +58,33 @@ factorInRow c = rowOf c .factor
 abbrev pub FactorAnswered : Case → Pair → Type 0
 FactorAnswered c = PairAnswered (Df c) billionths factorWidth factorInRow c
 
--- the size, by the upper end of those, or refusal 5 or 6 with line 0
+-- the size, by the upper end of those
+unfoldable pub sizeByRow : Case → ℕ
+sizeByRow c = size c (natAbs (factorInRow c .upper))
+
+-- that size, or refusal 5 or 6 with line 0
 unfoldable pub sizeAnswer : Case → Number
-sizeAnswer c = recordAnswer number.Refused (number.Is (size c (natAbs (factorInRow c .upper)))) (recordJudged c)
+sizeAnswer c = recordAnswer number.Refused (number.Is (sizeByRow c)) (recordJudged c)
+
+-- "the smallest whole kcmil not below I·Kf·√t", by exact values, with the factor in billionths
+pub record SmallestSize (c : Case) (factor kcmil : ℕ) : Type 0 where
+  pub not-below : AtOrBelow (required c factor) (exactly (whole kcmil))
+  pub smallest : (m : ℕ) → m < kcmil → Above (required c factor) (exactly (whole m))
+
+-- a pair reports the factor, and a size is the smallest "with the factor's upper end"
+pub record SizedBy (c : Case) (factor : Interval) (kcmil : ℕ) : Type 0 where
+  pub factor-right : Reports (Df c) billionths factorWidth factor
+  pub size-right : SmallestSize c (natAbs (factor .upper)) kcmil
+
+unfoldable pub RightSize : Case → Number → Type 0
+RightSize c (number.Is kcmil) = SizedBy c (factorInRow c) kcmil
+RightSize c (number.Refused number line column) = Unit {0}
+
+-- the answer by the names of the factor's ends and the size, and what holds of them. Two wrong programs: one that refuses every record breaks
+-- `answer`; one that sizes by the lower end, by that name, breaks `right`.
+pub record SizeAnswered (c : Case) (r : Number) : Type 0 where
+  pub answer : r ≡ sizeAnswer c
+  pub right : RightSize c r
 
 -- ---- request (f): "The two separate questions are merged into one that gives both pairs of ends from one root."
 
@@ -92,3 +123,9 @@ RightAnswer c (row.Refused number line column) = Unit {0}
 pub record RowAnswered (c : Case) (r : RowAnswer) : Type 0 where
   pub answer : r ≡ rowAnswer c
   pub right : RightAnswer c r
+
+-- an answer is a row with this verdict
+pub record AnsweredWith (v : Verdict) (r : RowAnswer) : Type 0 where
+  pub row : Row
+  pub is : r ≡ Is row
+  pub verdict : row .verdict ≡ v

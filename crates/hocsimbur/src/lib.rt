@@ -7,10 +7,11 @@ pub use conversion::Carried;
 pub use conversion::carry;
 pub use conversion::carry_back;
 use decrement::factor_ends;
+// A pair of ends, offered for its two numbers. Its methods, which ask conditions of their arguments, are for the crates below and not among the
+// operations offered.
 pub use interval::Interval;
 pub use interval::Pair;
-ghost use mathlib.Core.Path.{_≡_};
-ghost use Rattle.hocsimbur.specs.Asked.{FactorAnswered, sizeAnswer, TolerableAnswered, ResistanceAnswered, RowAnswered};
+ghost use Rattle.hocsimbur.specs.Asked.{FactorAnswered, SizeAnswered, TolerableAnswered, ResistanceAnswered, RowAnswered};
 pub use logarithm::logarithm;
 pub use margin::Compared;
 pub use margin::margins;
@@ -19,6 +20,8 @@ pub use readings::Sounding;
 pub use readings::soil;
 pub use row::Row;
 pub use row::Verdict;
+// The twenty numbers of a row in the table's order, as `margins` takes them.
+pub use row::row_numbers;
 pub use sheet::Answer;
 pub use sheet::sheet;
 pub use staged::SplitAnswer;
@@ -58,7 +61,7 @@ pub fn decrement_factor(c: Case) -> Pair
 
 // The conductor size in whole kcmil.
 pub fn conductor_size(c: Case) -> Number
-    ensures { λ r. ⌜ r ≡ sizeAnswer c ⌝ }
+    ensures { λ r. ⌜ SizeAnswered c r ⌝ }
 {
     match judge(c) {
         Judged::Sound => Number::Is(current::conductor_size(c, factor_ends(c))),

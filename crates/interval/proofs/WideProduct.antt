@@ -3,7 +3,7 @@
 use Prim.Native.Nat.{ℕ, _+_, _-_, _*_, _/_, _%_, _^_, _≤_, _<_}
 use mathlib.Core.Path.{_≡_, sym, ap, _∙_}
 use native.Mathlib.Omega.{arith}
-use native.Mathlib.Nat.{mod-lt, div-add-mod', mul-add-div-right, mul-le-mul, mul-le-mul-left, mul-le-mul-right, le-of-lt, le-of-suc-le-suc, lt-of-mul-lt-mul-right}
+use native.Mathlib.Nat.{add-zero, mod-lt, div-add-mod', mul-add-div-right, mul-le-mul, mul-le-mul-left, mul-le-mul-right, le-of-lt, le-of-suc-le-suc, lt-of-mul-lt-mul-right}
 use Rattle.interval.specs.Whole.{ceilDiv}
 use Rattle.interval.specs.Wide.{WideFits, Wide}
 use Rattle.interval.specs.Span.{Span}
@@ -37,15 +37,15 @@ module _ {k x d : ℕ} (w : WideFits k x d) where
   pub rest-high : k * (x % d) ≤ k * d
   rest-high = mul-le-mul-left k (le-of-lt (mod-lt x (w .divisor)))
 
-  -- with what rounds it up
-  rest-below : k * (x % d) + (d - 1) < (k + 1) * d
-  rest-below = omega (arith, rest-high, w .divisor)
+  -- with whatever rounds it up
+  pub rounded-parts : (r : ℕ) → r < d → k * (x / d) + (k * (x % d) + r) / d < 2 ^ 63
+  rounded-parts r h = omega (arith, w .quotient, floorDiv-most (k * (x % d) + r) {w = k} (w .divisor) (omega (arith, rest-high)))
 
   pub floor-parts : k * (x / d) + k * (x % d) / d < 2 ^ 63
-  floor-parts = omega (arith, w .quotient, floorDiv-most (k * (x % d)) {w = k} (w .divisor) (omega (arith, rest-below)))
+  floor-parts = rw add-zero at (rounded-parts 0 (w .divisor))
 
-  pub ceil-parts : k * (x / d) + (k * (x % d) + (d - 1)) / d < 2 ^ 63
-  ceil-parts = omega (arith, w .quotient, floorDiv-most (k * (x % d) + (d - 1)) {w = k} (w .divisor) rest-below)
+  ceil-parts : k * (x / d) + (k * (x % d) + (d - 1)) / d < 2 ^ 63
+  ceil-parts = rounded-parts (d - 1) (omega (arith, w .divisor))
 
   pub floor-size : k * x / d < 2 ^ 63
   floor-size = rw (wide-floor k x (w .divisor)) at floor-parts

@@ -2,22 +2,24 @@
 -- Assumes nothing.
 use Prim.Native.Nat.{ℕ, _+_, _-_, _≤_, _<_}
 use mathlib.Core.Path.{_≡_, refl, _∙_}
-use mathlib.Core.Bool.{true, false, not}
-use mathlib.Core.List.{List, [], _∷_}
+use mathlib.Core.Bool.{Bool, true, false, not, _||_}
+use mathlib.Core.Logic.{_⊎_, inl, inr}
+use mathlib.Core.List.{List}
 use native.Mathlib.Omega.{arith}
 use lib.ListN.{length, getD, take, drop}
-use lib.Dec.{eqb}
-use borrow.Author.Tests.{eq-eqb, ne-eqb, lt-ltb, le-ltb}
+use lib.Dec.{eqb, ltb}
+use borrow.Author.Tests.{eq-eqb, ne-eqb, lt-ltb, le-ltb, eqb-true, eqb-false, ltb-true, ltb-false, not-true, not-false}
 use Rattle.text.specs.Text.{indexOf, linesOf, fieldsOf}
 use Rattle.text.specs.Parts.{Skipped}
 use Rattle.case.specs.Columns.{Form}
 use Rattle.text.proofs.Lines.{lines-next}
 use Rattle.judgement.specs.declared.Judgement.{Judgement}
 use Rattle.judgement.specs.declared.Judgement.the-variants.{Lines, Refused}
-use Rattle.judgement.specs.Limits.{mostBytes, mostLines}
+use Rattle.judgement.specs.Limits.{Limits, today, mostBytes, mostLines}
 use Rattle.judgement.specs.Refusal.{textRefused, nameRefused, noLineRefused, manyLinesRefused}
-use Rattle.judgement.specs.Sheet.{names, valueLines, badText, linesJudgement, valuesJudgement, namesJudgement, judgement}
+use Rattle.judgement.specs.Sheet.{names, valueLines, badText, valuesJudgement, namesJudgement, judgementWithin, judgement}
 use Rattle.judgement.specs.Read.{LinesRead, ValuesRead, Read}
+use Rattle.judgement.specs.Accepted.{RightText}
 use Rattle.header.specs.Header.{columnsOf}
 use Rattle.header.specs.Parts.{Header}
 use Rattle.text.proofs.LineTurns.{line-turn}
@@ -25,22 +27,48 @@ use Rattle.text.proofs.LineTurns.{line-turn}
 -- ---- the text
 
 module _ (s : List ℕ) where
-  pub text-empty : length s ≡ 0 → true ≡ badText s
+  pub text-empty : length s ≡ 0 → true ≡ badText today s
   unfolding badText
   text-empty h = rw (eq-eqb (length s) 0 h)
 
-  pub text-long : (length s ≡ 0 → ⊥) → mostBytes < length s → true ≡ badText s
+  pub text-long : (length s ≡ 0 → ⊥) → mostBytes < length s → true ≡ badText today s
   unfolding badText
   text-long z h = rw (ne-eqb (length s) 0 z, lt-ltb mostBytes (length s) h)
 
-  pub text-last : (length s ≡ 0 → ⊥) → length s ≤ mostBytes → not (eqb (getD s (length s - 1) 0) 10) ≡ badText s
+  pub text-last : (length s ≡ 0 → ⊥) → length s ≤ mostBytes → not (eqb (getD s (length s - 1) 0) 10) ≡ badText today s
   unfolding badText
   text-last z h = rw (ne-eqb (length s) 0 z, le-ltb mostBytes (length s) h)
 
-pub text-some : (s : List ℕ) → badText s ≡ false → 0 < length s
+pub text-right : (limits : Limits) (s : List ℕ) → badText limits s ≡ false → RightText limits s
 unfolding badText
-text-some [] e = let z : _≡_ {A = ℕ} 0 1 = cc in absurd (omega arith)
-text-some (b ∷ s) e = omega arith
+text-right limits s e =
+    let p = none-of (eqb (length s) 0 || ltb (limits .bytes) (length s)) _ e in
+    let q = none-of (eqb (length s) 0) _ (p .0) in
+    record {
+      some = omega (arith, eqb-false (length s) 0 (q .0));
+      most = ltb-false (limits .bytes) (length s) (q .1);
+      last = eqb-true (getD s (length s - 1) 0) 10 (not-false _ (p .1));
+    }
+  where
+    none-of : (a b : Bool) → (a || b) ≡ false → (a ≡ false) × (b ≡ false)
+    none-of true b h = let z : _≡_ {A = ℕ} 0 1 = cc in absurd (omega arith)
+    none-of false b h = (refl, h)
+
+-- a text that refusal 1 meets
+pub text-wrong : (limits : Limits) (s : List ℕ) → badText limits s ≡ true
+    → (length s ≡ 0) ⊎ ((limits .bytes < length s) ⊎ (getD s (length s - 1) 0 ≡ 10 → ⊥))
+unfolding badText
+text-wrong limits s = go (eqb (length s) 0) refl (ltb (limits .bytes) (length s)) refl
+  where
+    go : (a : Bool) → eqb (length s) 0 ≡ a → (b : Bool) → ltb (limits .bytes) (length s) ≡ b
+        → (a || b || not (eqb (getD s (length s - 1) 0) 10)) ≡ true
+        → (length s ≡ 0) ⊎ ((limits .bytes < length s) ⊎ (getD s (length s - 1) 0 ≡ 10 → ⊥))
+    go true p b q e = inl (eqb-true (length s) 0 p)
+    go false p true q e = inr (inl (ltb-true (limits .bytes) (length s) q))
+    go false p false q e = inr (inr (eqb-false (getD s (length s - 1) 0) 10 (not-true _ e)))
+
+text-some : (s : List ℕ) → badText today s ≡ false → 0 < length s
+text-some s e = omega (arith, text-right today s e .some)
 
 -- a refusal stores nothing
 not-lines : {n k l c : ℕ} → Refused k l c ≡ Lines n → ⊥
@@ -49,34 +77,34 @@ not-lines e = let z : _≡_ {A = ℕ} 0 1 = cc in omega arith
 read-refused : {form : Form} {s : List ℕ} {k l c : ℕ} (store : List ℕ) → Refused k l c ≡ judgement form s → Read form s store store (Refused k l c)
 read-refused store e = record { answer-is = e; size = refl; stored = λ n q. absurd (not-lines q) }
 
-lines-refused : {form : Form} {at : List ℕ} {ls : List (List ℕ)} {k l c : ℕ} (store : List ℕ) → Refused k l c ≡ valuesJudgement form at ls
+lines-refused : {form : Form} {at : List ℕ} {ls : List (List ℕ)} {k l c : ℕ} (store : List ℕ) → Refused k l c ≡ valuesJudgement form today at ls
     → ValuesRead form at ls store store (Refused k l c)
 lines-refused store e = record { answer-is = e; size = refl; stored = λ n q. absurd (not-lines q) }
 
-pub read-text : (form : Form) (s store : List ℕ) → badText s ≡ true → Read form s store store (Refused 1 0 0)
-unfolding judgement textRefused
+pub read-text : (form : Form) (s store : List ℕ) → badText today s ≡ true → Read form s store store (Refused 1 0 0)
+unfolding judgement judgementWithin textRefused
 read-text form s store b = read-refused store (rw b)
 
 -- ---- the header, which ends at e, and the value lines, which begin at r
 
-pub names-are : (s : List ℕ) (e : ℕ) → badText s ≡ false → e ≡ indexOf 10 s → names s ≡ fieldsOf (take e s)
+pub names-are : (s : List ℕ) (e : ℕ) → badText today s ≡ false → e ≡ indexOf 10 s → names s ≡ fieldsOf (take e s)
 unfolding names
 names-are s e b ends = rw (lines-next s (text-some s b), ← ends)
 
-pub values-are : (s : List ℕ) (e r : ℕ) → badText s ≡ false → e ≡ indexOf 10 s → Skipped e (length s) r
+pub values-are : (s : List ℕ) (e r : ℕ) → badText today s ≡ false → e ≡ indexOf 10 s → Skipped e (length s) r
     → valueLines s ≡ linesOf (take (length s - r) (drop r s))
 unfolding valueLines
 values-are s e r b ends k = rw (line-turn s e r (text-some s b) ends k)
 
-module _ {form : Form} (s : List ℕ) {at order : List ℕ} {c : ℕ} (e : ℕ) (b : badText s ≡ false) (ends : e ≡ indexOf 10 s)
+module _ {form : Form} (s : List ℕ) {at order : List ℕ} {c : ℕ} (e : ℕ) (b : badText today s ≡ false) (ends : e ≡ indexOf 10 s)
     (h : Header form (take e s) c at order) where
   pub read-names : (store : List ℕ) → (c ≡ 0 → ⊥) → Read form s store store (Refused 2 1 c)
-  unfolding judgement namesJudgement nameRefused
+  unfolding judgement judgementWithin namesJudgement nameRefused
   read-names store z = read-refused store (rw (b, names-are s e b ends, ← h .wrong-is, ne-eqb c 0 z))
 
   pub read-values : {before after : List ℕ} {j : Judgement} (r : ℕ) → c ≡ 0 → Skipped e (length s) r
       → ValuesRead form at (linesOf (take (length s - r) (drop r s))) before after j → Read form s before after j
-  unfolding judgement namesJudgement
+  unfolding judgement judgementWithin namesJudgement
   read-values r z k v =
       let q : at ≡ columnsOf form (names s) = h .at-is z ∙ rw (← names-are s e b ends) in
       let l = values-are s e r b ends k in

@@ -1,6 +1,6 @@
--- What holds of a sheet that is judged to have n value lines: proved in proofs/Accepted.antt.
+-- What holds of a sheet that is judged to have n value lines within some limits: proved in proofs/Accepted.antt.
 -- Assumes nothing.
-use Prim.Native.Nat.{ℕ, _≤_, _<_}
+use Prim.Native.Nat.{ℕ, _-_, _≤_, _<_}
 use mathlib.Core.Path.{_≡_}
 use mathlib.Core.Bool.{false}
 use mathlib.Core.List.{List, []}
@@ -12,9 +12,15 @@ use Rattle.case.specs.Check.{finding}
 use Rattle.case.specs.Bounds.{Placed}
 use Rattle.header.specs.Header.{noColumns, wrongName, columnsOf}
 use Rattle.line.specs.Line.{wrongForm, lineValues}
-use Rattle.judgement.specs.Limits.{mostLines}
+use Rattle.judgement.specs.Limits.{Limits, today}
 use Rattle.judgement.specs.Sheet.{names, valueLines, badText, linesJudgement}
 use Rattle.judgement.specs.declared.Judgement.the-variants.{Lines}
+
+-- a text that is not "empty, over" the most bytes, "or last byte not 10"
+pub record RightText (limits : Limits) (s : List ℕ) : Type 0 where
+  pub some : 1 ≤ length s
+  pub most : length s ≤ limits .bytes
+  pub last : getD s (length s - 1) 0 ≡ 10
 
 -- a line of sound form with sound values
 pub record SoundLine (form : Form) (at line : List ℕ) : Type 0 where
@@ -24,12 +30,16 @@ pub record SoundLine (form : Form) (at line : List ℕ) : Type 0 where
 pub record SoundLines (form : Form) (at : List ℕ) (lines : List (List ℕ)) : Type 0 where
   pub line : (i : ℕ) → i < length lines → SoundLine form at (getD lines i [])
 
-pub record Accepted (form : Form) (s : List ℕ) (n : ℕ) : Type 0 where
-  pub text : badText s ≡ false
+pub record AcceptedWithin (form : Form) (limits : Limits) (s : List ℕ) (n : ℕ) : Type 0 where
+  pub text : badText limits s ≡ false
   pub names-sound : wrongName form 1 (noColumns form) (names s) ≡ 0
   pub placed : Placed (length form) (columnsOf form (names s))
   pub count : n ≡ length (valueLines s)
   pub some : 1 ≤ n
-  pub most : n ≤ mostLines
+  pub most : n ≤ limits .lines
   pub lines : SoundLines form (columnsOf form (names s)) (valueLines s)
   pub judged : linesJudgement form (columnsOf form (names s)) [] 2 (Lines n) (valueLines s) ≡ Lines n
+
+-- within today's limits
+abbrev pub Accepted : Form → List ℕ → ℕ → Type 0
+Accepted form s n = AcceptedWithin form today s n

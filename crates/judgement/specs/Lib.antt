@@ -5,3 +5,4 @@ pub mod Sheet
 pub mod Parts
 pub mod Read
 pub mod Accepted
+pub mod Wrong

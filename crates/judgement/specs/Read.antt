@@ -11,6 +11,7 @@ use Rattle.header.specs.Header.{columnsOf}
 use Rattle.line.specs.Line.{lineValues}
 use Rattle.judgement.specs.declared.Judgement.{Judgement}
 use Rattle.judgement.specs.declared.Judgement.the-variants.{Lines}
+use Rattle.judgement.specs.Limits.{today}
 use Rattle.judgement.specs.Sheet.{names, valueLines, linesJudgement, valuesJudgement, judgement}
 
 -- the values of some lines stand one after the other in a store, each line's in the order of the form
@@ -25,7 +26,7 @@ pub record LinesRead (form : Form) (at : List ℕ) (lines : List (List ℕ)) (so
 
 -- the same with the count of lines
 pub record ValuesRead (form : Form) (at : List ℕ) (lines : List (List ℕ)) (before after : List ℕ) (r : Judgement) : Type 0 where
-  pub answer-is : r ≡ valuesJudgement form at lines
+  pub answer-is : r ≡ valuesJudgement form today at lines
   pub size : length after ≡ length before
   pub stored : (n : ℕ) → r ≡ Lines n → Stored form at lines after
 

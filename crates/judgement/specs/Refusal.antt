@@ -5,7 +5,7 @@ use Rattle.judgement.specs.declared.Judgement.{Judgement}
 use Rattle.judgement.specs.declared.Judgement.the-variants.{Refused}
 use Rattle.judgement.specs.declared.LineFinding.{LineFinding}
 use Rattle.judgement.specs.declared.LineFinding.the-variants.{Sound, Form, OutOfRange, Disagreement, Repeated}
-use Rattle.judgement.specs.Limits.{mostLines}
+use Rattle.judgement.specs.Limits.{Limits}
 
 -- "sheet empty, over 16,384 bytes, or last byte not 10", as changed by request (h) of document 02: over 65,536 bytes
 unfoldable pub textRefused : Judgement
@@ -20,8 +20,8 @@ nameRefused column = Refused 2 1 column
 unfoldable pub noLineRefused : Judgement
 noLineRefused = Refused 4 2 0
 
-unfoldable pub manyLinesRefused : Judgement
-manyLinesRefused = Refused 4 (mostLines + 2) 0
+unfoldable pub manyLinesRefused : Limits → Judgement
+manyLinesRefused limits = Refused 4 (limits .lines + 2) 0
 
 -- the refusal of a value line, or the judgement `sound` where nothing is wrong with the line
 unfoldable pub lineJudgement : ℕ → Judgement → LineFinding → Judgement

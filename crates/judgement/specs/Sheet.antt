@@ -1,4 +1,4 @@
--- The judgement of every sheet of a form: the count of its value lines, or a refusal. Document 01, 'The result table': "The order is 1, 2, 4;
+-- The judgement of every sheet of a form within some limits: the count of its value lines, or a refusal. Document 01, 'The result table': "The order is 1, 2, 4;
 -- then line by line 3, 5, 6, 7".
 -- Assumes nothing.
 use Prim.Native.Nat.{ℕ, suc, _-_}
@@ -12,7 +12,7 @@ use Rattle.header.specs.Header.{noColumns, wrongName, columnsOf}
 use Rattle.line.specs.Line.{lineValues}
 use Rattle.judgement.specs.declared.Judgement.{Judgement}
 use Rattle.judgement.specs.declared.Judgement.the-variants.{Lines}
-use Rattle.judgement.specs.Limits.{mostBytes, mostLines}
+use Rattle.judgement.specs.Limits.{Limits, today}
 use Rattle.judgement.specs.Refusal.{textRefused, nameRefused, noLineRefused, manyLinesRefused, lineJudgement}
 use Rattle.judgement.specs.Findings.{lineFinding}
 
@@ -24,8 +24,8 @@ unfoldable pub valueLines : List ℕ → List (List ℕ)
 valueLines s = drop 1 (linesOf s)
 
 -- "sheet empty, over 16,384 bytes, or last byte not 10", as changed by request (h) of document 02: over 65,536 bytes
-unfoldable pub badText : List ℕ → Bool
-badText s = eqb (length s) 0 || ltb mostBytes (length s) || not (eqb (getD s (length s - 1) 0) 10)
+unfoldable pub badText : Limits → List ℕ → Bool
+badText limits s = eqb (length s) 0 || ltb (limits .bytes) (length s) || not (eqb (getD s (length s - 1) 0) 10)
 
 module _ (form : Form) where
   -- line by line from line n on, after the values of earlier lines; `sound` is the judgement where nothing is wrong with any line
@@ -34,11 +34,12 @@ module _ (form : Form) where
   linesJudgement at earlier n sound (line ∷ lines) =
       lineJudgement n (linesJudgement at (lineValues at (fieldsOf line) ∷ earlier) (suc n) sound lines) (lineFinding form at earlier (fieldsOf line))
 
+module _ (form : Form) (limits : Limits) where
   -- 4, then the lines
   unfoldable pub valuesJudgement : List ℕ → List (List ℕ) → Judgement
   valuesJudgement at lines =
       cond (eqb (length lines) 0) noLineRefused
-      (cond (ltb mostLines (length lines)) manyLinesRefused (linesJudgement at [] 2 (Lines (length lines)) lines))
+      (cond (ltb (limits .lines) (length lines)) (manyLinesRefused limits) (linesJudgement form at [] 2 (Lines (length lines)) lines))
 
   -- 2, then the values
   unfoldable pub namesJudgement : List ℕ → Judgement
@@ -47,5 +48,9 @@ module _ (form : Form) where
       (nameRefused (wrongName form 1 (noColumns form) (names s)))
 
   -- 1, then the names
-  unfoldable pub judgement : List ℕ → Judgement
-  judgement s = cond (badText s) textRefused (namesJudgement s)
+  unfoldable pub judgementWithin : List ℕ → Judgement
+  judgementWithin s = cond (badText limits s) textRefused (namesJudgement s)
+
+-- within today's limits
+unfoldable pub judgement : Form → List ℕ → Judgement
+judgement form s = judgementWithin form today s

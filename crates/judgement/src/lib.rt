@@ -10,7 +10,7 @@ ghost use Rattle.case.specs.Bounds.{Placed};
 ghost use Rattle.case.specs.Order.{Ordered};
 ghost use Rattle.case.specs.Parts.{formOf};
 ghost use Rattle.header.specs.Header.{noColumns};
-ghost use Rattle.judgement.specs.Limits.{mostLines};
+ghost use Rattle.judgement.specs.Limits.{today, mostLines};
 ghost use Rattle.judgement.specs.Sheet.{badText};
 ghost use Rattle.judgement.specs.Read.{ValuesRead, Read};
 use case::FORMER_NAMES;
@@ -50,7 +50,7 @@ pub enum LineFinding {
 
 // Refusal 1.
 fn bad_text(s: &[u8]) -> bool
-    ensures { λ r. ⌜ r ≡ badText (now (s .entry)) ⌝ }
+    ensures { λ r. ⌜ r ≡ badText today (now (s .entry)) ⌝ }
 {
     let n = s.len();
     if n == 0 {

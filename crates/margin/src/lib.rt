@@ -12,7 +12,7 @@ use row::STEP_UPPER;
 use row::TOUCH_LOWER;
 
 // Mesh voltage above tolerable touch, then step voltage above tolerable step, in tenths of a percent of what is tolerable and below it as a
-// negative number; or None where the numbers are no row's.
+// negative number; or None, which no row has.
 pub enum Compared {
     Margins(i64, i64),
     None,
@@ -31,7 +31,7 @@ fn in_range(low: i64, z: i64) -> bool
     (low <= z) & (z <= MOST)
 }
 
-// Whether a voltage and a tolerable one may be those of a row.
+// Whether a voltage and a tolerable one are in the range in which margins are told; those of every row are.
 fn comparable(voltage: i64, tolerable: i64) -> bool
     ensures { λ r. ⌜ r ≡ comparableEnds voltage tolerable ⌝ }
 {

@@ -45,6 +45,13 @@ near : (g i L U X Z : ℕ) → 10000 * U ≤ 10001 * L + 10000 * 2 → 5100 ≤ 
 near g i L U X Z h k m j l u = omega (arith, mul-le-mul-right g h, mul-le-mul-right g k, mul-le-mul-left U j, m, l, u)
 
 module _ {c : Case} (b : Bounds c) where
+  -- code works resistance times IG
+  pub rise-encloses : Encloses (potentialRise c) mV (riseEnds c)
+  unfolding potentialRise riseEnds mV μΩ μA ten _·x_
+  rise-encloses =
+      encloses-same (product-turned (IG c workDepth) (resistance c workDepth))
+      (encloses-product (ten 3) (10 ^ 9) refl (quantity-resistance b .consistent) (quantity-IG b .consistent) (resistance-encloses b) (current-encloses b))
+
   pub rise-wide : Wide (resistanceEnds c) (currentEnds c) (10 ^ 9)
   rise-wide = wide-fits (10 ^ 9) 179 (lit< tt) (lit< tt) (lit≤ tt) (lit< tt) (resistance-span b) (current-span b)
 
@@ -65,10 +72,3 @@ module _ {c : Case} (b : Bounds c) where
 
   pub rise-narrow : AtMost (riseWidth (reported mV (riseEnds c))) (reported mV (riseEnds c))
   rise-narrow = rw (rise-near .is) (within-allowed (rise-near .a) (rise-near .b) (rise-near .near))
-
-  -- code works resistance times IG
-  pub rise-encloses : Encloses (potentialRise c) mV (riseEnds c)
-  unfolding potentialRise riseEnds mV μΩ μA ten _·x_
-  rise-encloses =
-      encloses-same (product-turned (IG c workDepth) (resistance c workDepth))
-      (encloses-product (ten 3) (10 ^ 9) refl (quantity-resistance b .consistent) (quantity-IG b .consistent) (resistance-encloses b) (current-encloses b))

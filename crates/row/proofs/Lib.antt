@@ -1,3 +1,3 @@
 pub mod Verdicts
 pub mod Right
-pub mod LessFault
+pub mod StaysSafe

@@ -5,8 +5,9 @@ use Prim.Native.Nat.{_≤_}
 use mathlib.Core.Path.{_≡_}
 use Rattle.case.specs.declared.Case.{Case}
 use Rattle.case.specs.Fault.{withFault}
+use Rattle.case.specs.Key.{underKey}
 
--- d is "the same case with a lower fault current, all else equal" as c
+-- d is "the same case with a lower fault current, all else equal" as c. Station and season are aside: two lines of one sheet must differ in them.
 pub record LessFault (c d : Case) : Type 0 where
-  pub all-else : d ≡ withFault (d .fault) c
+  pub all-else : d ≡ underKey (d .station) (d .season) (withFault (d .fault) c)
   pub less : d .fault ≤ c .fault

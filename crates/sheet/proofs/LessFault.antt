@@ -1,5 +1,5 @@
--- Request (n) of document 02, of two value lines of sheets: where one has verdict 1 in the table, the other, with a lower fault current and all else
--- equal, has verdict 1 in its table, and so never 2.
+-- Request (n) of document 02, of two value lines, of one sheet or of two: where one has verdict 1 in the table, the other, with a lower fault current
+-- and all else equal, station and season aside, has verdict 1 in its table, and so never 2.
 -- Assumes nothing.
 use Prim.Native.Nat.{ℕ, _<_}
 use mathlib.Core.Path.{_≡_, refl, sym, ap, _∙_}
@@ -22,7 +22,7 @@ use Rattle.row.specs.Row.{numbers}
 use Rattle.row.specs.Places.{verdictPlace}
 use Rattle.row.specs.Ends.{caseVerdict, rowOf}
 use Rattle.row.specs.LessFault.{LessFault}
-use Rattle.row.proofs.LessFault.{safe-stays}
+use Rattle.row.proofs.StaysSafe.{safe-stays}
 use Rattle.sheet.specs.declared.Answer.the-variants.{Rows}
 use Rattle.sheet.specs.Answer.{cases}
 use Rattle.sheet.specs.Table.{rowAt, Filled, TableAfter, Answered}

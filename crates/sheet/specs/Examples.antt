@@ -1,33 +1,28 @@
 -- The answer computed on sheets: document 01's sample, each refusal, and the order of the rules where two are broken at once.
 -- Assumes nothing.
-use Prim.Native.Nat.{ℕ, _+_}
+use Prim.Native.Nat.{ℕ}
 use mathlib.Core.Path.{_≡_, refl}
 use mathlib.Core.List.{List, [], _∷_, _++_, map}
 use lib.ListN.{replicate}
 use Rattle.text.specs.Text.{bytes, onFirst, linesOf, fieldsOf, same}
 use Rattle.text.specs.Value.{digit, digits, plain, isValue, numberFrom, valueOf}
-use Rattle.case.specs.declared.Case.{Case}
 use Rattle.case.specs.Columns.{columns, inRange, nameIndex, named}
 use Rattle.case.specs.Case.{caseOf}
 use Rattle.case.specs.Check.{leftOf, outOfRange, agree, disagreement, finding}
 use Rattle.header.specs.Header.{noColumns, fresh, wrongName, columnsFrom, columnsOf}
 use Rattle.line.specs.Line.{wrongForm, lineValues, lineCase}
-use Rattle.judgement.specs.Limits.{mostBytes, mostLines}
+use Rattle.judgement.specs.declared.Judgement.the-variants as judged
 use Rattle.judgement.specs.Refusal.{textRefused, nameRefused, noLineRefused, manyLinesRefused, lineJudgement}
 use Rattle.judgement.specs.Findings.{orFinding, sameKey, repeats, lineFinding}
-use Rattle.judgement.specs.Sheet.{names, valueLines, badText, linesJudgement, valuesJudgement, namesJudgement, judgement}
+use Rattle.judgement.specs.Sheet.{names, valueLines, badText, linesJudgement, valuesJudgement, namesJudgement, judgementWithin, judgement}
 use Rattle.sheet.specs.declared.Answer.{Answer}
 use Rattle.sheet.specs.declared.Answer.the-variants.{Rows, Refused}
 use Rattle.sheet.specs.Answer.{cases, tableRefused, answerBy, answer}
 
--- the answer and the cases, with all that they are made of
+-- the answer, with all that it is made of
 answerOf : List ℕ → ℕ → Answer
-unfolding onFirst linesOf fieldsOf same digit digits plain isValue numberFrom valueOf columns inRange nameIndex named leftOf outOfRange agree disagreement finding textRefused nameRefused noLineRefused manyLinesRefused tableRefused lineJudgement noColumns fresh wrongName columnsFrom columnsOf wrongForm lineValues sameKey repeats orFinding lineFinding names valueLines badText linesJudgement valuesJudgement namesJudgement judgement answerBy answer
+unfolding onFirst linesOf fieldsOf same digit digits plain isValue numberFrom valueOf columns inRange nameIndex named leftOf outOfRange agree disagreement finding textRefused nameRefused noLineRefused manyLinesRefused tableRefused lineJudgement noColumns fresh wrongName columnsFrom columnsOf wrongForm lineValues sameKey repeats orFinding lineFinding names valueLines badText linesJudgement valuesJudgement namesJudgement judgementWithin judgement answerBy answer
 answerOf s room = answer s room
-
-casesOf : List ℕ → List Case
-unfolding onFirst linesOf fieldsOf same numberFrom valueOf columns nameIndex noColumns columnsFrom columnsOf lineValues lineCase names valueLines cases
-casesOf s = cases s
 
 abbrev head : List ℕ
 head = bytes "station,season,soil,layer,thick,shock,clear,wire,body,fault,split,xr,across,along,space,depth,dia,rods,rodlen,place,metal,hz\n"
@@ -39,18 +34,23 @@ abbrev wet : List ℕ
 wet = bytes "7,2,100,2500,102,500,500,500,70,3180,600,10,11,11,7000,500,100,0,0,0,1,60\n"
 
 -- document 01's sample sheet
-sample : List ℕ
+unfoldable pub sample : List ℕ
 sample = head ++ dry ++ wet
 
 sample-answer : answerOf sample 40 ≡ Rows 2
 unfolding answerOf sample
 sample-answer = refl
 
-sample-cases : casesOf sample ≡
+-- it breaks no rule, and has these two cases
+pub sample-judged : judgement columns sample ≡ judged.Lines 2
+unfolding onFirst linesOf fieldsOf same digit digits plain isValue numberFrom valueOf columns inRange nameIndex named leftOf outOfRange agree disagreement finding textRefused nameRefused noLineRefused manyLinesRefused lineJudgement noColumns fresh wrongName columnsFrom columnsOf wrongForm lineValues sameKey repeats orFinding lineFinding names valueLines badText linesJudgement valuesJudgement namesJudgement judgementWithin judgement sample
+sample-judged = refl
+
+pub sample-cases : cases sample ≡
     caseOf (7 ∷ 1 ∷ 400 ∷ 2500 ∷ 102 ∷ 500 ∷ 500 ∷ 500 ∷ 70 ∷ 3180 ∷ 600 ∷ 10 ∷ 11 ∷ 11 ∷ 7000 ∷ 500 ∷ 100 ∷ 0 ∷ 0 ∷ 0 ∷ 1 ∷ 60 ∷ [])
     ∷ caseOf (7 ∷ 2 ∷ 100 ∷ 2500 ∷ 102 ∷ 500 ∷ 500 ∷ 500 ∷ 70 ∷ 3180 ∷ 600 ∷ 10 ∷ 11 ∷ 11 ∷ 7000 ∷ 500 ∷ 100 ∷ 0 ∷ 0 ∷ 0 ∷ 1 ∷ 60 ∷ [])
     ∷ []
-unfolding casesOf sample
+unfolding onFirst linesOf fieldsOf same numberFrom valueOf columns nameIndex noColumns columnsFrom columnsOf lineValues lineCase names valueLines cases sample
 sample-cases = refl
 
 -- a sheet, the length of the table, and the answer
@@ -64,10 +64,10 @@ row sheet room answered = record { sheet = sheet; room = room; answered = answer
 
 examples : List Example
 examples =
-    -- 1: empty, too long, no last byte 10
+    -- 1: empty, 65,537 bytes, where 65,536 are not too many, no last byte 10
     row [] 40 (Refused 1 0 0)
-    ∷ row (replicate (mostBytes + 1) 10) 40 (Refused 1 0 0)
-    ∷ row (replicate mostBytes 10) 40 (Refused 2 1 1)
+    ∷ row (replicate 65537 10) 40 (Refused 1 0 0)
+    ∷ row (replicate 65536 10) 40 (Refused 2 1 1)
     ∷ row (head ++ bytes "7") 40 (Refused 1 0 0)
     -- 2: unknown, in another case of letters, twice, missing, one too many; document 01's ms and lines; no hz
     ∷ row (bytes "station,season,Soil\n") 40 (Refused 2 1 3)
@@ -80,9 +80,10 @@ examples =
     ∷ row (bytes "station,season,soil,layer,thick,shock,clear,wire,body,fault,split,xr,across,along,space,depth,dia,rods,rodlen,place,metal\n7,1,400,2500,102,500,500,500,70,3180,600,10,11,11,7000,500,100,0,0,0,1\n") 40 (Refused 2 1 22)
     -- 2 comes before 4
     ∷ row (bytes "\n") 40 (Refused 2 1 1)
-    -- 4: no line, and one too many
+    -- 4: no line, and 257 lines, where 256 are not too many
     ∷ row head 40 (Refused 4 2 0)
-    ∷ row (head ++ replicate (mostLines + 1) 10) 40 (Refused 4 (mostLines + 2) 0)
+    ∷ row (head ++ replicate 257 10) 40 (Refused 4 258 0)
+    ∷ row (head ++ replicate 256 10) 40 (Refused 3 2 1)
     -- 3: wrong forms, too few, too many; an empty line
     ∷ row (head ++ dry ++ bytes "\n") 40 (Refused 3 3 1)
     ∷ row (head ++ bytes "7,1,0400,2500,102,500,500,500,70,3180,600,10,11,11,7000,500,100,0,0,0,1,60\n") 40 (Refused 3 2 3)

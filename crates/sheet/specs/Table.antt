@@ -18,7 +18,7 @@ use Rattle.sheet.specs.Answer.{answer, cases}
 abbrev pub rowAt : List ℤ → ℕ → List ℤ
 rowAt table i = partAt rowLength table i
 
--- some numbers are the row of a case, the same as the case asked alone has, and that row is right
+-- some numbers are the row of a case, and that row is right. The case asked alone has the same row: claims/specs/Demands.antt, `asked-alone`.
 pub record RowOf (c : Case) (row : List ℤ) : Type 0 where
   pub is : row ≡ numbers (rowOf c)
   pub right : RightRow c (rowOf c)

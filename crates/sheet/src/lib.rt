@@ -1,6 +1,11 @@
 // The sheet: its answer, and its rows in the caller's table.
 mod rows;
 
+ghost use Prim.Native.Nat.{_*_};
+ghost use mathlib.Core.Path.{_≡_};
+ghost use lib.ListN.{length};
+ghost use Rattle.case.specs.Columns.{nameCount};
+ghost use Rattle.judgement.specs.Limits.{mostLines};
 ghost use Rattle.sheet.specs.Table.{Answered};
 use case::Form;
 use judgement::Judgement;
@@ -15,19 +20,27 @@ pub enum Answer {
     Refused(u32, usize, usize),
 }
 
-// The answer to a sheet, and its rows in the table.
-pub fn sheet(s: &[u8], table: &mut [i64]) -> Answer
+// The answer to a sheet, and its rows in the table, by way of a store for the values of the most lines.
+fn fill_table(s: &[u8], values: &mut [u32], table: &mut [i64]) -> Answer
+    requires { ⌜ length (now values) ≡ nameCount * mostLines ⌝ }
     ensures { λ r. ⌜ Answered (now (s .entry)) (now (table .entry)) (now (table .exit)) r ⌝ }
 {
-    let mut values = [0u32; VALUES];
-    match read(Form::Present, s, &mut values) {
+    match read(Form::Present, s, values) {
         Judgement::Refused(number, line, column) => Answer::Refused(number, line, column),
         Judgement::Lines(n) => {
             if table.len() < ROW_LENGTH * n {
                 return Answer::Refused(8, 0, 0);
             }
-            write_rows(&values, n, table);
+            write_rows(values, n, table);
             Answer::Rows(n)
         }
     }
+}
+
+// The answer to a sheet, and its rows in the table.
+pub fn sheet(s: &[u8], table: &mut [i64]) -> Answer
+    ensures { λ r. ⌜ Answered (now (s .entry)) (now (table .entry)) (now (table .exit)) r ⌝ }
+{
+    let mut values = [0u32; VALUES];
+    fill_table(s, &mut values, table)
 }

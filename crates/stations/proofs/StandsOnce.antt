@@ -3,12 +3,12 @@
 use Prim.Native.Nat.{_+_}
 use mathlib.Core.Path.{_≡_, refl, sym, ap, _∙_}
 use mathlib.Core.Bool.{Bool, true, false, cond, _||_}
-use mathlib.Core.List.{List, [], _∷_, _++_, map}
+use mathlib.Core.List.{List, [], _∷_, _++_}
 use native.Mathlib.Omega.{arith}
 use lib.IntN.{ℤ}
 use Rattle.row.specs.declared.Row.{Row}
-use Rattle.stations.specs.Summary.{sameZ, one, among, byAppearance, stationsOf, stations, rowsOf, stationNumbers, summaryOf}
-use Rattle.stations.specs.Meaning.{times, numberOf}
+use Rattle.stations.specs.Summary.{sameZ, one, among, byAppearance, stationsOf, stations}
+use Rattle.stations.specs.Meaning.{times}
 use Rattle.stations.proofs.Same.{same-eq, same-comm}
 
 -- ---- one number more at the end
@@ -72,18 +72,3 @@ once-from x found (y ∷ xs) o = go (among y found) refl (λ f p. once-from x f 
 pub stands-once : (x : ℤ) (rows : List Row) → times x (stations rows) ≡ one (among x (stationsOf rows))
 unfolding stations times among one
 stands-once x rows = once-from x [] (stationsOf rows) refl
-
--- ---- the stations of the summary
-
--- the first numbers of the summary are the stations
-pub summary-stations : (rows : List Row) → map (numberOf 0) (summaryOf rows) ≡ stations rows
-unfolding summaryOf stationNumbers
-summary-stations rows = go (stations rows)
-  where
-    go : (l : List ℤ) → map (numberOf 0) (map (λ station. stationNumbers station (rowsOf station rows)) l) ≡ l
-    go [] = refl
-    go (x ∷ l) = ap (λ (k : List ℤ). x ∷ k) (go l)
-
--- every station of the rows stands once in the summary, and no other number
-pub station-once : (x : ℤ) (rows : List Row) → times x (map (numberOf 0) (summaryOf rows)) ≡ one (among x (stationsOf rows))
-station-once x rows = ap (times x) (summary-stations rows) ∙ stands-once x rows

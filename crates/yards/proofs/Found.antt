@@ -1,22 +1,16 @@
--- What a found yard is: a sound case, answered safe, and safe of its exact values.
+-- What a found yard is: a case within its bounds whose verdict is safe.
 -- Assumes nothing.
 use Prim.Native.Nat.{ℕ, suc}
-use mathlib.Core.Path.{_≡_, refl, sym, _∙_}
+use mathlib.Core.Path.{_≡_, refl, _∙_}
 use mathlib.Core.Bool.{Bool, true, false, cond}
 use mathlib.Core.List.{List, [], _∷_}
 use native.Mathlib.Omega.{arith}
-use Rattle.exact.specs.Exact.{AtOrBelow}
 use Rattle.case.specs.declared.Case.{Case}
 use Rattle.case.specs.Bounds.{Bounds}
-use Rattle.formulas.specs.Tolerable.{tolerableTouch, tolerableStep}
-use Rattle.formulas.specs.Mesh.{mesh}
-use Rattle.formulas.specs.Step.{step}
 use Rattle.row.specs.declared.Verdict.{Verdict}
 use Rattle.row.specs.declared.Verdict.the-variants.{Safe, Unsafe, Undecided}
-use Rattle.row.specs.Row.{RightRow, verdictOf}
-use Rattle.row.specs.Ends.{caseVerdict, rowOf}
-use Rattle.row.proofs.Right.{right-row}
-use Rattle.yards.specs.declared.FewestLines.the-variants.{Found, None}
+use Rattle.row.specs.Ends.{caseVerdict}
+use Rattle.yards.specs.declared.FewestLines.the-variants.{Found}
 use Rattle.yards.specs.Yards.{yard, yards, meansSafe, isSafe}
 use Rattle.yards.specs.Fewest.{firstSafe, fewest}
 use Rattle.yards.proofs.Sound.{Tried, Every, yards-sound}
@@ -25,10 +19,6 @@ use Rattle.yards.proofs.Sound.{Tried, Every, yards-sound}
 pub record FoundYard (c : Case) (side lines rods : ℕ) : Type 0 where
   pub sound : Bounds (yard c side lines rods)
   pub safe : caseVerdict (yard c side lines rods) ≡ Safe
-  -- its row is right, as the row of any case is
-  pub right : RightRow (yard c side lines rods) (rowOf (yard c side lines rods))
-  pub safe-true : AtOrBelow (mesh (yard c side lines rods)) (tolerableTouch (yard c side lines rods))
-      × AtOrBelow (step (yard c side lines rods)) (tolerableStep (yard c side lines rods))
 
 means : (v : Verdict) → meansSafe v ≡ true → v ≡ Safe
 unfolding meansSafe
@@ -37,11 +27,8 @@ means Unsafe e = let z : _≡_ {A = ℕ} 0 1 = cc in absurd (omega arith)
 means Undecided e = let z : _≡_ {A = ℕ} 0 1 = cc in absurd (omega arith)
 
 safe-yard : {c : Case} {side : ℕ} (lines rods : ℕ) → Bounds (yard c side lines rods) → isSafe (yard c side lines rods) ≡ true → FoundYard c side lines rods
-unfolding isSafe verdictOf rowOf caseVerdict
-safe-yard lines rods b e =
-    let s = means _ e in
-    let r = right-row b in
-    record { sound = b; safe = s; right = r; safe-true = r .safe-true s }
+unfolding isSafe
+safe-yard lines rods b e = record { sound = b; safe = means _ e }
 
 module _ (c : Case) (side : ℕ) where
   found-in : (t : ℕ) (ys : List Case) {lines rods place : ℕ} → Every (Tried c side) ys → firstSafe t ys ≡ Found lines rods place → FoundYard c side lines rods

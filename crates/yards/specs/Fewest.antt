@@ -1,14 +1,20 @@
 -- The first safe yard. Document 02 (k).
 -- Assumes nothing.
-use Prim.Native.Nat.{ℕ, suc}
+use Prim.Native.Nat.{ℕ, suc, _≤_, _<_}
+use mathlib.Core.Path.{_≡_}
 use mathlib.Core.Bool.{cond, _&&_}
 use mathlib.Core.List.{List, [], _∷_}
 use lib.Dec.{leb, eqb}
+use lib.ListN.{length, getD}
 use Rattle.case.specs.declared.Case.{Case}
+use Rattle.case.specs.declared.Judged.the-variants.{Sound}
 use Rattle.case.specs.Check.{recordJudged, recordAnswer}
+use Rattle.row.specs.declared.Verdict.the-variants.{Safe}
+use Rattle.row.specs.Row.{RightRow}
+use Rattle.row.specs.Ends.{rowOf}
 use Rattle.yards.specs.declared.FewestLines.{FewestLines}
 use Rattle.yards.specs.declared.FewestLines.the-variants.{Found, None, Refused}
-use Rattle.yards.specs.Yards.{yards, trial, isSafe}
+use Rattle.yards.specs.Yards.{yard, yards, trial, isSafe}
 
 -- the first safe of the yards that are left, after some were tried
 unfoldable pub firstSafe : ℕ → List Case → FewestLines
@@ -32,3 +38,34 @@ sideAnswer c side = cond (leb leastSide side && leb side mostSide) (cond (eqb (c
 -- "its other values follow document 01's checks for one case, which come first"
 unfoldable pub answer : Case → ℕ → FewestLines
 answer c side = recordAnswer Refused (sideAnswer c side) (recordJudged (trial c))
+
+-- ---- what holds of an answer
+
+-- a yard that the checks of one case find sound, so that it is answered with its row, and the row is right
+pub record AnsweredYard (y : Case) : Type 0 where
+  pub sound : recordJudged y ≡ Sound
+  pub right : RightRow y (rowOf y)
+
+-- "stop at the first yard answered safe. The answer gives that yard's line and rod counts."; "The number of yards tried is reported, at most 264"
+pub record RightFound (c : Case) (side lines rods tried : ℕ) : Type 0 where
+  pub answered : AnsweredYard (yard c side lines rods)
+  pub safe : rowOf (yard c side lines rods) .verdict ≡ Safe
+  pub most : tried ≤ 264
+
+-- "None is answered only if no yard tried is safe."
+pub record RightNone (c : Case) (side tried : ℕ) : Type 0 where
+  pub answered : (i : ℕ) → i < length (yards c side) → AnsweredYard (getD (yards c side) i c)
+  pub none-safe : (i : ℕ) → i < length (yards c side) → ¬ (rowOf (getD (yards c side) i c) .verdict ≡ Safe)
+  pub most : tried ≤ 264
+
+-- of a refusal nothing is asked here
+unfoldable pub RightAnswer : Case → ℕ → FewestLines → Type 0
+RightAnswer c side (Found lines rods tried) = RightFound c side lines rods tried
+RightAnswer c side (None tried) = RightNone c side tried
+RightAnswer c side (Refused number line column) = Unit {0}
+
+-- the answer by the list of yards, and what holds of it. Two wrong programs: one that begins with three lines breaks `answer`; one that takes an
+-- undecided yard for safe, by that name, breaks `right`.
+pub record FewestAnswered (c : Case) (side : ℕ) (r : FewestLines) : Type 0 where
+  pub answer : r ≡ answer c side
+  pub right : RightAnswer c side r

@@ -6,7 +6,7 @@ ghost use mathlib.Core.Path.{_≡_};
 ghost use Rattle.case.specs.declared.Judged.the-variants.{Sound};
 ghost use Rattle.case.specs.Check.{recordJudged};
 ghost use Rattle.yards.specs.Yards.{trial as trialOf};
-ghost use Rattle.yards.specs.Fewest.{sideAnswer, answer};
+ghost use Rattle.yards.specs.Fewest.{sideAnswer, FewestAnswered};
 use case::Case;
 use case::Judged;
 use case::judge;
@@ -45,7 +45,7 @@ fn side_answer(c: Case, side: u32) -> FewestLines
 
 // The fewest lines, then rods, with which a square yard of this side is answered safe.
 pub fn fewest_lines(c: Case, side: u32) -> FewestLines
-    ensures { λ r. ⌜ r ≡ answer c side ⌝ }
+    ensures { λ r. ⌜ FewestAnswered c side r ⌝ }
 {
     match judge(trial(c)) {
         Judged::Sound => side_answer(c, side),

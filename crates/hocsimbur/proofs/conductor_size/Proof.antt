@@ -1,9 +1,8 @@
 -- `conductor_size` answers the size of a sound record, by the factor in its row.
 -- Assumes nothing.
 use Rattle.row.specs.Ends.{rowOf}
-use Rattle.hocsimbur.specs.declared.Number.the-variants as number
-use Rattle.hocsimbur.specs.Asked.{factorInRow, sizeAnswer}
-use Rattle.hocsimbur.proofs.Answers.{sound-bounds, asked-answer, refused-answer}
+use Rattle.hocsimbur.specs.Asked.{factorInRow, sizeByRow}
+use Rattle.hocsimbur.proofs.Answers.{sound-bounds, size-told, size-refused}
 use borrow.Author.Needs.{needs}
 use Rattle.hocsimbur.proofs.conductor_size.Statement.{statement}
 use Rattle.hocsimbur.proofs.conductor_size.Tie as tie
@@ -26,14 +25,13 @@ enum-known-number : tie.Need-enum-known-number
 enum-known-number c = search needs
 
 returns : tie.Need-returns
-unfolding sizeAnswer factorInRow rowOf
+unfolding sizeByRow factorInRow rowOf
 returns c =
     let t = c .before .before in
-    rw (c .conductor-size .ensures) (asked-answer _ (t .before .before .judge .ensures) number.Refused _ (t .enum-told .given .1))
+    size-told _ (t .before .before .judge .ensures) (t .enum-told .given .1) (c .conductor-size .ensures)
 
 returns-2 : tie.Need-returns-2
-unfolding sizeAnswer
-returns-2 c = refused-answer _ (c .before .before .before .judge .ensures) number.Refused _ (c .before .number .given .1)
+returns-2 c = size-refused _ (c .before .before .before .judge .ensures) (c .before .number .given .1)
 
 pub conductor-size-spec : {M : Type 1} → statement M
 conductor-size-spec =

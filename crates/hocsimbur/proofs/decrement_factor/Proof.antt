@@ -1,9 +1,8 @@
 -- `decrement_factor` answers the ends of the factor of a sound record, which are those in its row.
 -- Assumes nothing.
-use Rattle.decrement.proofs.Right.{factor-reports}
 use Rattle.row.specs.Ends.{rowOf}
 use Rattle.hocsimbur.specs.Asked.{factorInRow}
-use Rattle.hocsimbur.proofs.Answers.{sound-bounds, pair-told, pair-refused}
+use Rattle.hocsimbur.proofs.Answers.{sound-bounds, factor-right, pair-told, pair-refused}
 use borrow.Author.Needs.{needs}
 use Rattle.hocsimbur.proofs.decrement_factor.Statement.{statement}
 use Rattle.hocsimbur.proofs.decrement_factor.Tie as tie
@@ -22,7 +21,7 @@ enum-known-number c = search needs
 
 returns : tie.Need-returns
 unfolding factorInRow rowOf
-returns c = pair-told _ (c .before .before .before .judge .ensures) factor-reports (c .before .enum-told .given .1) (c .factor-ends .ensures)
+returns c = pair-told _ (c .before .before .before .judge .ensures) factor-right (c .before .enum-told .given .1) (c .factor-ends .ensures)
 
 returns-2 : tie.Need-returns-2
 returns-2 c = pair-refused _ (c .before .before .before .judge .ensures) (c .before .number .given .1)

@@ -1,7 +1,8 @@
--- `resistance` answers the ends of the resistance of a sound record.
+-- `resistance` answers the ends of the resistance of a sound record, which are those in its row.
 -- Assumes nothing.
-use Rattle.row.proofs.Right.{resistance-reports}
-use Rattle.hocsimbur.proofs.Answers.{sound-bounds, pair-told, pair-refused}
+use Rattle.row.specs.Ends.{rowOf}
+use Rattle.hocsimbur.specs.Asked.{resistanceInRow}
+use Rattle.hocsimbur.proofs.Answers.{sound-bounds, resistance-right, pair-told, pair-refused}
 use borrow.Author.Needs.{needs}
 use Rattle.hocsimbur.proofs.resistance.Statement.{statement}
 use Rattle.hocsimbur.proofs.resistance.Tie as tie
@@ -19,7 +20,8 @@ enum-known-number : tie.Need-enum-known-number
 enum-known-number c = search needs
 
 returns : tie.Need-returns
-returns c = pair-told _ (c .before .before .before .judge .ensures) resistance-reports (c .before .enum-told .given .1) (c .resistance .ensures)
+unfolding resistanceInRow rowOf
+returns c = pair-told _ (c .before .before .before .judge .ensures) resistance-right (c .before .enum-told .given .1) (c .resistance .ensures)
 
 returns-2 : tie.Need-returns-2
 returns-2 c = pair-refused _ (c .before .before .before .judge .ensures) (c .before .number .given .1)

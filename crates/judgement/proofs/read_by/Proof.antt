@@ -7,6 +7,7 @@ use lib.ListN.{length}
 use Rattle.text.proofs.FieldTurns.{part-length}
 use Rattle.case.specs.Parts.{formOf}
 use Rattle.header.proofs.HeaderReading.{no-columns-count}
+use Rattle.judgement.specs.Limits.{today}
 use Rattle.judgement.specs.Sheet.{badText}
 use Rattle.judgement.proofs.Whole.{read-text, read-names, read-values}
 use Rattle.judgement.proofs.read_by.Statement.{statement}
@@ -31,7 +32,7 @@ read-header-requires c κs = search needs
 abbrev start : tie.After-read-header → tie.Start
 start h = h .before .before .before .before .before .before .before .before .before .before .before
 
-text : (h : tie.After-read-header) → badText (start h .args .s .now) ≡ false
+text : (h : tie.After-read-header) → badText today (start h .args .s .now) ≡ false
 text h = let b = h .before .before .before .before .before in sym (b .before .bad-text .ensures) ∙ b .if1 .left
 
 -- the lengths of both tables of columns stay

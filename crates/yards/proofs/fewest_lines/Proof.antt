@@ -1,9 +1,10 @@
--- `fewest_lines` follows the checks of the case, then those of the side.
+-- `fewest_lines` follows the checks of the case, then those of the side; what holds of such an answer is a law.
 -- Assumes nothing.
 use mathlib.Core.Path.{_≡_, sym, ap, _∙_}
 use Rattle.case.specs.Check.{recordJudged, recordAnswer}
 use Rattle.yards.specs.Yards.{trial}
 use Rattle.yards.specs.Fewest.{answer}
+use Rattle.yards.proofs.Answers.{answered}
 use borrow.Author.Needs.{needs}
 use Rattle.yards.proofs.fewest_lines.Statement.{statement}
 use Rattle.yards.proofs.fewest_lines.Tie as tie
@@ -29,11 +30,11 @@ enum-known-number c = search needs
 
 returns : tie.Need-returns
 unfolding answer recordAnswer
-returns c = c .side-answer .ensures ∙ rw (sym (judged (c .before .before .before)) ∙ c .before .enum-told .given .1)
+returns c = answered _ _ (c .side-answer .ensures ∙ rw (sym (judged (c .before .before .before)) ∙ c .before .enum-told .given .1))
 
 returns-2 : tie.Need-returns-2
 unfolding answer recordAnswer
-returns-2 c = rw (sym (judged (c .before .before .before)) ∙ c .before .number .given .1)
+returns-2 c = answered _ _ (rw (sym (judged (c .before .before .before)) ∙ c .before .number .given .1))
 
 pub fewest-lines-spec : {M : Type 1} → statement M
 fewest-lines-spec =

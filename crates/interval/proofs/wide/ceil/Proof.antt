@@ -1,8 +1,10 @@
 -- `ceil` adds the quotient's and the rest's parts, the rest's rounded up.
 -- Assumes nothing.
+use native.Mathlib.Nat.{lt-of-lt-of-le}
 use native.Mathlib.Omega.{arith}
+use lib.Dec.{lit≤}
 use borrow.Author.Needs.{needs}
-use Rattle.interval.proofs.WideProduct.{wide-ceil, rest-high, ceil-parts}
+use Rattle.interval.proofs.WideProduct.{wide-ceil, rest-high, rounded-parts}
 use Rattle.interval.proofs.wide.ceil.Statement.{statement}
 use Rattle.interval.proofs.wide.ceil.Tie as tie
 
@@ -28,7 +30,7 @@ div-result-2 : tie.Need-div-result-2
 div-result-2 c = search needs
 
 add-result-2 : tie.Need-add-result-2
-add-result-2 c = record { fits = omega (arith, ceil-parts (c .pre)) }
+add-result-2 c = record { fits = lt-of-lt-of-le (rounded-parts (c .pre) _ (omega (arith, c .pre .divisor))) (lit≤ tt) }
 
 returns : tie.Need-returns
 returns c = wide-ceil (c .args .k) (c .args .x) (c .pre .divisor)

@@ -49,10 +49,10 @@ part-case-of-start : tie.Need-part-case-of-start Inv-loop μ-loop
 part-case-of-start c = search needs
 
 part-case-of-end : tie.Need-part-case-of-end Inv-loop μ-loop
-part-case-of-end c = within c
+part-case-of-end c = omega (arith, within c)
 
 case-of-requires : tie.Need-case-of-requires Inv-loop μ-loop
-case-of-requires c κs = mid-len _ _ (start (c .before) .args .values .now) (within (c .before)) ∙ omega arith
+case-of-requires c κs = mid-len _ _ (start (c .before) .args .values .now) (part-case-of-end (c .before)) ∙ omega arith
 
 -- the case of line i
 case-is : (c : tie.After-case-of Inv-loop μ-loop) → c .case-of .result ≡ caseOf (partAt nameCount (start (c .before .before) .args .values .now) (c .before .before .before .loop .i))

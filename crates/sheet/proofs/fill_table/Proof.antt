@@ -1,4 +1,4 @@
--- `sheet` reads, then writes where the table has room.
+-- `fill_table` reads, then writes where the table has room.
 -- Assumes nothing.
 use Prim.Native.Nat.{ℕ, _*_, _≤_}
 use mathlib.Core.Path.{_≡_, sym, _∙_}
@@ -16,19 +16,12 @@ use Rattle.header.specs.Header.{columnsOf}
 use Rattle.judgement.proofs.Accepted.{accepted}
 use Rattle.sheet.proofs.Answers.{answered-refused, answered-short, answered-rows}
 use Rattle.sheet.proofs.StoredCases.{stored-cases, stored-bounds}
-use Rattle.sheet.proofs.sheet.Statement.{statement}
-use Rattle.sheet.proofs.sheet.Tie as tie
-
-slice-aggregate-read : tie.Need-slice-aggregate-read
-slice-aggregate-read c = search needs
-
--- a store for the most lines of today's form
-store-room : length columns * mostLines ≤ nameCount * mostLines
-store-room = omega (arith, name-count)
+use Rattle.sheet.proofs.fill_table.Statement.{statement}
+use Rattle.sheet.proofs.fill_table.Tie as tie
 
 read-requires : tie.Need-read-requires
 unfolding formOf
-read-requires c κs = store-room
+read-requires c κs = omega (arith, name-count, c .before .before .before .pre)
 
 enum-known-number : tie.Need-enum-known-number
 enum-known-number c = search needs
@@ -39,14 +32,14 @@ enum-known-n c = search needs
 -- ---- the sheet as it was read
 
 abbrev start : tie.After-read → tie.Start
-start r = r .before .before .before
+start r = r .before .before .before .before
 
 judged-is : (r : tie.After-read) → r .read .result ≡ judgement columns (start r .args .s .now)
 unfolding formOf
 judged-is r = r .read .ensures .answer-is
 
 store-count : (r : tie.After-read) → length (r .read .last .1 .1 .0) ≡ nameCount * mostLines
-store-count r = r .read .ensures .size
+store-count r = r .read .ensures .size ∙ start r .pre
 
 -- n lines
 module _ (r : tie.After-read) {n : ℕ} (e : r .read .result ≡ Lines n) where
@@ -57,51 +50,62 @@ module _ (r : tie.After-read) {n : ℕ} (e : r .read .result ≡ Lines n) where
   unfolding formOf
   lines-stored = r .read .ensures .stored _ e
 
+-- the reading that counted the lines
+abbrev read-of : tie.After-n → tie.After-read
+read-of n = n .before .before .before .before
+
 mul-if1 : tie.Need-mul-if1
-mul-if1 c = omega (arith, lines-accepted (c .before .before .before .before) (c .before .n .given .1) .most)
+mul-if1 c = let n = c .before in omega (arith, lines-accepted (read-of n) (n .n .given .1) .most)
+
+same-length : tie.Need-same-length
+same-length c = search needs
 
 returns : tie.Need-returns
 returns c =
     let n = c .before .before in
-    answered-short _ _ (judged-is (n .before .before .before)) (n .n .given .1) (c .if1 .taken)
-
-slice-aggregate-write-rows : tie.Need-slice-aggregate-write-rows
-slice-aggregate-write-rows c = sym (store-count (c .before .before .before .before .before .before))
+    answered-short _ _ (judged-is (read-of n)) (n .n .given .1) (c .if1 .taken)
 
 write-rows-requires : tie.Need-write-rows-requires
 write-rows-requires c κs =
     let e = c .before .before in
     let n = e .before .before in
-    let r = n .before .before .before in
+    let r = read-of n in
     let a = lines-accepted r (n .n .given .1) in
     (stored-bounds _ a (lines-stored r (n .n .given .1)), (omega (arith, store-count r, a .most), e .if1 .left))
 
-returns-2 : tie.Need-returns-2
-returns-2 c = answered-refused _ _ (judged-is (c .before .before .before .before)) (c .before .number .given .1)
+same-length-2 : tie.Need-same-length-2
+same-length-2 c = search needs
 
-same-length : tie.Need-same-length
-same-length c = search needs
+returns-2 : tie.Need-returns-2
+returns-2 c = answered-refused _ _ (judged-is (c .before .before .before .before .before)) (c .before .number .given .1)
+
+same-length-3 : tie.Need-same-length-3
+same-length-3 c = search needs
+
+same-length-4 : tie.Need-same-length-4
+same-length-4 c = search needs
 
 returns-3 : tie.Need-returns-3
 returns-3 c =
     let e = c .before .before .before .before in
     let n = e .before .before in
-    let r = n .before .before .before in
+    let r = read-of n in
     answered-rows _ _ (judged-is r) (n .n .given .1) (e .if1 .left)
     (rw (← stored-cases _ (lines-accepted r (n .n .given .1)) (lines-stored r (n .n .given .1))) (c .before .write-rows .ensures))
 
-pub sheet-spec : {M : Type 1} → statement M
-sheet-spec =
+pub fill-table-spec : {M : Type 1} → statement M
+fill-table-spec =
     tie.close
     (tie.spec
-    slice-aggregate-read
     read-requires
     enum-known-number
     enum-known-n
     mul-if1
-    returns
-    slice-aggregate-write-rows
-    write-rows-requires
-    returns-2
     same-length
+    returns
+    write-rows-requires
+    same-length-2
+    returns-2
+    same-length-3
+    same-length-4
     returns-3)

@@ -1,0 +1,34 @@
+-- The margins of the numbers of a case's row are right.
+-- Assumes nothing.
+use Prim.Native.Nat.{ℕ}
+use mathlib.Core.Path.{_≡_, refl, sym, _∙_}
+use native.Mathlib.Omega.{arith}
+use Rattle.case.specs.declared.Case.{Case}
+use Rattle.case.proofs.Bounds.{record-bounds}
+use Rattle.row.specs.declared.Row.{Row}
+use Rattle.row.specs.Row.{numbers}
+use Rattle.margin.specs.declared.Compared.{Compared}
+use Rattle.margin.specs.declared.Compared.the-variants.{None}
+use Rattle.margin.specs.Margin.{marginsOf}
+use Rattle.margin.proofs.Right.{right-margins}
+use Rattle.hocsimbur.specs.declared.RowAnswer.{RowAnswer}
+use Rattle.hocsimbur.specs.declared.RowAnswer.the-variants.{Is, Refused}
+use Rattle.hocsimbur.specs.Asked.{RowAnswered}
+use Rattle.hocsimbur.proofs.Answers.{row-sound}
+use Rattle.caller.specs.Margins.{MarginsTold}
+
+module _ {c : Case} {a : RowAnswer} (h : RowAnswered c a) where
+  pub refused-none : {number line column : ℕ} → a ≡ Refused number line column → MarginsTold c None
+  refused-none {number} {line} {column} q =
+      record {
+        right = λ row e. let k : Is row ≡ Refused number line column = sym e ∙ sym (h .answer) ∙ q in let z : _≡_ {A = ℕ} 0 1 = cc in absurd (omega arith);
+        refused = λ n l k e. refl;
+      }
+
+  pub margins-told : {row : Row} {r : Compared} → a ≡ Is row → r ≡ marginsOf (numbers row) → MarginsTold c r
+  margins-told {row} q e =
+      let t = row-sound c (sym q ∙ h .answer) in
+      record {
+        right = λ other k. rw (e, t .1) (right-margins (record-bounds (t .0)));
+        refused = λ n l k f. let m : Is row ≡ Refused n l k = sym q ∙ h .answer ∙ f in let z : _≡_ {A = ℕ} 0 1 = cc in absurd (omega arith);
+      }

@@ -1,0 +1,16 @@
+-- The margins of a case asked alone.
+-- Assumes nothing.
+use Prim.Native.Nat.{ℕ}
+use mathlib.Core.Path.{_≡_}
+use Rattle.case.specs.declared.Case.{Case}
+use Rattle.row.specs.declared.Row.{Row}
+use Rattle.margin.specs.declared.Compared.{Compared}
+use Rattle.margin.specs.declared.Compared.the-variants.{None}
+use Rattle.margin.specs.Meaning.{Right}
+use Rattle.hocsimbur.specs.declared.RowAnswer.the-variants.{Is, Refused}
+use Rattle.hocsimbur.specs.Asked.{rowAnswer}
+
+-- right of the exact values where the case has a row, and none where it is refused
+pub record MarginsTold (c : Case) (r : Compared) : Type 0 where
+  pub right : (row : Row) → rowAnswer c ≡ Is row → Right c r
+  pub refused : (number line column : ℕ) → rowAnswer c ≡ Refused number line column → r ≡ None

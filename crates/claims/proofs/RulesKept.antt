@@ -1,0 +1,93 @@
+-- What holds of a sheet that breaks no rule, in document 01's words; its sample sheet breaks none.
+-- Assumes nothing.
+use Prim.Native.Nat.{ℕ, _<_}
+use mathlib.Core.Path.{_≡_, refl, _∙_}
+use mathlib.Core.Bool.{Bool, true, false, _&&_}
+use mathlib.Core.List.{List, []}
+use native.Mathlib.Omega.{arith}
+use lib.ListN.{length, getD}
+use lib.Dec.{eqb}
+use borrow.Author.Tests.{eq-eqb, eqb-true}
+use Rattle.text.specs.Text.{same}
+use Rattle.case.specs.Columns.{columns, name-count, nameIndex, named}
+use Rattle.case.specs.Bounds.{Bounds}
+use Rattle.header.proofs.NamesStand.{names-stand, stands-once, name-known-at}
+use Rattle.line.specs.Line.{lineCase}
+use Rattle.judgement.specs.declared.Judgement.the-variants.{Lines}
+use Rattle.judgement.specs.Limits.{today}
+use Rattle.judgement.specs.Findings.{sameKey}
+use Rattle.judgement.specs.Sheet.{names, valueLines}
+use Rattle.judgement.specs.Accepted.{Accepted}
+use Rattle.judgement.proofs.Whole.{text-right}
+use Rattle.judgement.proofs.Accepted as judged
+use Rattle.judgement.proofs.LineFound as line
+use Rattle.judgement.proofs.LinesInTurn.{sound-at, none-before}
+use Rattle.sheet.specs.Examples.{sample-judged, sample-cases}
+use Rattle.sheet.proofs.Accepted.{sound-bounds}
+use Rattle.claims.specs.Words.{BreaksNone, caseAt}
+use Rattle.claims.specs.Rules.{fieldsAt, OwnLine, SameKey, RulesKept, SampleSheet}
+use Rattle.claims.proofs.OwnLines.{columnsIn, valuesAt, right-fields, case-is, own-line}
+
+-- ---- keys
+
+both-equal : (a b c d : ℕ) → (eqb a b && eqb c d) ≡ true → (a ≡ b) × (c ≡ d)
+both-equal a b c d = go (eqb a b) refl
+  where
+    go : (p : Bool) → eqb a b ≡ p → (p && eqb c d) ≡ true → (a ≡ b) × (c ≡ d)
+    go true q e = (eqb-true a b q, eqb-true c d e)
+    go false q e = let z : _≡_ {A = ℕ} 0 1 = cc in absurd (omega arith)
+
+module _ (s : List ℕ) (i j : ℕ) (h : i < length (valueLines s)) (l : j < length (valueLines s)) where
+  pub same-key : sameKey columns (valuesAt s i) (valuesAt s j) ≡ true → SameKey (caseAt s i) (caseAt s j)
+  unfolding sameKey named nameIndex columns same
+  same-key e = let q = both-equal _ _ _ _ e in rw (case-is s i h, case-is s j l) (record { station = q .0; season = q .1 })
+
+  other-key : sameKey columns (valuesAt s i) (valuesAt s j) ≡ false → SameKey (caseAt s i) (caseAt s j) → ⊥
+  unfolding sameKey named nameIndex columns same
+  other-key e k =
+      let a : getD (valuesAt s i) 0 0 ≡ getD (valuesAt s j) 0 0 = rw (case-is s i h, case-is s j l) at (k .station) in
+      let b : getD (valuesAt s i) 1 0 ≡ getD (valuesAt s j) 1 0 = rw (case-is s i h, case-is s j l) at (k .season) in
+      let z : _≡_ {A = Bool} true false = rw (eq-eqb _ _ a, eq-eqb _ _ b) at e in
+      let y : _≡_ {A = ℕ} 0 1 = cc in
+      omega arith
+
+-- ---- a sheet that breaks none
+
+line-bounds : {s : List ℕ} {n : ℕ} → Accepted columns s n → (i : ℕ) → i < length (valueLines s) → Bounds (caseAt s i)
+unfolding lineCase
+line-bounds {s} a i h = rw (case-is s i h) (sound-bounds (a .placed) (a .lines .line i h))
+
+pub rules-kept : {s : List ℕ} {n : ℕ} → BreaksNone s n → RulesKept s n
+rules-kept {s} {n} e =
+    let a = judged.accepted columns s n e in
+    let t = text-right today s (a .text) in
+    let stand = names-stand columns (names s) (a .names-sound) in
+    record {
+      some-bytes = t .some;
+      few-bytes = t .most;
+      last-byte = t .last;
+      name-count = stand .count ∙ name-count;
+      names-known = λ c l m. name-known-at stand c l (omega (arith, name-count));
+      names-once = λ k h. stands-once stand k (omega (arith, name-count));
+      count = a .count;
+      some-lines = a .some;
+      few-lines = a .most;
+      own-line = λ i h. own a i (omega (arith, a .count));
+      bounds = λ i h. line-bounds a i (omega (arith, a .count));
+      keys-once = λ i j h l. keys-once a i j h l;
+    }
+  where
+    own : Accepted columns s n → (i : ℕ) → i < length (valueLines s) → OwnLine s i (caseAt s i)
+    own a i h = own-line s i h (a .names-sound) (right-fields (fieldsAt s i) (a .lines .line i h .form-sound))
+
+    keys-once : Accepted columns s n → (i j : ℕ) → i < j → j < n → SameKey (caseAt s j) (caseAt s i) → ⊥
+    keys-once a i j h l =
+        let m : j < length (valueLines s) = omega (arith, a .count) in
+        let f = sound-at columns (columnsIn s) [] 2 (Lines n) (valueLines s) (a .judged) j m in
+        let q = line.sound-says columns (columnsIn s) _ (fieldsAt s j) f in
+        other-key s j i m (omega arith) (none-before columns (columnsIn s) (valuesAt s j) [] (valueLines s) j m (q .1) .1 i h)
+
+-- ---- document 01's sample sheet
+
+pub sample-sheet : SampleSheet
+sample-sheet = record { breaks-none = sample-judged; dry = rw sample-cases; wet = rw sample-cases }

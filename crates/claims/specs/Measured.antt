@@ -1,0 +1,166 @@
+-- What is asked of plain numbers: the logarithm, readings (g), a staged test (l), the margins of a row. Of each question every answer that it can give,
+-- with its condition; the conditions exclude one another, so each answer is given exactly on its own.
+-- Assumes nothing.
+use Prim.Native.Nat.{ℕ, suc, _+_, _*_, _/_, _%_, _^_, _≤_, _<_}
+use mathlib.Core.Path.{_≡_}
+use mathlib.Core.Logic.{_⊎_}
+use mathlib.Core.List.{List, List·Memᴰ}
+use lib.IntN.{ℤ, pos, negℤ, natAbs, _+ℤ_}
+use lib.ListN.{length, getD}
+use lib.Signed.{_≤ℤ_, _<ℤ_}
+use Rattle.interval.specs.declared.Interval.{Interval}
+use Rattle.interval.specs.declared.Pair.{Pair}
+use Rattle.interval.specs.declared.Pair.the-variants as pair
+use Rattle.exact.specs.Fraction.{Fraction, whole, decimal, _÷f_}
+use Rattle.exact.specs.Ends.{Ends}
+use Rattle.exact.specs.Exact.{Exact, AtOrBelow}
+use Rattle.exact.specs.Logarithm.{lnOf}
+use Rattle.exact.specs.Reported.{ten, Reports}
+use Rattle.case.specs.Bounds.{Between}
+use Rattle.readings.specs.declared.Report.{Report}
+use Rattle.readings.specs.declared.Sounding.{Sounding}
+use Rattle.readings.specs.declared.Sounding.the-variants as sounding
+use Rattle.readings.specs.Reading.{Reading, pairsOf}
+use Rattle.readings.specs.Resistivity as Resistivity
+use Rattle.readings.specs.Resistivity.{apparent}
+use Rattle.readings.specs.Report.{μΩm, width}
+use Rattle.staged.specs.declared.SplitAnswer.{SplitAnswer}
+use Rattle.staged.specs.declared.SplitAnswer.the-variants as split
+use Rattle.staged.specs.Current.{inPhase, quadrature, injected, branches, total, squareOf}
+use Rattle.margin.specs.declared.Compared.{Compared}
+use Rattle.margin.specs.declared.Compared.the-variants as compared
+use Rattle.margin.specs.Meaning.{IsMargin}
+
+-- ---- the logarithm
+
+-- "a fraction of two whole numbers from 1 to 10^15"
+abbrev pub Askable : ℕ → Type 0
+Askable n = Between 1 n (10 ^ 15)
+
+-- (j) "The logarithm's ends must be at most 200 billionths apart"
+abbrev pub twoHundred : Ends → Fraction
+twoHundred ends = decimal 200 9
+
+pub data LogarithmOutcome (p q : ℕ) : Pair → Type 0 where
+  -- "one outside is refused with 5, line 0, column 1 (upper number) or 2 (lower)"
+  upper : ¬ Askable p → LogarithmOutcome p q (pair.Refused 5 0 1)
+  lower : Askable p → ¬ Askable q → LogarithmOutcome p q (pair.Refused 5 0 2)
+  -- "answered as a pair in signed billionths that holds the exact value"
+  ends : {i : Interval} → Askable p → Askable q → Reports (lnOf (whole p ÷f whole q)) (ten 9) twoHundred i → LogarithmOutcome p q (pair.Ends i)
+
+-- ---- (g) soil from four-pin readings
+
+-- "the count of numbers is 0, odd or above 128"
+abbrev pub WrongCount : ℕ → Type 0
+WrongCount n = (n ≡ 0) ⊎ (n % 2 ≡ 1) ⊎ (128 < n)
+
+module _ (numbers : List ℕ) where
+  -- of pair i, from 0: "a probe distance a in mm (500..50,000) and a resistance R in milliohms (1..1,000,000)"
+  abbrev pub DistanceInside : ℕ → Type 0
+  DistanceInside i = Between 500 (getD numbers (2 * i) 0) 50000
+
+  abbrev pub ResistanceInside : ℕ → Type 0
+  ResistanceInside i = Between 1 (getD numbers (2 * i + 1) 0) 1000000
+
+  -- of every pair, and "the first such pair" of which it does not hold
+  abbrev pub AllPairs : (ℕ → Type 0) → Type 0
+  AllPairs P = (i : ℕ) → i < length numbers / 2 → P i
+
+  pub record FirstPair (P : ℕ → Type 0) (i : ℕ) : Type 0 where
+    pub within : i < length numbers / 2
+    pub not-so : ¬ P i
+    pub before : (j : ℕ) → j < i → P j
+
+  -- "over all pairs": a value is at or below those of all, and one of them is at or below it; and the other way round
+  pub record LeastOf (x : Exact) : Type 0 where
+    pub below : (p : Reading) → List·Memᴰ p (pairsOf numbers) → AtOrBelow x (apparent p)
+    pub reading : Reading
+    pub among : List·Memᴰ reading (pairsOf numbers)
+    pub reached : AtOrBelow (apparent reading) x
+
+  pub record GreatestOf (x : Exact) : Type 0 where
+    pub above : (p : Reading) → List·Memᴰ p (pairsOf numbers) → AtOrBelow (apparent p) x
+    pub reading : Reading
+    pub among : List·Memᴰ reading (pairsOf numbers)
+    pub reached : AtOrBelow x (apparent reading)
+
+  -- "The report gives the ends of the least, the greatest and the mean over all pairs in micro-ohm metres, at most 1/1,000,000 of the lower end plus 2
+  -- apart"
+  pub record SoilReport (report : Report) : Type 0 where
+    pub least : Reports (Resistivity.least (pairsOf numbers)) μΩm width (report .least)
+    pub greatest : Reports (Resistivity.greatest (pairsOf numbers)) μΩm width (report .greatest)
+    pub mean : Reports (Resistivity.mean (pairsOf numbers)) μΩm width (report .mean)
+    pub least-of-all : LeastOf (Resistivity.least (pairsOf numbers))
+    pub greatest-of-all : GreatestOf (Resistivity.greatest (pairsOf numbers))
+    -- "and the upper mean rounded up to whole ohm metres for the soil column": the smallest number that it is not above
+    pub soil : report .mean .upper ≤ℤ pos (1000000 * report .soil)
+    pub no-less : (m : ℕ) → m < report .soil → pos (1000000 * m) <ℤ report .mean .upper
+
+  -- "Refusals, in this order over the whole input"
+  pub data SoilOutcome : Sounding → Type 0 where
+    -- "12, 0, 0 when the count of numbers is 0, odd or above 128"
+    count : WrongCount (length numbers) → SoilOutcome (sounding.Refused 12 0 0)
+    -- "13 when a distance is out of range; 14 when a resistance is; the last two with the first such pair's place from 1 as line, and column 1 or 2"
+    distance : {i : ℕ} → ¬ WrongCount (length numbers) → FirstPair DistanceInside i → SoilOutcome (sounding.Refused 13 (suc i) 1)
+    resistance : {i : ℕ} → ¬ WrongCount (length numbers) → AllPairs DistanceInside → FirstPair ResistanceInside i
+        → SoilOutcome (sounding.Refused 14 (suc i) 2)
+    soil : {report : Report} → ¬ WrongCount (length numbers) → AllPairs DistanceInside → AllPairs ResistanceInside → SoilReport report
+        → SoilOutcome (sounding.Soil report)
+
+-- ---- (l) split from a staged test
+
+-- "the count of numbers is odd, below 4 or above 34"
+abbrev pub WrongParts : ℕ → Type 0
+WrongParts n = (n % 2 ≡ 1) ⊎ (n < 4) ⊎ (34 < n)
+
+-- a part is not "outside −1,000,000..1,000,000"
+abbrev pub PartInside : ℤ → Type 0
+PartInside z = (negℤ (pos 1000000) ≤ℤ z) × (z ≤ℤ pos 1000000)
+
+module _ (s : List ℤ) where
+  abbrev pub AllParts : Type 0
+  AllParts = (i : ℕ) → i < length s → PartInside (getD s i (pos 0))
+
+  -- "both injected parts are 0": "the injected pair first"
+  abbrev pub NoneInjected : Type 0
+  NoneInjected = (getD s 0 (pos 0) ≡ pos 0) × (getD s 1 (pos 0) ≡ pos 0)
+
+  -- the grid's two parts and the split
+  pub record Staged (inPhasePart quadraturePart : ℤ) (perMille : ℕ) : Type 0 where
+    -- "Branches and grid together make the injected current exactly, part by part."
+    pub in-phase-whole : total (branches (inPhase s)) +ℤ inPhasePart ≡ injected (inPhase s)
+    pub quadrature-whole : total (branches (quadrature s)) +ℤ quadraturePart ≡ injected (quadrature s)
+    -- "the smallest whole per mille whose square times the injected square is not below a million times the grid's square"
+    pub enough : 1000000 * squareOf inPhasePart quadraturePart ≤ perMille * perMille * squareOf (injected (inPhase s)) (injected (quadrature s))
+    pub smallest : (m : ℕ) → m < perMille
+        → m * m * squareOf (injected (inPhase s)) (injected (quadrature s)) < 1000000 * squareOf inPhasePart quadraturePart
+
+  -- "Refusals, in order over the whole input, with line and column 0"
+  pub data SplitOutcome : SplitAnswer → Type 0 where
+    -- "17 when the count of numbers is odd, below 4 or above 34"
+    count : WrongParts (length s) → SplitOutcome (split.Refused 17 0 0)
+    -- "18 when a part is outside −1,000,000..1,000,000"
+    part : (i : ℕ) → ¬ WrongParts (length s) → i < length s → ¬ PartInside (getD s i (pos 0)) → SplitOutcome (split.Refused 18 0 0)
+    -- "19 when both injected parts are 0"
+    none : ¬ WrongParts (length s) → AllParts → NoneInjected → SplitOutcome (split.Refused 19 0 0)
+    grid : {a b : ℤ} {n : ℕ} → ¬ WrongParts (length s) → AllParts → ¬ NoneInjected → Staged a b n → SplitOutcome (split.Grid a b n)
+
+-- ---- the margins of a row's numbers, which no document asks for
+
+-- a voltage from 0 and a tolerable voltage from 1 mV, neither above 10^15 mV
+abbrev pub Comparable : ℤ → ℤ → Type 0
+Comparable voltage tolerable = ((pos 0 ≤ℤ voltage) × (voltage ≤ℤ pos (10 ^ 15))) × ((pos 1 ≤ℤ tolerable) × (tolerable ≤ℤ pos (10 ^ 15)))
+
+module _ (row : List ℤ) where
+  abbrev at : ℕ → ℤ
+  at place = getD row place (pos 0)
+
+  -- upper mesh against lower tolerable touch, upper step against lower tolerable step
+  abbrev pub RowComparable : Type 0
+  RowComparable = (length row ≡ 20) × (Comparable (at 13) (at 8) × Comparable (at 15) (at 10))
+
+  -- each margin is the smallest whole number of tenths of a percent by which the voltage is not above the tolerable one
+  pub data MarginsOutcome : Compared → Type 0 where
+    margins : {mesh step : ℤ} → RowComparable → IsMargin (natAbs (at 13)) (natAbs (at 8)) mesh → IsMargin (natAbs (at 15)) (natAbs (at 10)) step
+        → MarginsOutcome (compared.Margins mesh step)
+    none : ¬ RowComparable → MarginsOutcome compared.None

@@ -1,0 +1,167 @@
+-- The rules of a sheet in document 01's words, of its text: what holds of a sheet that breaks none, and what each refusal says. Columns count from 1;
+-- value lines count from 0, so that value line i is line i + 2 of the sheet.
+-- Assumes nothing.
+use Prim.Native.Nat.{ℕ, _+_, _-_, _≤_, _<_}
+use Prim.Native.String.{String}
+use mathlib.Core.Path.{_≡_}
+use mathlib.Core.Bool.{false}
+use mathlib.Core.Logic.{_⊎_}
+use mathlib.Core.List.{List, [], _∷_}
+use lib.ListN.{length, getD}
+use Rattle.text.specs.Text.{bytes, fieldsOf}
+use Rattle.text.specs.Value.{valueOf}
+use Rattle.case.specs.declared.Case.{Case}
+use Rattle.case.specs.Case.{caseOf}
+use Rattle.case.specs.Columns.{columns, inRange}
+use Rattle.case.specs.Parts.{rangeAt}
+use Rattle.case.specs.Bounds.{Bounds}
+use Rattle.header.specs.Parts.{nameAt}
+use Rattle.header.specs.Names.{fieldAt, StandsAt, StandsOnce, KnownName, WrongName}
+use Rattle.judgement.specs.declared.Judgement.the-variants as judged
+use Rattle.judgement.specs.Limits.{earlier}
+use Rattle.judgement.specs.Sheet.{names, valueLines, judgementWithin}
+use Rattle.judgement.specs.Wrong.{RightValues, WrongValues}
+use Rattle.sheet.specs.Examples.{sample}
+use Rattle.claims.specs.Words.{BreaksNone, caseAt}
+
+-- the fields of value line i
+abbrev pub fieldsAt : List ℕ → ℕ → List (List ℕ)
+fieldsAt s i = fieldsOf (getD (valueLines s) i [])
+
+-- ---- a case and the text of its line
+
+-- "Its first line holds names, and each later line holds values in that order": a column of the first line holds this name, and value line i this
+-- number in the same column
+pub record Under (s : List ℕ) (i : ℕ) (name : String) (value : ℕ) : Type 0 where
+  pub column : ℕ
+  pub named : StandsAt (names s) (bytes name) column
+  pub number : value ≡ valueOf (fieldAt (fieldsAt s i) column)
+
+-- a case has of each name the number that value line i has under it
+pub record OwnLine (s : List ℕ) (i : ℕ) (c : Case) : Type 0 where
+  pub within : i < length (valueLines s)
+  -- "A value is one to six decimal digits; 0 is the only value that may start with 0.": 22 of them
+  pub values : RightValues 22 (fieldsAt s i)
+  pub station : Under s i "station" (c .station)
+  pub season : Under s i "season" (c .season)
+  pub soil : Under s i "soil" (c .soil)
+  pub layer : Under s i "layer" (c .layer)
+  pub thick : Under s i "thick" (c .thick)
+  pub shock : Under s i "shock" (c .shock)
+  pub clear : Under s i "clear" (c .clear)
+  pub wire : Under s i "wire" (c .wire)
+  pub body : Under s i "body" (c .body)
+  pub fault : Under s i "fault" (c .fault)
+  pub split : Under s i "split" (c .split)
+  pub xr : Under s i "xr" (c .xr)
+  pub across : Under s i "across" (c .across)
+  pub along : Under s i "along" (c .along)
+  pub space : Under s i "space" (c .space)
+  pub depth : Under s i "depth" (c .depth)
+  pub dia : Under s i "dia" (c .dia)
+  pub rods : Under s i "rods" (c .rods)
+  pub rodlen : Under s i "rodlen" (c .rodlen)
+  pub place : Under s i "place" (c .place)
+  pub metal : Under s i "metal" (c .metal)
+  pub hz : Under s i "hz" (c .hz)
+
+-- "station and season both equal" those of another case
+pub record SameKey (c d : Case) : Type 0 where
+  pub station : c .station ≡ d .station
+  pub season : c .season ≡ d .season
+
+-- ---- a sheet that breaks none, with n value lines
+
+pub record RulesKept (s : List ℕ) (n : ℕ) : Type 0 where
+  -- 1: not "empty, over 16,384 bytes, or last byte not 10"; request (h) of document 02: "the sheet to 65,536 bytes"
+  pub some-bytes : 1 ≤ length s
+  pub few-bytes : length s ≤ 65536
+  pub last-byte : getD s (length s - 1) 0 ≡ 10
+  -- 2: "The 18 names stand once each, in any order", 22 by requests (a), (c) and (d)
+  pub name-count : length (names s) ≡ 22
+  pub names-known : (column : ℕ) → 1 ≤ column → column ≤ 22 → KnownName columns (fieldAt (names s) column)
+  pub names-once : (k : ℕ) → k < 22 → StandsOnce (names s) (nameAt columns k)
+  -- 4: "A sheet has 1 to 64 value lines"; request (h): "Raise the limit to 256 value lines"
+  pub count : n ≡ length (valueLines s)
+  pub some-lines : 1 ≤ n
+  pub few-lines : n ≤ 256
+  -- 3: "each later line holds values in that order"
+  pub own-line : (i : ℕ) → i < n → OwnLine s i (caseAt s i)
+  -- 5 and 6: every value in its range, "layer and thick are both 0 (bare soil) or both not 0. rods, rodlen and place are all 0 or all not 0."
+  pub bounds : (i : ℕ) → i < n → Bounds (caseAt s i)
+  -- 7: no line whose "station and season both equal those of an earlier line"
+  pub keys-once : (i j : ℕ) → i < j → j < n → SameKey (caseAt s j) (caseAt s i) → ⊥
+
+-- document 01's sample sheet; document 02: "document 01's sheet and cases give each new column the value of the one it replaces", and hz is 60
+pub record SampleSheet : Type 0 where
+  pub breaks-none : BreaksNone sample 2
+  -- "7,1,400,2500,102,500,70,3180,600,10,11,7000,500,100,0,0,0,1"
+  pub dry : caseAt sample 0
+      ≡ caseOf (7 ∷ 1 ∷ 400 ∷ 2500 ∷ 102 ∷ 500 ∷ 500 ∷ 500 ∷ 70 ∷ 3180 ∷ 600 ∷ 10 ∷ 11 ∷ 11 ∷ 7000 ∷ 500 ∷ 100 ∷ 0 ∷ 0 ∷ 0 ∷ 1 ∷ 60 ∷ [])
+  -- "7,2,100,2500,102,500,70,3180,600,10,11,7000,500,100,0,0,0,1"
+  pub wet : caseAt sample 1
+      ≡ caseOf (7 ∷ 2 ∷ 100 ∷ 2500 ∷ 102 ∷ 500 ∷ 500 ∷ 500 ∷ 70 ∷ 3180 ∷ 600 ∷ 10 ∷ 11 ∷ 11 ∷ 7000 ∷ 500 ∷ 100 ∷ 0 ∷ 0 ∷ 0 ∷ 1 ∷ 60 ∷ [])
+
+-- ---- a sheet that is refused
+
+-- "sheet empty, over 16,384 bytes, or last byte not 10"; request (h): "the sheet to 65,536 bytes"
+abbrev pub WrongText : List ℕ → Type 0
+WrongText s = (length s ≡ 0) ⊎ ((65536 < length s) ⊎ (getD s (length s - 1) 0 ≡ 10 → ⊥))
+
+-- "value out of its range": that of the name that stands in the column, with its index in the table of names
+pub record OutOfRange (s : List ℕ) (i column : ℕ) : Type 0 where
+  pub index : ℕ
+  pub known : index < 22
+  pub named : StandsAt (names s) (nameAt columns index) column
+  pub outside : inRange (rangeAt columns index) (valueOf (fieldAt (fieldsAt s i) column)) ≡ false
+
+-- "layer and thick are both 0 (bare soil) or both not 0."
+abbrev pub SurfaceAgrees : Case → Type 0
+SurfaceAgrees c = ((c .layer ≡ 0) × (c .thick ≡ 0)) ⊎ ((1 ≤ c .layer) × (1 ≤ c .thick))
+
+-- "rods, rodlen and place are all 0 or all not 0."
+abbrev pub RodsAgree : Case → Type 0
+RodsAgree c = ((c .rods ≡ 0) × (c .rodlen ≡ 0) × (c .place ≡ 0)) ⊎ ((1 ≤ c .rods) × (1 ≤ c .rodlen) × (1 ≤ c .place))
+
+-- "layer and thick disagree (column of layer); rods, rodlen, place disagree (column of rods)"
+pub data Disagrees (s : List ℕ) (i column : ℕ) : Type 0 where
+  layer : ¬ SurfaceAgrees (caseAt s i) → StandsAt (names s) (bytes "layer") column → Disagrees s i column
+  rods : ¬ RodsAgree (caseAt s i) → StandsAt (names s) (bytes "rods") column → Disagrees s i column
+
+-- "station and season both equal those of an earlier line"
+pub record Repeats (s : List ℕ) (i : ℕ) : Type 0 where
+  pub line : ℕ
+  pub earlier : line < i
+  pub own-line : OwnLine s line (caseAt s line)
+  pub same : SameKey (caseAt s i) (caseAt s line)
+
+-- each row of the table "returned (number, line, column)" with its "condition"
+pub data Broken (s : List ℕ) : ℕ → ℕ → ℕ → Type 0 where
+  -- "1, 0, 0"
+  text : WrongText s → Broken s 1 0 0
+  -- "2, 1, column"
+  name : {column : ℕ} → WrongName columns (names s) column → Broken s 2 1 column
+  -- "3, line, column"
+  value : {column : ℕ} (i : ℕ) → i < length (valueLines s) → WrongValues 22 (fieldsAt s i) column → Broken s 3 (i + 2) column
+  -- "4, line, 0": "no value line (line 2), or more than 64 (line 66)"; request (h): "Refusal 4 for too many lines now names line 258"
+  no-line : length (valueLines s) ≡ 0 → Broken s 4 2 0
+  many-lines : 256 < length (valueLines s) → Broken s 4 258 0
+  -- "5, line, column"
+  range : {column : ℕ} (i : ℕ) → OwnLine s i (caseAt s i) → OutOfRange s i column → Broken s 5 (i + 2) column
+  -- "6, line, column"
+  agreement : {column : ℕ} (i : ℕ) → OwnLine s i (caseAt s i) → Disagrees s i column → Broken s 6 (i + 2) column
+  -- "7, line, 0"
+  repeated : (i : ℕ) → OwnLine s i (caseAt s i) → Repeats s i → Broken s 7 (i + 2) 0
+
+-- ---- request (h): the "programs sold earlier for the same columns"
+
+abbrev pub AcceptedEarlier : List ℕ → ℕ → Type 0
+AcceptedEarlier s n = judgementWithin columns earlier s ≡ judged.Lines n
+
+abbrev pub RefusedEarlier : List ℕ → ℕ → ℕ → ℕ → Type 0
+RefusedEarlier s number line column = judgementWithin columns earlier s ≡ judged.Refused number line column
+
+-- "A sheet above the old limit and otherwise right is refused by programs sold earlier for the same columns, with 1 or 4."
+pub record AboveEarlier (s : List ℕ) (n : ℕ) : Type 0 where
+  pub bytes-above : 16384 < length s → RefusedEarlier s 1 0 0
+  pub lines-above : length s ≤ 16384 → 64 < n → RefusedEarlier s 4 66 0

@@ -1,0 +1,75 @@
+-- The sample yard of document 01 at numbers, each part of a formula by its line.
+-- Assumes nothing.
+use Rattle.exact.specs.Ends.{minusEnds}
+use Rattle.formulas.specs.Lengths.{s, n, Ki}
+use Rattle.formulas.specs.Mesh.{innerWeight, Kii, Km, LM, mesh}
+use Rattle.formulas.specs.Step.{halfPower, Ks, step}
+use Rattle.formulas.specs.Resistance.{resistance}
+use Rattle.formulas.specs.Yards.{sample}
+use Rattle.formulas.proofs.Known.{Known, digits, rounded, known-exactly, known-sum, known-difference, known-product, known-quotient}
+use Rattle.formulas.proofs.KnownFunctions.{known-root, known-ln-down, known-π, tests}
+use Rattle.formulas.proofs.KnownGrid.{known-voltage, lengths, turn, root-20, current, depth-factor, log-argument}
+
+Ki-sample : Known (Ki sample) (digits 12 2272000000000 2272000000000)
+unfolding tests Ki n
+Ki-sample =
+    known-sum (digits 12 2272000000000 2272000000000) (known-exactly _)
+    (known-product (digits 12 1628000000000 1628000000000) (known-exactly _) (known-exactly _) tt) tt
+
+Kii-sample : Known (Kii sample) (digits 12 570063387159 570063387161)
+unfolding tests Kii innerWeight
+Kii-sample =
+    known-quotient (digits 12 570063387159 570063387161) (known-exactly _)
+    (known-root _ 1754190889160 1754190889161 (known-exactly _) tt) tt
+
+Km-sample : Known (Km sample) (digits 12 889558591669 889558591673)
+unfolding tests Km n
+Km-sample =
+    known-quotient (digits 12 889558591669 889558591673)
+    (known-sum (digits 12 5589261473056 5589261473070) (log-argument 11 11 0 0 0)
+    (known-product (minusEnds (digits 12 982021569291 982021569303))
+    (known-quotient (digits 12 465454806527 465454806530) Kii-sample (depth-factor 11 11 0 0 0) tt)
+    (known-ln-down 3 (minusEnds (digits 12 2109810781887 2109810781897))
+    (known-quotient (digits 12 121260909022 121260909023) (known-exactly _)
+    (known-product (digits 12 65973445725385 65973445725386) known-π
+    (known-difference (digits 12 21000000000000 21000000000000)
+    (known-product (digits 12 22000000000000 22000000000000) (known-exactly _) (known-exactly _) tt)
+    (known-exactly _) tt) tt) tt) tt) tt) tt)
+    turn tt
+
+pub mesh-sample : Known (mesh sample) (digits 3 1027839 1027841)
+unfolding tests lengths mesh LM
+mesh-sample =
+    known-voltage _ (digits 9 355823436667 355823436670) (digits 9 808430848107 808430848115) (digits 6 1582873044457 1582873044477)
+    (digits 3 1027839 1027841) Km-sample Ki-sample (current 11 11 0 0 0) (rounded (digits 0 1540 1540) (known-exactly _) tt) tt tt tt tt
+
+Ks-sample : Known (Ks sample) (digits 12 406135231082 406135231083)
+unfolding tests lengths Ks halfPower
+Ks-sample =
+    known-quotient (digits 12 406135231082 406135231083)
+    (known-sum (digits 12 1275911458333 1275911458334) (rounded (digits 12 1133333333333 1133333333334) (known-exactly _) tt)
+    (known-quotient (digits 12 142578125000 142578125000)
+    (known-difference (digits 12 998046875000 998046875000) (known-exactly _) (known-exactly _) tt)
+    (known-exactly _) tt) tt)
+    known-π tt
+
+pub step-sample : Known (step sample) (digits 3 625691 625692)
+unfolding tests lengths step
+step-sample =
+    known-voltage _ (digits 9 162454092432 162454092434) (digits 9 369095698005 369095698011) (digits 6 722673599808 722673599822)
+    (digits 3 625691 625692) Ks-sample Ki-sample (current 11 11 0 0 0) (rounded (digits 0 1155 1155) (known-exactly _) tt) tt tt tt tt
+
+pub resistance-sample : Known (resistance sample) (digits 6 2775693 2775694)
+unfolding tests lengths resistance s
+resistance-sample =
+    known-product (digits 6 2775693 2775694) (known-exactly _)
+    (known-sum (digits 15 6939234157186 6939234157196)
+    (known-quotient (digits 15 649350649350 649350649351) (known-exactly _) (rounded (digits 0 1540 1540) (known-exactly _) tt) tt)
+    (known-quotient (digits 15 6289883507836 6289883507845)
+    (known-sum (digits 12 1969044993171 1969044993173) (known-exactly _)
+    (known-quotient (digits 12 969044993171 969044993173) (known-exactly _)
+    (known-sum (digits 12 1031943828249 1031943828250) (known-exactly _)
+    (known-quotient (digits 12 31943828249 31943828250)
+    (known-product (digits 12 2236067977499 2236067977500) (known-exactly _) root-20 tt)
+    (rounded (digits 0 70 70) (known-exactly _) tt) tt) tt) tt) tt)
+    (known-product (digits 12 313049516849930 313049516850000) (rounded (digits 0 70 70) (known-exactly _) tt) root-20 tt) tt) tt) tt
