@@ -14,6 +14,7 @@ from pathlib import Path
 
 import calculator as calc
 import fewest
+import headroom
 from calculator import Case
 from differential import FREQUENCIES, case_at_limit, clear_time, random_case, span_of
 
@@ -307,6 +308,10 @@ def searches():
     yield from (fewest.line(*question) for question in fewest.questions(YARD))
 
 
+def headrooms():
+    yield from headroom.lines(YARD)
+
+
 def no_questions():
     """Lines that are broken: a kind that is none, too few or too many numbers, no number."""
     sound = line("factor", YARD)
@@ -315,14 +320,14 @@ def no_questions():
     yield from (line(kind, YARD) for kind in (
         "", "ln", "factors", "facto", "Factor", "row ", "20", "touch", "step"))
     yield from (sound + ",1", sound + ",", short, short + ",", "tolerable,1,2")
-    yield from (line(kind, record) for kind in RECORD_KINDS for record in earlier_records(YARD))
+    yield from (line(kind, record) for kind in (*RECORD_KINDS, headroom.KIND) for record in earlier_records(YARD))
     yield from (f"ln,{number},1" for number in (2**64, 10**19 * 2, 10**40, "-1", "+1", "1.0", "x"))
 
 
 def questions():
     """All of them, each once, in a fixed order."""
     series = (factors, sizes, tolerable, worked, clocks, resistances, counts, edges, broken,
-              random_records, logarithms, searches, no_questions)
+              random_records, logarithms, searches, headrooms, no_questions)
     return list(dict.fromkeys(question for make in series for question in make()))
 
 

@@ -11,6 +11,7 @@ from itertools import combinations, permutations, product
 
 import calculator as calc
 import fewest
+import headroom
 import questions
 from calculator import Case, Refusal
 from printed import lines_of, read_asked, whole
@@ -134,8 +135,8 @@ class Asked(unittest.TestCase):
         cls.questions = defaultdict(dict)  # by kind: what is asked, and its answer
         cls.broken = {}  # a line that is no question, and what it is answered
         for line, printed in zip(cls.lines, cls.printed):
-            if line.startswith(fewest.KIND + ","):
-                continue  # judged by test_fewest.py
+            if line.startswith(fewest.KIND + ",") or headroom.is_question(line):
+                continue  # judged by test_fewest.py and test_headroom.py
             question, answer = read_question(line), printed[len(line) + 1 :]
             if question:
                 kind, asked = question

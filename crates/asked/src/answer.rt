@@ -3,6 +3,7 @@ use hocsimbur::Case;
 use hocsimbur::Interval;
 use hocsimbur::Number;
 use hocsimbur::Pair;
+use hocsimbur::Room;
 use hocsimbur::Row;
 use hocsimbur::RowAnswer;
 use hocsimbur::Tolerable;
@@ -61,5 +62,17 @@ pub fn numbers(answer: RowAnswer) {
     match answer {
         RowAnswer::Is(row) => whole(row),
         RowAnswer::Refused(why, line, column) => refused(why, line, column),
+    }
+}
+
+// The greatest safe fault current.
+pub fn room(answer: Room) {
+    match answer {
+        Room::UpTo(fault) => {
+            print::number(fault as u64);
+            bytes(b"\n");
+        }
+        Room::None => bytes(b"none\n"),
+        Room::Refused(why, line, column) => refused(why, line, column),
     }
 }

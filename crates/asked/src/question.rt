@@ -1,6 +1,7 @@
 // One question: its kind and its numbers decide the operation.
 use crate::answer::ends;
 use crate::answer::numbers;
+use crate::answer::room;
 use crate::answer::settled;
 use crate::answer::unknown;
 use crate::answer::voltages;
@@ -28,6 +29,8 @@ fn on_record(kind: &[u8], c: Case) {
         ends(hocsimbur::resistance(c));
     } else if same(kind, b"row") {
         numbers(hocsimbur::row(c));
+    } else if same(kind, b"headroom") {
+        room(hocsimbur::headroom(c));
     } else {
         unknown();
     }

@@ -14,6 +14,7 @@ use Rattle.exact.specs.Fraction.{whole, _÷f_}
 use Rattle.exact.specs.Logarithm.{lnOf}
 use Rattle.exact.specs.Reported.{ten}
 use Rattle.exact.specs.Answered.{RightPair}
+use Rattle.numbers.proofs.Formulas.{number-logarithm}
 use Rattle.logarithm.specs.Ends.{lnEnds}
 use Rattle.logarithm.specs.Asked.{width, inside, refused, answerOf, Answered}
 use Rattle.margin.specs.declared.Compared.{Compared}
@@ -34,7 +35,10 @@ logarithm {p} {q} {r} a = rw (a .answer) (go (inside p) refl (inside q) refl (rw
         → LogarithmOutcome p q (cond b (cond d (Ends (lnEnds p q)) (refused 2)) (refused 1))
     go false e d f h = upper (between-no _ _ _ e)
     go true e false f h = lower (between-yes _ _ _ e) (between-no _ _ _ f)
-    go true e true f h = ends (between-yes _ _ _ e) (between-yes _ _ _ f) h
+    go true e true f h =
+        let p-in = between-yes _ _ _ e in
+        let q-in = between-yes _ _ _ f in
+        ends p-in q-in (number-logarithm p q (p-in .low) (q-in .low)) h
 
 -- ---- margins
 

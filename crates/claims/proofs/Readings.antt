@@ -34,6 +34,7 @@ use Rattle.readings.specs.Answer.{RightAnswer, Answered}
 use Rattle.readings.proofs.Pairs.{pair-count, pairAt, pairs-at}
 use Rattle.readings.proofs.Spans as spans
 use Rattle.readings.proofs.Extent.{least-below, greatest-above, least-some, greatest-some}
+use Rattle.numbers.proofs.Readings.{reading-numbers}
 use Rattle.claims.specs.Measured.{WrongCount, DistanceInside, ResistanceInside, FirstPair, SoilReport, SoilOutcome, count, distance, resistance, soil}
 use Rattle.claims.proofs.Betweens.{and-yes, between-yes, between-no}
 
@@ -179,6 +180,7 @@ module _ (s : List ℕ) (some : 1 ≤ length (pairsOf s)) (right : RightReport (
         least = right .least;
         greatest = right .greatest;
         mean = right .mean;
+        numbers-are = reading-numbers (pairsOf s) some;
         least-of-all = record { below = λ p m. least-below p (pairsOf s) m; reading = l .0; among = l .1; reached = l .2 };
         greatest-of-all = record { above = λ p m. greatest-above p (pairsOf s) m; reading = g .0; among = g .1; reached = g .2 };
         soil = soil .0;

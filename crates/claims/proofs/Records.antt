@@ -34,7 +34,9 @@ use Rattle.formulas.specs.Width.{μΩ, billionths, factorWidth, resistanceWidth
 use Rattle.tolerable.specs.Ends.{touchEnds, stepEnds}
 use Rattle.row.specs.Ends.{rowOf}
 use Rattle.row.proofs.Right.{touch-reports, limit-reports}
-use Rattle.hocsimbur.specs.declared.Number.{Number}
+use Rattle.numbers.specs.Number.{Number}
+use Rattle.numbers.proofs.Voltages.{case-numbers}
+use Rattle.hocsimbur.specs.declared.Number.{Number as SizeAnswer}
 use Rattle.hocsimbur.specs.declared.Number.the-variants as sized
 use Rattle.hocsimbur.specs.declared.Tolerable.{Tolerable}
 use Rattle.hocsimbur.specs.declared.Tolerable.the-variants as tolerable
@@ -154,7 +156,7 @@ module _ (c : Case) where
 
 -- ---- the questions
 
-record-sound : {c : Case} → recordJudged c ≡ judged.Sound → claim.AllInside c → SurfaceAgrees c → RodsAgree c → RecordSound c
+pub record-sound : {c : Case} → recordJudged c ≡ judged.Sound → claim.AllInside c → SurfaceAgrees c → RodsAgree c → RecordSound c
 record-sound e i s t = record { inside = i; surface = s; rods = t; bounds = record-bounds e }
 
 -- an answer by the checks of the record: what follows of a refusal, and of a sound record
@@ -175,25 +177,27 @@ row-outcome {c} a =
 
 -- a question for two ends, whose named ends report the value of every case within its bounds
 pair-outcome : {x : Exact} {u : Scale} {width : Ends → Fraction} (ends : Case → Interval) {c : Case} {r : Pair}
-    → (Bounds c → Reports x u width (ends c)) → r ≡ pairAnswer ends c → PairOutcome c x u width r
+    → (Bounds c → Number x) → (Bounds c → Reports x u width (ends c)) → r ≡ pairAnswer ends c → PairOutcome c x u width r
 unfolding pairAnswer
-pair-outcome {x} {u} {width} ends {c} right e =
-    rw e (by-checks (PairOutcome c x u width) pair.Refused (pair.Ends (ends c)) c (λ n l k h. claim.refused h) (λ s. claim.ends s (right (s .bounds))))
+pair-outcome {x} {u} {width} ends {c} number right e =
+    rw e
+    (by-checks (PairOutcome c x u width) pair.Refused (pair.Ends (ends c)) c (λ n l k h. claim.refused h)
+    (λ s. claim.ends s (number (s .bounds)) (right (s .bounds))))
 
 pub factor-outcome : {c : Case} {r : Pair} → FactorAnswered c r → PairOutcome c (Df c) billionths factorWidth r
-factor-outcome a = pair-outcome factorInRow factor-right (a .answer)
+factor-outcome a = pair-outcome factorInRow (λ b. case-numbers b .factor) factor-right (a .answer)
 
 pub resistance-outcome : {c : Case} {r : Pair} → ResistanceAnswered c r → PairOutcome c (resistance c) μΩ resistanceWidth r
-resistance-outcome a = pair-outcome resistanceInRow resistance-right (a .answer)
+resistance-outcome a = pair-outcome resistanceInRow (λ b. case-numbers b .resistance) resistance-right (a .answer)
 
 pub tolerable-outcome : {c : Case} {r : Tolerable} → TolerableAnswered c r → TolerableOutcome c r
 unfolding tolerableAnswer
 tolerable-outcome {c} a =
     rw (a .answer)
     (by-checks (TolerableOutcome c) tolerable.Refused (tolerable.Ends (touchEnds c) (stepEnds c)) c (λ n l k h. claim.refused h)
-    (λ s. claim.ends s (touch-reports (s .bounds)) (limit-reports (s .bounds))))
+    (λ s. claim.ends s (case-numbers (s .bounds)) (touch-reports (s .bounds)) (limit-reports (s .bounds))))
 
-pub size-outcome : {c : Case} {r : Number} → SizeAnswered c r → SizeOutcome c r
+pub size-outcome : {c : Case} {r : SizeAnswer} → SizeAnswered c r → SizeOutcome c r
 unfolding sizeAnswer
 size-outcome {c} a =
     rw (a .answer)

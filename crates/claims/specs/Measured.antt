@@ -24,6 +24,8 @@ use Rattle.readings.specs.Reading.{Reading, pairsOf}
 use Rattle.readings.specs.Resistivity as Resistivity
 use Rattle.readings.specs.Resistivity.{apparent}
 use Rattle.readings.specs.Report.{μΩm, width}
+use Rattle.numbers.specs.Number.{Number}
+use Rattle.numbers.specs.Formulas.{ReadingNumbers}
 use Rattle.staged.specs.declared.SplitAnswer.{SplitAnswer}
 use Rattle.staged.specs.declared.SplitAnswer.the-variants as split
 use Rattle.staged.specs.Current.{inPhase, quadrature, injected, branches, total, squareOf}
@@ -46,7 +48,7 @@ pub data LogarithmOutcome (p q : ℕ) : Pair → Type 0 where
   upper : ¬ Askable p → LogarithmOutcome p q (pair.Refused 5 0 1)
   lower : Askable p → ¬ Askable q → LogarithmOutcome p q (pair.Refused 5 0 2)
   -- "answered as a pair in signed billionths that holds the exact value"
-  ends : {i : Interval} → Askable p → Askable q → Reports (lnOf (whole p ÷f whole q)) (ten 9) twoHundred i → LogarithmOutcome p q (pair.Ends i)
+  ends : {i : Interval} → Askable p → Askable q → Number (lnOf (whole p ÷f whole q)) → Reports (lnOf (whole p ÷f whole q)) (ten 9) twoHundred i → LogarithmOutcome p q (pair.Ends i)
 
 -- ---- (g) soil from four-pin readings
 
@@ -90,6 +92,7 @@ module _ (numbers : List ℕ) where
     pub least : Reports (Resistivity.least (pairsOf numbers)) μΩm width (report .least)
     pub greatest : Reports (Resistivity.greatest (pairsOf numbers)) μΩm width (report .greatest)
     pub mean : Reports (Resistivity.mean (pairsOf numbers)) μΩm width (report .mean)
+    pub numbers-are : ReadingNumbers (pairsOf numbers)
     pub least-of-all : LeastOf (Resistivity.least (pairsOf numbers))
     pub greatest-of-all : GreatestOf (Resistivity.greatest (pairsOf numbers))
     -- "and the upper mean rounded up to whole ohm metres for the soil column": the smallest number that it is not above

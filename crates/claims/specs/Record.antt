@@ -21,11 +21,13 @@ use Rattle.case.specs.Bounds.{Bounds}
 use Rattle.formulas.specs.Decrement.{Df}
 use Rattle.formulas.specs.Tolerable.{tolerableTouch, tolerableStep}
 use Rattle.formulas.specs.Width.{mV, billionths, factorWidth, tolerableWidth}
+use Rattle.numbers.specs.Number.{Number}
+use Rattle.numbers.specs.Formulas.{CaseNumbers}
 use Rattle.row.specs.declared.Row.{Row}
 use Rattle.row.specs.Row.{numbers}
 use Rattle.hocsimbur.specs.declared.RowAnswer.{RowAnswer}
 use Rattle.hocsimbur.specs.declared.RowAnswer.the-variants.{Is, Refused}
-use Rattle.hocsimbur.specs.declared.Number.{Number}
+use Rattle.hocsimbur.specs.declared.Number.{Number as SizeAnswer}
 use Rattle.hocsimbur.specs.declared.Number.the-variants as sized
 use Rattle.hocsimbur.specs.declared.Tolerable.{Tolerable}
 use Rattle.hocsimbur.specs.declared.Tolerable.the-variants as tolerable
@@ -64,26 +66,28 @@ pub record RecordSound (c : Case) : Type 0 where
 
 -- ---- the answers
 
--- "One case may also be asked as a record ..; the answer is its row or a refusal 5 or 6"; the row has all of demand 3
+-- "One case may also be asked as a record of 18 numbers; the answer is its row or a refusal 5 or 6, whose line is 0 and whose column is the place in the table
+-- of names above."; the row has all of demand 3
 pub data RowOutcome (c : Case) : RowAnswer → Type 0 where
   refused : {number line column : ℕ} → RecordRefused c number line column → RowOutcome c (Refused number line column)
   row : {r : Row} → RecordSound c → OwnRow c (numbers r) 0 → RowOutcome c (Is r)
 
--- "Decrement factor .., conductor size, tolerable touch, tolerable step and resistance may each be asked alone, from a record, with the same checks."
+-- "Decrement factor (in thousandths), conductor size, tolerable touch, tolerable step and resistance may each be asked alone, from a record, with the same
+-- checks."
 
--- two ends for an exact value: the factor, or the resistance
+-- two ends for an exact value, which is one number: the factor, or the resistance
 pub data PairOutcome (c : Case) (x : Exact) (unit : Scale) (width : Ends → Fraction) : Pair → Type 0 where
   refused : {number line column : ℕ} → RecordRefused c number line column → PairOutcome c x unit width (pair.Refused number line column)
-  ends : {i : Interval} → RecordSound c → Reports x unit width i → PairOutcome c x unit width (pair.Ends i)
+  ends : {i : Interval} → RecordSound c → Number x → Reports x unit width i → PairOutcome c x unit width (pair.Ends i)
 
 -- (f) "The two separate questions are merged into one that gives both pairs of ends from one root."
 pub data TolerableOutcome (c : Case) : Tolerable → Type 0 where
   refused : {number line column : ℕ} → RecordRefused c number line column → TolerableOutcome c (tolerable.Refused number line column)
-  ends : {touch step : Interval} → RecordSound c → Reports (tolerableTouch c) mV tolerableWidth touch → Reports (tolerableStep c) mV tolerableWidth step
+  ends : {touch step : Interval} → RecordSound c → CaseNumbers c → Reports (tolerableTouch c) mV tolerableWidth touch → Reports (tolerableStep c) mV tolerableWidth step
       → TolerableOutcome c (tolerable.Ends touch step)
 
 -- (d) "Conductor size is the smallest whole kcmil not below the product with the factor's upper end": of a pair of ends that reports the factor
-pub data SizeOutcome (c : Case) : Number → Type 0 where
+pub data SizeOutcome (c : Case) : SizeAnswer → Type 0 where
   refused : {number line column : ℕ} → RecordRefused c number line column → SizeOutcome c (sized.Refused number line column)
   size : {kcmil : ℕ} (factor : Interval) → RecordSound c → Reports (Df c) billionths factorWidth factor → SmallestSize c (natAbs (factor .upper)) kcmil
       → SizeOutcome c (sized.Is kcmil)

@@ -3,4 +3,4 @@ pub mod Smallest
 pub mod WholeRoot
 pub mod GridCurrent
 pub mod Metals
-pub mod LessFault
+pub mod NoWorse

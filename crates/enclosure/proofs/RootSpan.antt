@@ -1,11 +1,13 @@
 -- The span of a square root's pair, by squares.
 -- Assumes nothing.
 use Prim.Native.Nat.{ℕ, _+_, _*_, _≤_, _<_}
+use mathlib.Core.Path.{refl}
 use native.Mathlib.Omega.{arith}
-use native.Mathlib.Nat.{mul-le-mul}
+use native.Mathlib.Nat.{le-trans, mul-le-mul}
 use native.Mathlib.Decide.{decLe}
 use Rattle.interval.specs.Root.{IsRoot}
 use Rattle.interval.specs.Span.{Span}
+use Rattle.interval.proofs.Below.{Below}
 use Rattle.interval.proofs.Span.{span-natural}
 use Rattle.enclosure.specs.SquareRoot.{squareRoot, rootPair}
 use Rattle.enclosure.proofs.SquareRoot.{square-root}
@@ -29,3 +31,21 @@ unfolding rootPair
 root-span x l u h k =
     let r = square-root x in
     span-natural (squareRoot x) (squareRoot x + 1) (root-from l r h) (omega arith) (root-to u r k) (omega arith)
+
+-- the root of a greater number is not less
+pub root-below : (x y : ℕ) → x ≤ y → Below (rootPair x) (rootPair y)
+unfolding rootPair
+root-below x y h =
+    let l = root-from (squareRoot x) (square-root y) (le-trans (square-root x .low) h) in
+    record {
+      a = squareRoot x;
+      b = squareRoot x + 1;
+      c = squareRoot y;
+      d = squareRoot y + 1;
+      left = refl;
+      right = refl;
+      left-order = omega arith;
+      right-order = omega arith;
+      lowers = l;
+      uppers = omega arith;
+    }

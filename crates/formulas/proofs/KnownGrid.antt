@@ -1,4 +1,4 @@
--- What the grids of the worked yards have in common, at numbers: they differ in counts and rods alone.
+-- What the grids of the worked yards have in common, at numbers: they differ in season, soil, counts and rods alone.
 -- Assumes nothing.
 use Prim.Native.Nat.{ℕ}
 use mathlib.Core.Bool.{_&&_}
@@ -39,21 +39,21 @@ pub root-20 : Known √20 (digits 12 4472135954999 4472135955000)
 unfolding tests √20
 root-20 = known-root _ 4472135954999 4472135955000 (known-exactly _) tt
 
-module _ (across along rods rodlen place : ℕ) where
+module _ (season soil across along rods rodlen place : ℕ) where
   -- IG
-  pub current : Known (IG (grid across along rods rodlen place)) (digits 12 1957957255297800 1957957255301616)
+  pub current : Known (IG (grid season soil across along rods rodlen place)) (digits 12 1957957255297800 1957957255301616)
   unfolding tests IG
   current =
       known-product (digits 12 1957957255297800 1957957255301616) (known-exactly _)
-      (factor-500-10 (grid across along rods rodlen place)) tt
+      (factor-500-10 (grid season soil across along rods rodlen place)) tt
 
   -- Kh
-  pub depth-factor : Known (Kh (grid across along rods rodlen place)) (digits 12 1224744871391 1224744871392)
+  pub depth-factor : Known (Kh (grid season soil across along rods rodlen place)) (digits 12 1224744871391 1224744871392)
   unfolding tests lengths Kh
   depth-factor = known-root _ 1224744871391 1224744871392 (known-exactly _) tt
 
   -- ln G
-  pub log-argument : Known (ln (exactly (G (grid across along rods rodlen place)))) (digits 12 6571283042359 6571283042361)
+  pub log-argument : Known (ln (exactly (G (grid season soil across along rods rodlen place)))) (digits 12 6571283042359 6571283042361)
   unfolding tests lengths
   log-argument =
       known-ln-up 9 (digits 12 6571283042359 6571283042361)

@@ -5,6 +5,8 @@ pub mod MeshArgument
 pub mod Conductors
 pub mod Quantities
 pub mod Consistent
+pub mod Surface
+pub mod LessSoil
 pub mod Square
 pub mod Size
 pub mod Widths

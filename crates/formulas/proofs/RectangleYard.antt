@@ -18,31 +18,31 @@ use Rattle.formulas.proofs.KnownGrid.{known-voltage, lengths, turn, roo
 -- ---- with any rods
 
 module _ (rods rodlen place : ℕ) where
-  √area-rectangle : Known (√area (grid 10 13 rods rodlen place)) (digits 12 72746133917892 72746133917893)
+  √area-rectangle : Known (√area (grid 1 400 10 13 rods rodlen place)) (digits 12 72746133917892 72746133917893)
   unfolding tests lengths √area
   √area-rectangle = known-root _ 72746133917892 72746133917893 (rounded (digits 0 5292 5292) (known-exactly _) tt) tt
 
-  nb-rectangle : Known (nb (grid 10 13 rods rodlen place)) (digits 12 1005168130752 1005168130754)
+  nb-rectangle : Known (nb (grid 1 400 10 13 rods rodlen place)) (digits 12 1005168130752 1005168130754)
   unfolding tests lengths nb
   nb-rectangle =
       known-root _ 1005168130752 1005168130754
       (known-quotient (digits 12 1010362971081 1010362971082) (rounded (digits 0 294 294) (known-exactly _) tt)
       (known-product (digits 12 290984535671568 290984535671572) (known-exactly _) √area-rectangle tt) tt) tt
 
-  pub n-rectangle : Known (n (grid 10 13 rods rodlen place)) (digits 12 11344040332772 11344040332796)
+  pub n-rectangle : Known (n (grid 1 400 10 13 rods rodlen place)) (digits 12 11344040332772 11344040332796)
   unfolding tests lengths n
   n-rectangle =
       known-product (digits 12 11344040332772 11344040332796)
       (rounded (digits 12 11285714285714 11285714285715) (known-exactly _) tt)
       nb-rectangle tt
 
-  Ki-rectangle : Known (Ki (grid 10 13 rods rodlen place)) (digits 12 2322917969250 2322917969254)
+  Ki-rectangle : Known (Ki (grid 1 400 10 13 rods rodlen place)) (digits 12 2322917969250 2322917969254)
   unfolding tests Ki
   Ki-rectangle =
       known-sum (digits 12 2322917969250 2322917969254) (known-exactly _)
       (known-product (digits 12 1678917969250 1678917969254) (known-exactly _) n-rectangle tt) tt
 
-  half-power-rectangle : Bounds (grid 10 13 rods rodlen place) → Known (halfPower (grid 10 13 rods rodlen place)) (digits 12 1538734102 1538734103)
+  half-power-rectangle : Bounds (grid 1 400 10 13 rods rodlen place) → Known (halfPower (grid 1 400 10 13 rods rodlen place)) (digits 12 1538734102 1538734103)
   unfolding tests halfPower
   half-power-rectangle b =
       known-exp-minus 4 (digits 15 667110419204972 667110419207459) (digits 12 1538734102 1538734103) (consistent-halvings b _ (whole-pos (lit< tt)))
@@ -50,7 +50,7 @@ module _ (rods rodlen place : ℕ) where
       (known-difference (digits 12 9344040332772 9344040332796) n-rectangle (known-exactly _) tt)
       (known-ln-up 1 (digits 12 693147180559 693147180560) (known-exactly _) tt) tt) tt
 
-  Ks-rectangle : Bounds (grid 10 13 rods rodlen place) → Known (Ks (grid 10 13 rods rodlen place)) (digits 12 406154074613 406154074615)
+  Ks-rectangle : Bounds (grid 1 400 10 13 rods rodlen place) → Known (Ks (grid 1 400 10 13 rods rodlen place)) (digits 12 406154074613 406154074615)
   unfolding tests lengths Ks
   Ks-rectangle b =
       known-quotient (digits 12 406154074613 406154074615)
@@ -66,9 +66,9 @@ Km-rods : Known (Km rectangle) (digits 12 767493770347 767493770351)
 unfolding tests Km Kii
 Km-rods =
     known-quotient (digits 12 767493770347 767493770351)
-    (known-sum (digits 12 4822305581199 4822305581215) (log-argument 10 13 38 10000 1)
+    (known-sum (digits 12 4822305581199 4822305581215) (log-argument 1 400 10 13 38 10000 1)
     (known-product (minusEnds (digits 12 1748977461146 1748977461160))
-    (known-quotient (digits 12 816496580927 816496580929) (known-exactly _) (depth-factor 10 13 38 10000 1) tt)
+    (known-quotient (digits 12 816496580927 816496580929) (known-exactly _) (depth-factor 1 400 10 13 38 10000 1) tt)
     (known-ln-down 3 (minusEnds (digits 12 2142051175721 2142051175731))
     (known-quotient (digits 12 117413759600 117413759601) (known-exactly _)
     (known-product (digits 12 68135114889335 68135114889487) known-π
@@ -91,13 +91,13 @@ pub mesh-rectangle : Known (mesh rectangle) (digits 3 609155 609156)
 unfolding tests lengths mesh
 mesh-rectangle =
     known-voltage _ (digits 9 306997508138 306997508141) (digits 9 713130028168 713130028177) (digits 6 1396278112622 1396278112643)
-    (digits 3 609155 609156) Km-rods (Ki-rectangle 38 10000 1) (current 10 13 38 10000 1) LM-rods tt tt tt tt
+    (digits 3 609155 609156) Km-rods (Ki-rectangle 38 10000 1) (current 1 400 10 13 38 10000 1) LM-rods tt tt tt tt
 
 pub step-rectangle : Bounds rectangle → Known (step rectangle) (digits 3 471465 471466)
 unfolding tests lengths step
 step-rectangle b =
     known-voltage _ (digits 9 162461629845 162461629846) (digits 9 377385039280 377385039284) (digits 6 738903775699 738903775709)
-    (digits 3 471465 471466) (Ks-rectangle 38 10000 1 b) (Ki-rectangle 38 10000 1) (current 10 13 38 10000 1) (rounded (digits 2 156725 156725) (known-exactly _) tt) tt tt tt tt
+    (digits 3 471465 471466) (Ks-rectangle 38 10000 1 b) (Ki-rectangle 38 10000 1) (current 1 400 10 13 38 10000 1) (rounded (digits 2 156725 156725) (known-exactly _) tt) tt tt tt tt
 
 pub resistance-rectangle : Known (resistance rectangle) (digits 6 2618545 2618546)
 unfolding tests lengths resistance s
@@ -127,9 +127,9 @@ Km-rodless : Bounds rodless → Known (Km rodless) (digits 12 885316436840 88531
 unfolding tests Km
 Km-rodless b =
     known-quotient (digits 12 885316436840 885316436845)
-    (known-sum (digits 12 5562607228163 5562607228184) (log-argument 10 13 0 0 0)
+    (known-sum (digits 12 5562607228163 5562607228184) (log-argument 1 400 10 13 0 0 0)
     (known-product (minusEnds (digits 12 1008675814177 1008675814196))
-    (known-quotient (digits 12 470892491090 470892491096) (Kii-rodless b) (depth-factor 10 13 0 0 0) tt)
+    (known-quotient (digits 12 470892491090 470892491096) (Kii-rodless b) (depth-factor 1 400 10 13 0 0 0) tt)
     (known-ln-down 3 (minusEnds (digits 12 2142051175721 2142051175731))
     (known-quotient (digits 12 117413759600 117413759601) (known-exactly _)
     (known-product (digits 12 68135114889335 68135114889487) known-π
@@ -142,13 +142,13 @@ pub mesh-rodless : Bounds rodless → Known (mesh rodless) (digits 3 970843 9708
 unfolding tests lengths mesh LM
 mesh-rodless b =
     known-voltage _ (digits 9 354126574736 354126574738) (digits 9 822606983843 822606983850) (digits 6 1610629312274 1610629312291)
-    (digits 3 970843 970844) (Km-rodless b) (Ki-rectangle 0 0 0) (current 10 13 0 0 0) (rounded (digits 0 1659 1659) (known-exactly _) tt) tt tt tt tt
+    (digits 3 970843 970844) (Km-rodless b) (Ki-rectangle 0 0 0) (current 1 400 10 13 0 0 0) (rounded (digits 0 1659 1659) (known-exactly _) tt) tt tt tt tt
 
 pub step-rodless : Bounds rodless → Known (step rodless) (digits 3 593854 593855)
 unfolding tests lengths step
 step-rodless b =
     known-voltage _ (digits 9 162461629845 162461629846) (digits 9 377385039280 377385039284) (digits 6 738903775699 738903775709)
-    (digits 3 593854 593855) (Ks-rectangle 0 0 0 b) (Ki-rectangle 0 0 0) (current 10 13 0 0 0) (rounded (digits 2 124425 124425) (known-exactly _) tt) tt tt tt tt
+    (digits 3 593854 593855) (Ks-rectangle 0 0 0 b) (Ki-rectangle 0 0 0) (current 1 400 10 13 0 0 0) (rounded (digits 2 124425 124425) (known-exactly _) tt) tt tt tt tt
 
 pub resistance-rodless : Known (resistance rodless) (digits 6 2663480 2663481)
 unfolding tests lengths resistance s

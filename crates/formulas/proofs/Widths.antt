@@ -18,7 +18,7 @@ use Rattle.formulas.proofs.Tables.{Every}
 
 -- the sample with twenty rods of 7.5 m along the perimeter
 abbrev rodded : Case
-rodded = grid 11 11 20 7500 1
+rodded = grid 1 400 11 11 20 7500 1
 
 -- a pair by its lower end, which counts; the upper end stands a little above
 abbrev from : ℕ → Interval

@@ -34,19 +34,20 @@ use Rattle.formulas.specs.Size.{constants, Kf, smallest, duty, enough, s
 use Rattle.formulas.specs.Tolerable.{Q, k, rootTime, tolerableTouch, tolerableStep}
 use Rattle.formulas.specs.Mesh.{G}
 use Rattle.formulas.specs.Width.{mV, μΩ, μA, billionths, factorWidth, currentWidth}
-use Rattle.formulas.specs.Yards.{yard, sample, rectangle, rodless, yards, Right}
+use Rattle.formulas.specs.Yards.{yard, sample, wet, rectangle, rodless, yards, Right}
 use Rattle.formulas.specs.Yards.Worked.{conductor}
 use Rattle.formulas.proofs.Tables.{Every}
 use Rattle.formulas.proofs.Positive.{millisecond}
 use Rattle.formulas.proofs.Decrement.{consistent-Df}
 use Rattle.formulas.proofs.Conductors.{quantity-n}
 use Rattle.formulas.proofs.Quantities.{quantity-IG}
-use Rattle.formulas.proofs.Consistent.{quantity-resistance, consistent-step, consistent-mesh}
+use Rattle.formulas.proofs.Consistent.{consistent-touch, consistent-tolerable-step, quantity-resistance, consistent-step, consistent-mesh}
 use Rattle.formulas.proofs.ReportedSize.{size-reported}
 use Rattle.formulas.proofs.Known.{Known, digits, atMost, inside, rounded, known-exactly, known-product, holds-known, inside-within, at-most}
 use Rattle.formulas.proofs.KnownFunctions.{tests}
 use Rattle.formulas.proofs.KnownFactor.{factor-3000-10, factor-1000-10, factor-500-10, factor-99-11, factor-100-11, factor-499-40, factor-500-40}
-use Rattle.formulas.proofs.SampleYard.{mesh-sample, step-sample, resistance-sample}
+use Rattle.formulas.proofs.SampleYard.{touch-sample, tolerable-step-sample, mesh-sample, step-sample, resistance-sample}
+use Rattle.formulas.proofs.SampleYard.{touch-wet, tolerable-step-wet, mesh-wet, step-wet}
 use Rattle.formulas.proofs.RectangleYard.{n-rectangle, mesh-rectangle, step-rectangle, resistance-rectangle, mesh-rodless, step-rodless, resistance-rodless}
 
 -- ---- a tolerable voltage, where the root of the time is a fraction
@@ -123,9 +124,13 @@ checks : ℕ
 unfolding same columns inRange nameIndex named leftOf outOfRange agree disagreement finding caseFinding countFrom ownPlaces recordFinding judgedBy recordJudged
 checks = 0
 
-sound-sample : Bounds sample
+pub sound-sample : Bounds sample
 unfolding checks
 sound-sample = bounds sample refl
+
+pub sound-wet : Bounds wet
+unfolding checks
+sound-wet = bounds wet refl
 
 sound-rectangle : Bounds rectangle
 unfolding checks
@@ -157,9 +162,13 @@ starred =
     then reports-known billionths factorWidth 1100994761 1100994763 (consistent-Df (bounds (timed 500 40) refl)) (factor-500-40 (timed 500 40)) tt
     then reports-known μA currentWidth 1957957253 1957957256 (quantity-IG (bounds (timed 500 10) refl) .consistent) current-500-10 tt
     then record { to = record { le = lit≤ tt }; fro = record { le = lit≤ tt } }
+    then (holds-known (consistent-touch sound-sample) touch-sample, holds-known (consistent-tolerable-step sound-sample) tolerable-step-sample)
     then holds-known (consistent-mesh sound-sample) mesh-sample
     then holds-known (consistent-step sound-sample) step-sample
     then holds-known (quantity-resistance sound-sample .consistent) resistance-sample
+    then (holds-known (consistent-touch sound-wet) touch-wet, holds-known (consistent-tolerable-step sound-wet) tolerable-step-wet)
+    then holds-known (consistent-mesh sound-wet) mesh-wet
+    then holds-known (consistent-step sound-wet) step-wet
     then holds-known (quantity-n sound-rectangle .consistent) (rounded (digits 9 11344040332 11344040333) (n-rectangle 38 10000 1) tt)
     then holds-known (consistent-mesh sound-rectangle) mesh-rectangle
     then holds-known (consistent-step sound-rectangle) (step-rectangle sound-rectangle)

@@ -51,13 +51,13 @@ yard soil body ms fault split xr metal =
       hz = 60;
     }
 
--- the first line of document 01's sample sheet, but for the counts of conductors and the rods
-abbrev pub grid : (across along rods rodlen place : ℕ) → Case
-grid across along rods rodlen place =
+-- a line of document 01's sample sheet, but for the season, the soil, the counts of conductors and the rods
+abbrev pub grid : (season soil across along rods rodlen place : ℕ) → Case
+grid season soil across along rods rodlen place =
     record {
       station = 7;
-      season = 1;
-      soil = 400;
+      season = season;
+      soil = soil;
       layer = 2500;
       thick = 102;
       shock = 500;
@@ -79,20 +79,25 @@ grid across along rods rodlen place =
       hz = 60;
     }
 
+-- its two lines: dry soil and wet soil
 abbrev pub sample : Case
-sample = grid 11 11 0 0 0
+sample = grid 1 400 11 11 0 0 0
+
+abbrev pub wet : Case
+wet = grid 2 100 11 11 0 0 0
 
 -- IEEE Std 80-2013, B.3: 63 m by 84 m, 38 rods of 10 m along the perimeter; and the same grid without rods
 abbrev pub rectangle : Case
-rectangle = grid 10 13 38 10000 1
+rectangle = grid 1 400 10 13 38 10000 1
 
 abbrev pub rodless : Case
-rodless = grid 10 13 0 0 0
+rodless = grid 1 400 10 13 0 0 0
 
--- a yard and what is right of it: tolerable touch and step in mV, kcmil, the ends of Df in billionths, those of the current in microamperes, G, those of n in
+-- a yard and what is right of it: tolerable touch and step in mV, their ends in mV, kcmil, the ends of Df in billionths, those of the current in microamperes, G, those of n in
 -- billionths, of the mesh and of the step voltage in mV, and of the resistance in micro-ohms
 pub data Worked : Type 0 where
   voltages : Case → ℕ → ℕ → Worked
+  tolerable : Case → (touch touch′ step step′ : ℕ) → Worked
   conductor : Case → ℕ → Worked
   decrement : Case → ℕ → ℕ → Worked
   current : Case → ℕ → ℕ → Worked
@@ -124,10 +129,14 @@ yards =
     ∷ decrement (yard 400 70 500 3180 600 40 1) 1100994761 1100994763
     ∷ current (yard 400 70 500 3180 600 10 1) 1957957253 1957957256
     ∷ argument (yard 400 70 500 3180 600 10 1) (whole 5000 ÷f whole 7)
-    -- "Season 1 has mesh near 1001.6 V", now 1027.8 V: Df is 1.026 where document 01 had 1.000
+    -- "Season 1 has mesh near 1001.6 V against 840.5 V", now 1027.8 V: Df is 1.026 where document 01 had 1.000
+    ∷ tolerable sample 840547 840548 2696097 2696098
     ∷ meshVoltage sample 1027839 1027841
     ∷ stepVoltage sample 625691 625692
     ∷ gridResistance sample 2775693 2775694
+    ∷ tolerable wet 809961 809962 2573753 2573754
+    ∷ meshVoltage wet 256959 256960
+    ∷ stepVoltage wet 156422 156423
     -- the guide prints n 11.35, of na and nb rounded; a mesh voltage of 595.8 V, of Km rounded to 0.77 and of 1908 A, the current without Df; 2.62 ohms
     ∷ conductors rectangle 11344040332 11344040333
     ∷ meshVoltage rectangle 609155 609156
@@ -148,6 +157,7 @@ Between x unit lower upper = Holds (reported unit (natural lower upper)) x
 -- pair holds the exact value.
 abbrev pub Right : Worked → Type 0
 Right (voltages c touch step) = Between (tolerableTouch c) mV touch touch × Between (tolerableStep c) mV step step
+Right (tolerable c touch touch′ step step′) = Between (tolerableTouch c) mV touch touch′ × Between (tolerableStep c) mV step step′
 Right (conductor c kcmil) = (pair : Interval) → Reports (Df c) billionths factorWidth pair → size c (natAbs (pair .upper)) ≡ kcmil
 Right (decrement c lower upper) = Reports (Df c) billionths factorWidth (natural lower upper)
 Right (current c lower upper) = Reports (IG c) μA currentWidth (natural lower upper)

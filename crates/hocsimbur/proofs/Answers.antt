@@ -27,8 +27,9 @@ use Rattle.current.proofs.GridCurrent.{upper-bounds}
 use Rattle.tolerable.specs.declared.TouchAndStep.{TouchAndStep}
 use Rattle.tolerable.specs.Ends.{touchEnds, stepEnds, touchAndStep}
 use Rattle.row.specs.declared.Row.{Row}
-use Rattle.row.specs.Ends.{rowOf}
-use Rattle.row.proofs.Right.{touch-reports, limit-reports, resistance-reports, right-row}
+use Rattle.row.specs.declared.Verdict.{Verdict}
+use Rattle.row.specs.Ends.{caseVerdict, rowOf}
+use Rattle.row.proofs.Right.{touch-reports, limit-reports, resistance-reports, row-verdict, right-row}
 use Rattle.hocsimbur.specs.declared.Number.the-variants as number
 use Rattle.hocsimbur.specs.declared.Tolerable.the-variants as tolerable
 use Rattle.hocsimbur.specs.declared.RowAnswer.{RowAnswer}
@@ -128,6 +129,10 @@ row-sound c {r} a = go (recordJudged c) a
     go : (j : Judged) → row.Is r ≡ recordAnswer row.Refused (row.Is (rowOf c)) j → (j ≡ Sound) × (r ≡ rowOf c)
     go Sound e = (refl, cc)
     go (Refused n l k) e = let z : _≡_ {A = ℕ} 0 1 = cc in absurd (omega arith)
+
+-- a case answered with a row is within its bounds, and the verdict is its own
+pub row-says : {c : Case} {r : Row} {v : Verdict} → RowAnswered c (row.Is r) → r .verdict ≡ v → Bounds c × (caseVerdict c ≡ v)
+row-says {c} h e = let t = row-sound c (h .answer) in (record-bounds (t .0), rw (t .1, row-verdict c) at e)
 
 -- a sound case is answered with its row, and a case within its bounds is sound
 pub sound-answered : {c : Case} {r : RowAnswer} → recordJudged c ≡ Sound → RowAnswered c r → r ≡ row.Is (rowOf c)

@@ -1,3 +1,6 @@
 pub mod Answers
+pub mod NoWorse
 pub mod LessFault
+pub mod LessSoil
+pub mod HeadroomRows
 pub mod LineMargins

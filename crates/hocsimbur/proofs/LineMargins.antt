@@ -7,7 +7,7 @@ use lib.ListN.{length}
 use Rattle.sheet.specs.declared.Answer.the-variants.{Rows}
 use Rattle.sheet.specs.Answer.{cases}
 use Rattle.sheet.specs.Table.{rowAt, Answered}
-use Rattle.sheet.proofs.LessFault.{caseAt, line-bounds, filled}
+use Rattle.sheet.proofs.Lines.{caseAt, line-bounds, filled}
 use Rattle.margin.specs.Margin.{marginsOf}
 use Rattle.margin.specs.Meaning.{Right}
 use Rattle.margin.proofs.Right.{right-margins}

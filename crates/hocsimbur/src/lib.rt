@@ -7,6 +7,8 @@ pub use conversion::Carried;
 pub use conversion::carry;
 pub use conversion::carry_back;
 use decrement::factor_ends;
+pub use headroom::Room;
+pub use headroom::headroom;
 // A pair of ends, offered for its two numbers. Its methods, which ask conditions of their arguments, are for the crates below and not among the
 // operations offered.
 pub use interval::Interval;

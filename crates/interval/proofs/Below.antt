@@ -1,8 +1,10 @@
 -- Intervals of naturals of which one lies below another, lower end by lower end and upper end by upper end: what the operations keep.
 -- Assumes nothing.
 use Prim.Native.Nat.{ℕ, _*_, _/_, _≤_, _<_}
-use mathlib.Core.Path.{_≡_}
-use native.Mathlib.Nat.{le-trans, mul-le-mul, mul-le-mul-left, mul-le-mul-right}
+use mathlib.Core.Path.{_≡_, sym, ap, _∙_}
+use native.Mathlib.Omega.{arith}
+use native.Mathlib.Nat.{le-refl, le-trans, mul-le-mul, mul-le-mul-left, mul-le-mul-right}
+use lib.IntN.{pos}
 use lib.Signed.{_≤ℤ_}
 use Rattle.interval.specs.declared.Interval.{Interval}
 use Rattle.interval.specs.Whole.{ceilDiv}
@@ -10,7 +12,7 @@ use Rattle.interval.specs.Operations.{natural, outwardOf, scaledOf, prod
 use Rattle.interval.specs.Span.{Span}
 use Rattle.interval.proofs.Choice.{pos≤}
 use Rattle.interval.proofs.Natural.{natural-scaled, natural-outward, natural-product, natural-quotient}
-use Rattle.interval.proofs.Rounding.{floorDiv-below, floorDiv-by, ceilDiv-above, ceilDiv-by}
+use Rattle.interval.proofs.Rounding.{floorDiv-below, floorDiv-by, floorDiv-falls, ceilDiv-above, ceilDiv-by, ceilDiv-falls}
 use Rattle.interval.proofs.Span.{floor≤ceil}
 
 -- i lies below j
@@ -29,6 +31,33 @@ pub record Below (i j : Interval) : Type 0 where
 pub below-upper : {i j : Interval} → Below i j → i .upper ≤ℤ j .upper
 unfolding natural
 below-upper h = rw (h .left, h .right) (pos≤ (h .uppers))
+
+pub below-lower : {i j : Interval} → Below i j → i .lower ≤ℤ j .lower
+unfolding natural
+below-lower h = rw (h .left, h .right) (pos≤ (h .lowers))
+
+-- its lower end is that of its span
+starts : {i j : Interval} {l h w : ℕ} → Span i l h w → (m : Below i j) → l ≤ m .a
+unfolding natural
+starts s m =
+    let same : pos (s .a) ≡ pos (m .a) = ap (λ i. i .lower) (sym (s .is) ∙ m .left) in
+    let e : s .a ≡ m .a = cc in
+    omega (arith, s .from)
+
+below-itself : {i : Interval} {l h w : ℕ} → Span i l h w → Below i i
+below-itself s =
+    record {
+      a = s .a;
+      b = s .b;
+      c = s .a;
+      d = s .b;
+      left = s .is;
+      right = s .is;
+      left-order = s .order;
+      right-order = s .order;
+      lowers = le-refl _;
+      uppers = le-refl _;
+    }
 
 -- ---- rounding
 
@@ -119,23 +148,28 @@ module _ {i j : Interval} (h : Below i j) where
         uppers = ceil-rises _ _ p (mul-le-mul-right (s .b) (h .uppers));
       }
 
-  -- each over m
-  pub below-quotient : {k : Interval} {l m w : ℕ} (n : ℕ) → 0 < l → Span k l m w → Below (quotientOf i k n) (quotientOf j k n)
-  below-quotient n p s =
-      let q : 0 < s .a = le-trans p (s .from) in
-      let r : 0 < s .b = le-trans q (s .order) in
+  -- each over a divisor, the upper one over the lesser
+  pub below-divided : {k k′ : Interval} {l u w : ℕ} (n : ℕ) → 0 < l → Span k l u w → Below k k′ → Below (quotientOf i k′ n) (quotientOf j k n)
+  below-divided n p s m =
+      let q : 0 < m .a = le-trans p (starts s m) in
+      let q′ : 0 < m .c = le-trans q (m .lowers) in
+      let r : 0 < m .b = le-trans q (m .left-order) in
       record {
-        a = h .a * n / s .b;
-        b = ceilDiv (h .b * n) (s .a);
-        c = h .c * n / s .b;
-        d = ceilDiv (h .d * n) (s .a);
-        left = rw (s .is, h .left) (natural-quotient (h .a) (h .b) n q (s .order));
-        right = rw (s .is, h .right) (natural-quotient (h .c) (h .d) n q (s .order));
-        left-order = quotient-order (h .a * n) (h .b * n) q (s .order) (mul-le-mul-right n (h .left-order));
-        right-order = quotient-order (h .c * n) (h .d * n) q (s .order) (mul-le-mul-right n (h .right-order));
-        lowers = floor-rises _ _ r (mul-le-mul-right n (h .lowers));
-        uppers = ceil-rises _ _ q (mul-le-mul-right n (h .uppers));
+        a = h .a * n / m .d;
+        b = ceilDiv (h .b * n) (m .c);
+        c = h .c * n / m .b;
+        d = ceilDiv (h .d * n) (m .a);
+        left = rw (m .right, h .left) (natural-quotient (h .a) (h .b) n q′ (m .right-order));
+        right = rw (m .left, h .right) (natural-quotient (h .c) (h .d) n q (m .left-order));
+        left-order = quotient-order (h .a * n) (h .b * n) q′ (m .right-order) (mul-le-mul-right n (h .left-order));
+        right-order = quotient-order (h .c * n) (h .d * n) q (m .left-order) (mul-le-mul-right n (h .right-order));
+        lowers = le-trans (floor-rises _ _ (le-trans r (m .uppers)) (mul-le-mul-right n (h .lowers))) (floorDiv-falls (h .c * n) r (m .uppers));
+        uppers = le-trans (ceil-rises _ _ q′ (mul-le-mul-right n (h .uppers))) (ceilDiv-falls (h .d * n) q (m .lowers));
       }
     where
       quotient-order : (x y : ℕ) {e f : ℕ} → 0 < e → e ≤ f → x ≤ y → x / f ≤ ceilDiv y e
-      quotient-order x y {e} {f} p l k = le-trans (floorDiv-by x p (le-trans (mul-le-mul-left (x / f) l) (floorDiv-below x f))) (floor≤ceil x y e p k)
+      quotient-order x y {e} {f} p l k = le-trans (floorDiv-falls x p l) (floor≤ceil x y e p k)
+
+  -- each over k
+  pub below-quotient : {k : Interval} {l m w : ℕ} (n : ℕ) → 0 < l → Span k l m w → Below (quotientOf i k n) (quotientOf j k n)
+  below-quotient n p s = below-divided n p s (below-itself s)

@@ -137,7 +137,7 @@ either m n = go (decLe m n)
     go (no h) = inr (omega (arith, h))
 
 -- what holds of every pair holds of the pairs taken together, where the operation keeps it
-kept : (op : Exact → Exact → Exact) (P : Exact → Type 0) → ((x y : Exact) → P x → P y → P (op x y)) → (p : Reading) (ps : List Reading)
+pub kept : (op : Exact → Exact → Exact) (P : Exact → Type 0) → ((x y : Exact) → P x → P y → P (op x y)) → (p : Reading) (ps : List Reading)
     → ((q : Reading) → List·Memᴰ q (p ∷ ps) → P (apparent q)) → P (together op (p ∷ ps))
 unfolding together
 kept op P joins p [] h = h p (List·Memᴰ·head refl)

@@ -1,3 +1,5 @@
 pub mod Verdicts
 pub mod Right
+pub mod NoWorse
 pub mod StaysSafe
+pub mod LessSoil

@@ -1,6 +1,6 @@
 -- The row of a case within its bounds is right: the ends are right reports, and the verdict is true of the exact values.
 -- Assumes nothing.
-use mathlib.Core.Path.{refl}
+use mathlib.Core.Path.{_≡_, refl}
 use Rattle.exact.specs.Reported.{reported, AtMost, Reports}
 use Rattle.enclosure.proofs.Reporting.{reports}
 use Rattle.case.specs.declared.Case.{Case}
@@ -29,6 +29,10 @@ use Rattle.resistance.proofs.Rise.{rise-encloses, rise-narrow}
 use Rattle.row.specs.Row.{RightRow, verdictOf}
 use Rattle.row.specs.Ends.{caseVerdict, rowOf}
 use Rattle.row.proofs.Verdicts.{Enclosed, safe-true, unsafe-true}
+
+pub row-verdict : (c : Case) → rowOf c .verdict ≡ caseVerdict c
+unfolding rowOf
+row-verdict c = refl
 
 module _ {c : Case} (b : Bounds c) where
   pub touch-reports : Reports (Tolerable.tolerableTouch c) mV tolerableWidth (touchEnds c)

@@ -1,5 +1,5 @@
 -- Request (n) of document 02: "Show for every case answered safe that the same case with a lower fault current, all else equal, is never answered
--- unsafe, for rectangles and both frequencies." proofs/LessFault.antt shows more: it is answered safe.
+-- unsafe, for rectangles and both frequencies." proofs/StaysSafe.antt shows more: it is answered safe.
 -- Assumes nothing.
 use Prim.Native.Nat.{_≤_}
 use mathlib.Core.Path.{_≡_}

@@ -2,74 +2,19 @@
 -- and all else equal, station and season aside, has verdict 1 in its table, and so never 2.
 -- Assumes nothing.
 use Prim.Native.Nat.{ℕ, _<_}
-use mathlib.Core.Path.{_≡_, refl, sym, ap, _∙_}
-use mathlib.Core.List.{List, []}
-use native.Mathlib.Omega.{arith}
+use mathlib.Core.Path.{_≡_}
+use mathlib.Core.List.{List}
 use lib.IntN.{ℤ, pos}
-use lib.ListN.{length, getD, length-map}
-use Rattle.text.specs.Text.{fieldsOf}
-use Rattle.case.specs.declared.Case.{Case}
-use Rattle.case.specs.Case.{caseOf}
-use Rattle.case.specs.Columns.{columns}
-use Rattle.case.specs.Bounds.{Bounds}
-use Rattle.header.specs.Header.{columnsOf}
-use Rattle.line.specs.Line.{lineCase}
-use Rattle.judgement.specs.Sheet.{names, valueLines}
-use Rattle.row.specs.declared.Verdict.{Verdict}
-use Rattle.row.specs.declared.Verdict.the-variants.{Safe, Unsafe, Undecided}
-use Rattle.row.specs.Verdict.{verdictNumber}
-use Rattle.row.specs.Row.{numbers}
-use Rattle.row.specs.Places.{verdictPlace}
-use Rattle.row.specs.Ends.{caseVerdict, rowOf}
+use lib.ListN.{length}
 use Rattle.row.specs.LessFault.{LessFault}
-use Rattle.row.proofs.StaysSafe.{safe-stays}
+use Rattle.row.proofs.StaysSafe.{less-no-worse}
 use Rattle.sheet.specs.declared.Answer.the-variants.{Rows}
 use Rattle.sheet.specs.Answer.{cases}
-use Rattle.sheet.specs.Table.{rowAt, Filled, TableAfter, Answered}
-use Rattle.sheet.proofs.Accepted.{accepted, sound-bounds}
-use Rattle.sheet.proofs.StoredCases.{case-at}
-
--- the verdict in row i of a table, by its number
-abbrev pub verdictAt : List ℤ → ℕ → ℤ
-verdictAt table i = getD (rowAt table i) verdictPlace (pos 0)
-
--- the case of value line i of a sheet
-abbrev pub caseAt : List ℕ → ℕ → Case
-caseAt s i = getD (cases s) i (caseOf [])
-
--- ---- the case of a line of an accepted sheet is within its bounds
-
-module _ {s : List ℕ} {before after : List ℤ} {n : ℕ} (h : Answered s before after (Rows n)) (i : ℕ) (l : i < length (cases s)) where
-  pub line-bounds : Bounds (caseAt s i)
-  unfolding cases
-  line-bounds =
-      let a = accepted s (length before) n (sym (h .answer-is)) .sheet in
-      let k : i < length (valueLines s) = rw (length-map (valueLines s) (λ line. lineCase (columnsOf columns (names s)) (fieldsOf line))) at l in
-      rw (case-at (columnsOf columns (names s)) (valueLines s) i k) (sound-bounds (a .placed) (a .lines .line i k))
-
-  pub filled : Filled (cases s) before after
-  unfolding TableAfter
-  filled = h .table-is
-
-  line-verdict : verdictAt after i ≡ pos (verdictNumber (caseVerdict (caseAt s i)))
-  unfolding numbers rowOf
-  line-verdict = ap (λ row. getD row verdictPlace (pos 0)) (filled .rows i l .is)
-
--- ---- the theorem
-
-safe-number : (v : Verdict) → pos (verdictNumber v) ≡ pos 1 → v ≡ Safe
-unfolding verdictNumber
-safe-number Safe e = refl
-safe-number Unsafe e = let z : _≡_ {A = ℕ} 2 1 = cc in absurd (omega arith)
-safe-number Undecided e = let z : _≡_ {A = ℕ} 3 1 = cc in absurd (omega arith)
-
-number-safe : (v : Verdict) → v ≡ Safe → pos (verdictNumber v) ≡ pos 1
-unfolding verdictNumber
-number-safe v e = rw e
+use Rattle.sheet.specs.Table.{Answered}
+use Rattle.sheet.proofs.Lines.{verdictAt, caseAt}
+use Rattle.sheet.proofs.NoWorse.{no-worse-line-safe}
 
 pub line-stays-safe : {s t : List ℕ} {before after before′ after′ : List ℤ} {n m : ℕ} → Answered s before after (Rows n) → Answered t before′ after′ (Rows m)
     → (i j : ℕ) → i < length (cases s) → j < length (cases t) → LessFault (caseAt s i) (caseAt t j)
     → verdictAt after i ≡ pos 1 → verdictAt after′ j ≡ pos 1
-line-stays-safe {s} {t} h k i j l m less e =
-    line-verdict k j m
-    ∙ number-safe _ (safe-stays (line-bounds h i l) less (safe-number _ (sym (line-verdict h i l) ∙ e)))
+line-stays-safe h k i j l m less e = no-worse-line-safe h k i j l m (less-no-worse less) e

@@ -2,5 +2,8 @@ pub mod Accepted
 pub mod RowParts
 pub mod StoredCases
 pub mod Answers
+pub mod Lines
+pub mod NoWorse
 pub mod LessFault
+pub mod LessSoil
 pub mod AnyRoom

@@ -5,12 +5,14 @@ use mathlib.Core.Bool.{Bool, true, false, cond}
 use native.Mathlib.Omega.{arith}
 use native.Mathlib.Nat.{mul-le-mul, le-trans}
 use lib.Dec.{lit≤, eqb}
+use lib.IntN.{pos}
+use Rattle.interval.specs.Operations.{point, sumOf, scaledOf}
 use Rattle.interval.specs.Span.{Span}
 use Rattle.interval.proofs.Span.{span-point, span-wider, span-sum, span-scaled}
 use Rattle.enclosure.proofs.RootSpan.{root-span}
 use Rattle.case.specs.declared.Case.{Case}
 use Rattle.case.specs.Bounds.{Between, Bounds}
-use Rattle.tolerable.specs.Ends.{bodyFactor, timeRoot, topEnds}
+use Rattle.tolerable.specs.Ends.{layerEnds, bodyFactor, timeRoot, topEnds}
 use Rattle.tolerable.proofs.Layer.{layer-span}
 
 pub body-bounds : {c : Case} → Bounds c → Between 116 (bodyFactor c) 157
@@ -22,11 +24,18 @@ body-bounds {c} b =
     either true h l = h
     either false h l = l
 
+-- 1000 + weight/2 · Q
+pub sum-span : {c : Case} → Bounds c → (weight : ℕ)
+    → Span (sumOf (point (pos 2000000)) (scaledOf (layerEnds c) weight)) 2000000 (2000000 + 10000000 * weight) (1 * weight)
+sum-span b weight =
+    span-wider (span-sum (span-point 2000000 {l = 2000000} {h = 2000000} (lit≤ tt) (lit≤ tt)) (span-scaled weight (layer-span b)))
+    (omega arith) (omega arith) (omega arith)
+
 pub top-span : {c : Case} → Bounds c → (weight : ℕ) → weight ≤ 12 → Span (topEnds c weight) 232000000 19154000000 1884
 unfolding topEnds
 top-span {c} b weight h =
     let k = body-bounds b in
-    span-wider (span-scaled (bodyFactor c) (span-sum (span-point 2000000 {l = 2000000} {h = 2000000} (lit≤ tt) (lit≤ tt)) (span-scaled weight (layer-span b))))
+    span-wider (span-scaled (bodyFactor c) (sum-span b weight))
     (omega (arith, k .low))
     (le-trans (mul-le-mul (high weight h) (k .high)) (lit≤ tt))
     (le-trans (mul-le-mul (width weight h) (k .high)) (lit≤ tt))
@@ -34,7 +43,7 @@ top-span {c} b weight h =
     high : (w : ℕ) → w ≤ 12 → 2000000 + 10000000 * w ≤ 122000000
     high w l = omega arith
 
-    width : (w : ℕ) → w ≤ 12 → 0 + 1 * w ≤ 12
+    width : (w : ℕ) → w ≤ 12 → 1 * w ≤ 12
     width w l = omega arith
 
 -- ---- √t

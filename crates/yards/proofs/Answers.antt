@@ -16,7 +16,7 @@ use Rattle.case.proofs.Bounds.{record-bounds}
 use Rattle.case.proofs.BoundsSound.{bounds-sound}
 use Rattle.row.specs.declared.Verdict.the-variants.{Safe}
 use Rattle.row.specs.Ends.{caseVerdict, rowOf}
-use Rattle.row.proofs.Right.{right-row}
+use Rattle.row.proofs.Right.{row-verdict, right-row}
 use Rattle.yards.specs.declared.FewestLines.{FewestLines}
 use Rattle.yards.specs.declared.FewestLines.the-variants.{Found, None, Refused}
 use Rattle.yards.specs.Yards.{yard, yards, trial, meansSafe, isSafe}
@@ -78,14 +78,10 @@ tried-at {c} {side} b i l = every-at (Tried c side) c (yards c side) (yards-soun
 pub answered-yard : {y : Case} → Bounds y → AnsweredYard y
 answered-yard b = record { sound = bounds-sound b; right = right-row b }
 
-verdict-is : (y : Case) → rowOf y .verdict ≡ caseVerdict y
-unfolding rowOf
-verdict-is y = refl
-
 pub not-safe : (y : Case) → isSafe y ≡ false → ¬ (rowOf y .verdict ≡ Safe)
 unfolding isSafe meansSafe
 not-safe y u e =
-    let s : caseVerdict y ≡ Safe = sym (verdict-is y) ∙ e in
+    let s : caseVerdict y ≡ Safe = sym (row-verdict y) ∙ e in
     let q : true ≡ false = (rw s at u) in
     let z : _≡_ {A = ℕ} 0 1 = cc in
     omega arith
@@ -101,7 +97,7 @@ module _ (c : Case) (side : ℕ) where
       let says : Says c 0 (yards c side) (Found lines rods place) = rw (s .is) at (fewest-says c c side) in
       record {
         answered = answered-yard (f .sound);
-        safe = verdict-is (yard c side lines rods) ∙ f .safe;
+        safe = row-verdict (yard c side lines rods) ∙ f .safe;
         most = omega (arith, says .1, says .2 .within, yards-most c side);
       }
   right-as (None tried) e =

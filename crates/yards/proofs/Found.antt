@@ -20,15 +20,15 @@ pub record FoundYard (c : Case) (side lines rods : ℕ) : Type 0 where
   pub sound : Bounds (yard c side lines rods)
   pub safe : caseVerdict (yard c side lines rods) ≡ Safe
 
-means : (v : Verdict) → meansSafe v ≡ true → v ≡ Safe
+pub means-safe : (v : Verdict) → meansSafe v ≡ true → v ≡ Safe
 unfolding meansSafe
-means Safe e = refl
-means Unsafe e = let z : _≡_ {A = ℕ} 0 1 = cc in absurd (omega arith)
-means Undecided e = let z : _≡_ {A = ℕ} 0 1 = cc in absurd (omega arith)
+means-safe Safe e = refl
+means-safe Unsafe e = let z : _≡_ {A = ℕ} 0 1 = cc in absurd (omega arith)
+means-safe Undecided e = let z : _≡_ {A = ℕ} 0 1 = cc in absurd (omega arith)
 
 safe-yard : {c : Case} {side : ℕ} (lines rods : ℕ) → Bounds (yard c side lines rods) → isSafe (yard c side lines rods) ≡ true → FoundYard c side lines rods
 unfolding isSafe
-safe-yard lines rods b e = record { sound = b; safe = means _ e }
+safe-yard lines rods b e = record { sound = b; safe = means-safe _ e }
 
 module _ (c : Case) (side : ℕ) where
   found-in : (t : ℕ) (ys : List Case) {lines rods place : ℕ} → Every (Tried c side) ys → firstSafe t ys ≡ Found lines rods place → FoundYard c side lines rods

@@ -1,0 +1,37 @@
+-- Beyond documents 01 and 02: how far the fault current of a case may grow, and what cannot turn a yard red.
+-- Assumes nothing.
+use Prim.Native.Nat.{ℕ, _≤_}
+use mathlib.Core.Path.{_≡_}
+use mathlib.Core.Logic.{_⊎_, _↔_}
+use Rattle.case.specs.declared.Case.{Case}
+use Rattle.case.specs.Bounds.{Between}
+use Rattle.case.specs.Fault.{withFault}
+use Rattle.row.specs.declared.Verdict.the-variants.{Safe}
+use Rattle.headroom.specs.declared.Room.{Room}
+use Rattle.headroom.specs.declared.Room.the-variants.{UpTo, None, Refused}
+use Rattle.hocsimbur.specs.declared.RowAnswer.{RowAnswer}
+use Rattle.hocsimbur.specs.Asked.{RowAnswered, AnsweredWith}
+use Rattle.claims.specs.Record.{RecordRefused, RecordSound}
+
+-- a fault current in the range of its column
+abbrev pub FaultInside : ℕ → Type 0
+FaultInside f = Between 100 f 80000
+
+-- "after the checks of one case (5, 6), the greatest fault current in 100..80000 at which the case, all else equal, is answered safe, or none": every answer,
+-- each with its condition; the conditions exclude one another
+pub data HeadroomOutcome (c : Case) : Room → Type 0 where
+  refused : {number line column : ℕ} → RecordRefused c number line column → HeadroomOutcome c (Refused number line column)
+  -- "with F, every fault current in range is answered safe if and only if it is at most F"
+  up-to : {F : ℕ} → RecordSound c → FaultInside F
+      → ((f : ℕ) (a : RowAnswer) → FaultInside f → RowAnswered (withFault f c) a → AnsweredWith Safe a ↔ f ≤ F) → HeadroomOutcome c (UpTo F)
+  -- "with none, none is"
+  none : RecordSound c → ((f : ℕ) (a : RowAnswer) → FaultInside f → RowAnswered (withFault f c) a → ¬ AnsweredWith Safe a) → HeadroomOutcome c None
+
+-- the values of a case that may be eased are in their ranges
+pub record EasedInside (d : Case) : Type 0 where
+  pub station : Between 1 (d .station) 65535
+  pub season : Between 1 (d .season) 4
+  pub fault : FaultInside (d .fault)
+  pub split : Between 1 (d .split) 1000
+  pub shock : 9 ≤ d .shock
+  pub body : (d .body ≡ 50) ⊎ (d .body ≡ 70)

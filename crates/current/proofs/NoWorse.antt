@@ -1,0 +1,22 @@
+-- No more of the fault current enters the grid, all else equal but shock time and body: the factor stays, and the grid current's ends
+-- fall or stay.
+-- Assumes nothing.
+use Prim.Native.Nat.{ℕ, _*_, _≤_}
+use mathlib.Core.Path.{_≡_, refl}
+use lib.Dec.{lit<}
+use Rattle.interval.proofs.Below.{Below, below-more, below-outward}
+use Rattle.case.specs.declared.Case.{Case}
+use Rattle.case.specs.Bounds.{Bounds}
+use Rattle.case.specs.Eased.{eased}
+use Rattle.decrement.specs.Ends.{exponentEnds, ratioEnds, restEnds, squareEnds, factorEnds}
+use Rattle.decrement.proofs.Widths.{factor-span}
+use Rattle.current.specs.Ends.{currentEnds}
+
+module _ {c : Case} (b : Bounds c) (fault split shock body : ℕ) (enters : fault * split ≤ c .fault * c .split) where
+  same-factor : factorEnds (eased fault split shock body c) ≡ factorEnds c
+  unfolding factorEnds squareEnds restEnds ratioEnds exponentEnds
+  same-factor = refl
+
+  pub current-below : Below (currentEnds (eased fault split shock body c)) (currentEnds c)
+  unfolding currentEnds
+  current-below = rw same-factor (below-outward (below-more (factor-span b) enters) (lit< tt))

@@ -1,0 +1,57 @@
+-- The headroom of a case, beyond documents 01 and 02: "after the checks of one case (5, 6), the greatest fault current in 100..80000 at
+-- which the case, all else equal, is answered safe, or none".
+-- Assumes nothing.
+use Prim.Native.Nat.{ℕ, _≤_}
+use mathlib.Core.Path.{_≡_}
+use Rattle.case.specs.declared.Case.{Case}
+use Rattle.case.specs.declared.Judged.{Judged}
+use Rattle.case.specs.declared.Judged.the-variants as judged
+use Rattle.case.specs.Check.{recordJudged}
+use Rattle.case.specs.Bounds.{Between}
+use Rattle.case.specs.Fault.{withFault}
+use Rattle.row.specs.declared.Verdict.the-variants.{Safe}
+use Rattle.row.specs.Ends.{rowOf}
+use Rattle.yards.specs.Fewest.{AnsweredYard}
+use Rattle.headroom.specs.declared.Room.{Room}
+use Rattle.headroom.specs.declared.Room.the-variants.{UpTo, None, Refused}
+
+abbrev pub InRange : ℕ → Type 0
+InRange f = Between 100 f 80000
+
+-- the case is answered safe with this fault current in place of its own
+abbrev pub SafeWith : Case → ℕ → Type 0
+SafeWith c f = rowOf (withFault f c) .verdict ≡ Safe
+
+-- with any fault current in range the case is sound, so that it is answered with its row, and the row is right
+abbrev pub AnsweredWithin : Case → Type 0
+AnsweredWithin c = (f : ℕ) → InRange f → AnsweredYard (withFault f c)
+
+-- "with F, every fault current in range is answered safe if and only if it is at most F"
+pub record Headroom (c : Case) (F : ℕ) : Type 0 where
+  pub in-range : InRange F
+  pub answered : AnsweredWithin c
+  pub safe : (f : ℕ) → InRange f → f ≤ F → SafeWith c f
+  pub greatest : (f : ℕ) → InRange f → SafeWith c f → f ≤ F
+
+-- "with none, none is"
+pub record NoHeadroom (c : Case) : Type 0 where
+  pub answered : AnsweredWithin c
+  pub none-safe : (f : ℕ) → InRange f → ¬ SafeWith c f
+
+-- of a refusal nothing is asked here
+unfoldable pub RightRoom : Case → Room → Type 0
+RightRoom c (UpTo F) = Headroom c F
+RightRoom c None = NoHeadroom c
+RightRoom c (Refused number line column) = Unit {0}
+
+-- what an answer says that the checks of one case have found
+unfoldable pub checked : Room → Judged
+checked (UpTo F) = judged.Sound
+checked None = judged.Sound
+checked (Refused number line column) = judged.Refused number line column
+
+-- the answer after the checks, and what holds of it. Two wrong programs: one that refuses a disagreement with 5 breaks `checks`; one that
+-- answers the first fault current that is not safe breaks `right`.
+pub record HeadroomAnswered (c : Case) (r : Room) : Type 0 where
+  pub checks : recordJudged c ≡ checked r
+  pub right : RightRoom c r
