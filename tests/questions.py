@@ -15,6 +15,7 @@ from pathlib import Path
 import calculator as calc
 import fewest
 import headroom
+import working
 from calculator import Case
 from differential import FREQUENCIES, case_at_limit, clear_time, random_case, span_of
 
@@ -129,6 +130,17 @@ BROKEN = (
     {"soil": 9, "metal": 0}, {"metal": 12, "rods": 201}, {"across": 26, "along": 1},
     {"along": 26, "layer": 0}, {"metal": 12, "hz": 0}, {"rods": 0, "hz": 55},
 )
+
+# IEEE Std 80-2013, Annex B, examples B.1 to B.3: a square without rods, the same with 20 rods, a rectangle with 38.
+# Its X/R of 3.33 is entered as 4.
+B1 = Case(
+    station=1, season=1, soil=400, layer=2500, thick=102, shock=500, clear=500, wire=500,
+    body=70, fault=3180, split=600, xr=4, across=11, along=11, space=7000, depth=500, dia=100,
+    rods=0, rodlen=0, place=0, metal=2, hz=60)
+ANNEX_B = (B1, B1._replace(rods=20, rodlen=7500, place=1),
+           B1._replace(across=10, along=13, rods=38, rodlen=10000, place=1))
+
+SOUND_WORKINGS, UNSOUND_WORKINGS = 100, 30  # random records
 
 # Upper and lower number: one, the ends, beside one, and refused ones.
 MOST = calc.LN_MAX
@@ -312,6 +324,32 @@ def headrooms():
     yield from headroom.lines(YARD)
 
 
+def workings():
+    """The working of IEEE Std 80's examples, over each surface, of the counts at each place of rods, with both ends
+    of depth, diameter, shock time and current; of records at the sides of each range, of broken and of random ones;
+    and lines of its kind that are no question.
+    """
+    cases = [*ANNEX_B, *(YARD._replace(soil=soil, layer=layer, thick=thick) for soil, layer, thick in SURFACES),
+             *(YARD._replace(shock=shock) for shock in SURFACE_SHOCK)]
+    for (across, along), (rods, rodlen, place) in product(COUNTS, RODS):
+        for turned in ((across, along), (along, across)):
+            cases.append(YARD._replace(across=turned[0], along=turned[1], rods=rods, rodlen=rodlen, place=place))
+    for depth, dia, space, place in product((250, 2500), (50, 300), (2500, 30000), (0, 1)):
+        rods, rodlen = (200, 10000) if place else (0, 0)
+        cases.append(YARD._replace(depth=depth, dia=dia, space=space, rods=rods, rodlen=rodlen, place=place))
+    for soil, fault, split in product((10, 5000), (100, 80000), (1, 1000)):
+        cases += (YARD._replace(soil=soil, fault=fault, split=split, across=counts, along=counts) for counts in (2, 25))
+    for name, spans in calc.COLUMNS:
+        for low, high in spans:
+            cases += (YARD._replace(**{name: end}) for end in (low - 1, low, high, high + 1) if end >= 0)
+    cases += (YARD._replace(**changes) for changes in BROKEN)
+    rng = random.Random(f"{SEED},{working.KIND}")
+    cases += (random_case(rng) for _ in range(SOUND_WORKINGS))
+    cases += (unsound_case(rng) for _ in range(UNSOUND_WORKINGS))
+    yield from (line(working.KIND, case) for case in cases)
+    yield from (working.KIND, line(working.KIND, YARD) + ",1", line(working.KIND, YARD[:-1]))
+
+
 def no_questions():
     """Lines that are broken: a kind that is none, too few or too many numbers, no number."""
     sound = line("factor", YARD)
@@ -327,7 +365,7 @@ def no_questions():
 def questions():
     """All of them, each once, in a fixed order."""
     series = (factors, sizes, tolerable, worked, clocks, resistances, counts, edges, broken,
-              random_records, logarithms, searches, headrooms, no_questions)
+              random_records, logarithms, searches, headrooms, workings, no_questions)
     return list(dict.fromkeys(question for make in series for question in make()))
 
 

@@ -13,6 +13,7 @@ import calculator as calc
 import fewest
 import headroom
 import questions
+import working
 from calculator import Case, Refusal
 from printed import lines_of, read_asked, whole
 from questions import RECORD_KINDS, SIZE_KINDS, TABLE_10, TABLE_10_XR
@@ -135,8 +136,8 @@ class Asked(unittest.TestCase):
         cls.questions = defaultdict(dict)  # by kind: what is asked, and its answer
         cls.broken = {}  # a line that is no question, and what it is answered
         for line, printed in zip(cls.lines, cls.printed):
-            if line.startswith(fewest.KIND + ",") or headroom.is_question(line):
-                continue  # judged by test_fewest.py and test_headroom.py
+            if line.split(",")[0] in (fewest.KIND, working.KIND) or headroom.is_question(line):
+                continue  # judged by test_fewest.py, test_working.py and test_headroom.py
             question, answer = read_question(line), printed[len(line) + 1 :]
             if question:
                 kind, asked = question

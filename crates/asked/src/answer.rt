@@ -3,10 +3,12 @@ use hocsimbur::Case;
 use hocsimbur::Interval;
 use hocsimbur::Number;
 use hocsimbur::Pair;
+use hocsimbur::Quantities;
 use hocsimbur::Room;
 use hocsimbur::Row;
 use hocsimbur::RowAnswer;
 use hocsimbur::Tolerable;
+use hocsimbur::Worked;
 use print::bytes;
 use print::refused;
 
@@ -74,5 +76,49 @@ pub fn room(answer: Room) {
         }
         Room::None => bytes(b"none\n"),
         Room::Refused(why, line, column) => refused(why, line, column),
+    }
+}
+
+fn pairs(w: Quantities) {
+    let ends = [
+        w.cs.lower,
+        w.cs.upper,
+        w.root_time.lower,
+        w.root_time.upper,
+        w.side.lower,
+        w.side.upper,
+        w.lc.lower,
+        w.lc.upper,
+        w.lr.lower,
+        w.lr.upper,
+        w.lt.lower,
+        w.lt.upper,
+        w.lm.lower,
+        w.lm.upper,
+        w.ls.lower,
+        w.ls.upper,
+        w.n.lower,
+        w.n.upper,
+        w.ki.lower,
+        w.ki.upper,
+        w.kii.lower,
+        w.kii.upper,
+        w.kh.lower,
+        w.kh.upper,
+        w.km.lower,
+        w.km.upper,
+        w.ks.lower,
+        w.ks.upper,
+        w.driven.lower,
+        w.driven.upper,
+    ];
+    listing::numbers(&ends);
+}
+
+// The working of a case.
+pub fn quantities(answer: Worked) {
+    match answer {
+        Worked::Is(w) => pairs(w),
+        Worked::Refused(why, line, column) => refused(why, line, column),
     }
 }

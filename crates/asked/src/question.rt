@@ -1,6 +1,7 @@
 // One question: its kind and its numbers decide the operation.
 use crate::answer::ends;
 use crate::answer::numbers;
+use crate::answer::quantities;
 use crate::answer::room;
 use crate::answer::settled;
 use crate::answer::unknown;
@@ -31,6 +32,8 @@ fn on_record(kind: &[u8], c: Case) {
         numbers(hocsimbur::row(c));
     } else if same(kind, b"headroom") {
         room(hocsimbur::headroom(c));
+    } else if same(kind, b"working") {
+        quantities(hocsimbur::working(c));
     } else {
         unknown();
     }

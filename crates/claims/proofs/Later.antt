@@ -28,7 +28,8 @@ use Rattle.hocsimbur.proofs.NoWorse.{no-worse-row-safe}
 use Rattle.hocsimbur.proofs.HeadroomRows.{headroom-rows, no-headroom-rows}
 use Rattle.claims.specs.Words.{caseAt, verdictAt}
 use Rattle.claims.specs.Record.{RecordRefused, RecordSound}
-use Rattle.claims.specs.Later.{HeadroomOutcome, refused, up-to, none, EasedInside}
+use Rattle.claims.specs.Later as claim
+use Rattle.claims.specs.Later.{HeadroomOutcome, up-to, none, EasedInside}
 use Rattle.claims.proofs.Records.{Checked, refused as checks-refuse, sound, checked, record-sound}
 use Rattle.claims.proofs.Sheets.{case-count}
 
@@ -54,7 +55,7 @@ headroom-outcome {c} {r} h = go r h
     go : (r : Room) → HeadroomAnswered c r → HeadroomOutcome c r
     go (UpTo F) h = up-to (checked-sound (h .checks)) (h .right .in-range) (λ f a i b. headroom-rows h i b)
     go None h = none (checked-sound (h .checks)) (λ f a i b. no-headroom-rows h i b)
-    go (Refused n l k) h = refused (checked-refused (h .checks))
+    go (Refused n l k) h = claim.refused (checked-refused (h .checks))
 
 -- ---- no worse, and drier
 

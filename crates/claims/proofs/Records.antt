@@ -160,7 +160,7 @@ pub record-sound : {c : Case} → recordJudged c ≡ judged.Sound → claim.AllI
 record-sound e i s t = record { inside = i; surface = s; rods = t; bounds = record-bounds e }
 
 -- an answer by the checks of the record: what follows of a refusal, and of a sound record
-by-checks : {A : Type 0} (P : A → Type 0) (refusal : ℕ → ℕ → ℕ → A) (told : A) (c : Case)
+pub by-checks : {A : Type 0} (P : A → Type 0) (refusal : ℕ → ℕ → ℕ → A) (told : A) (c : Case)
     → ((n l k : ℕ) → RecordRefused c n l k → P (refusal n l k)) → (RecordSound c → P told) → P (recordAnswer refusal told (recordJudged c))
 unfolding recordAnswer
 by-checks P refusal told c broken answered = go (recordJudged c) refl (checked c)

@@ -1,4 +1,4 @@
--- Beyond documents 01 and 02: how far the fault current of a case may grow, and what cannot turn a yard red.
+-- Beyond documents 01 and 02: how far the fault current of a case may grow, and which changes never make a safe yard unsafe.
 -- Assumes nothing.
 use Prim.Native.Nat.{ℕ, _≤_}
 use mathlib.Core.Path.{_≡_}

@@ -3,7 +3,7 @@
 -- Assumes nothing.
 use Prim.Native.Nat.{ℕ, suc, _+_, _*_, _/_, _%_, _^_, _≤_, _<_}
 use mathlib.Core.Path.{_≡_}
-use mathlib.Core.Logic.{_⊎_}
+use mathlib.Core.Logic.{_⊎_, _↔_}
 use mathlib.Core.List.{List, List·Memᴰ}
 use lib.IntN.{ℤ, pos, negℤ, natAbs, _+ℤ_}
 use lib.ListN.{length, getD}
@@ -13,10 +13,14 @@ use Rattle.interval.specs.declared.Pair.{Pair}
 use Rattle.interval.specs.declared.Pair.the-variants as pair
 use Rattle.exact.specs.Fraction.{Fraction, whole, decimal, _÷f_}
 use Rattle.exact.specs.Ends.{Ends}
-use Rattle.exact.specs.Exact.{Exact, AtOrBelow}
+use Rattle.exact.specs.Exact.{Exact, exactly, _·x_, AtOrBelow}
 use Rattle.exact.specs.Logarithm.{lnOf}
 use Rattle.exact.specs.Reported.{ten, Reports}
+use Rattle.case.specs.declared.Case.{Case}
 use Rattle.case.specs.Bounds.{Between}
+use Rattle.formulas.specs.Tolerable.{tolerableTouch, tolerableStep}
+use Rattle.formulas.specs.Mesh.{mesh}
+use Rattle.formulas.specs.Step.{step}
 use Rattle.readings.specs.declared.Report.{Report}
 use Rattle.readings.specs.declared.Sounding.{Sounding}
 use Rattle.readings.specs.declared.Sounding.the-variants as sounding
@@ -31,7 +35,8 @@ use Rattle.staged.specs.declared.SplitAnswer.the-variants as split
 use Rattle.staged.specs.Current.{inPhase, quadrature, injected, branches, total, squareOf}
 use Rattle.margin.specs.declared.Compared.{Compared}
 use Rattle.margin.specs.declared.Compared.the-variants as compared
-use Rattle.margin.specs.Meaning.{IsMargin}
+use Rattle.margin.specs.Meaning.{IsMargin, share}
+use Rattle.claims.specs.Words.{verdictAt}
 
 -- ---- the logarithm
 
@@ -164,6 +169,11 @@ module _ (row : List ℤ) where
 
   -- each margin is the smallest whole number of tenths of a percent by which the voltage is not above the tolerable one
   pub data MarginsOutcome : Compared → Type 0 where
-    margins : {mesh step : ℤ} → RowComparable → IsMargin (natAbs (at 13)) (natAbs (at 8)) mesh → IsMargin (natAbs (at 15)) (natAbs (at 10)) step
-        → MarginsOutcome (compared.Margins mesh step)
+    margins : {m k : ℤ} → RowComparable → IsMargin (natAbs (at 13)) (natAbs (at 8)) m → IsMargin (natAbs (at 15)) (natAbs (at 10)) k
+        → MarginsOutcome (compared.Margins m k)
     none : ¬ RowComparable → MarginsOutcome compared.None
+
+-- the margins of row i of a table, for a value line with the case c: true of the exact values, and the verdict is safe exactly where neither is above 0
+pub data RowMargins (c : Case) (table : List ℤ) (i : ℕ) : Compared → Type 0 where
+  margins : {m k : ℤ} → AtOrBelow (mesh c) (exactly (share m) ·x tolerableTouch c) → AtOrBelow (step c) (exactly (share k) ·x tolerableStep c)
+      → (verdictAt table i ≡ pos 1) ↔ (m ≤ℤ pos 0) × (k ≤ℤ pos 0) → RowMargins c table i (compared.Margins m k)

@@ -10,7 +10,7 @@ use Rattle.exact.proofs.Products.{mul-assoc, mul-one, cong·}
 use Rattle.exact.proofs.Quotients.{mul-inv}
 
 -- c is a / b where c b is a
-quotient-is : {a b : Fraction} (c : Fraction) → whole 0 <f b → c ·f b ≈f a → a ÷f b ≈f c
+pub quotient-is : {a b : Fraction} (c : Fraction) → whole 0 <f b → c ·f b ≈f a → a ÷f b ≈f c
 unfolding _÷f_
 quotient-is {a} {b} c p e =
     trans≈ (cong· (sym≈ e) (refl≈ (inv b))) (trans≈ (mul-assoc c b (inv b)) (trans≈ (cong· (refl≈ c) (mul-inv p)) (mul-one c)))
@@ -27,7 +27,7 @@ divisor-pos thick = omega arith
 unfoldable pub thickness : ℕ → Fraction
 thickness thick = whole 2 ·f decimal thick 3 +f decimal 9 2
 
-thickness-pos : (thick : ℕ) → whole 0 <f thickness thick
+pub thickness-pos : (thick : ℕ) → whole 0 <f thickness thick
 unfolding thickness whole decimal _·f_ _+f_
 thickness-pos thick = record { lt = omega arith }
 

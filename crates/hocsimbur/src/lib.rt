@@ -30,6 +30,10 @@ pub use staged::SplitAnswer;
 pub use staged::split;
 pub use stations::Summed;
 pub use stations::summary;
+// The quantities between a case and its row.
+pub use working::Quantities;
+pub use working::Worked;
+pub use working::working;
 pub use yards::FewestLines;
 pub use yards::fewest_lines;
 

@@ -53,7 +53,7 @@ unfolding decimal over ten _·f_
 rod-share m = omega arith
 
 -- a length of k mm in 10^−6 m
-length-encloses : {q : Fraction} (k : ℕ) → q ≈f decimal k 3 → Encloses (exactly q) (ten 6) (point (pos (1000 * k)))
+pub length-encloses : {q : Fraction} (k : ℕ) → q ≈f decimal k 3 → Encloses (exactly q) (ten 6) (point (pos (1000 * k)))
 unfolding ten
 length-encloses k e = encloses-count (pos (1000 * k)) (ten 6) (trans≈ e (decimal-count k 3 1000 (ten 6) refl (omega arith)))
 
@@ -90,7 +90,7 @@ module _ {c : Case} (b : Bounds c) where
       (length-encloses (conductorLength c) (conductor-is c))
       (encloses-product (ten 6) 1000000 refl (weight .consistent) (consistent-exactly _) weight-encloses rods)
 
-  mesh-length-encloses : Encloses (LM c) (ten 6) (meshLength c)
+  pub mesh-length-encloses : Encloses (LM c) (ten 6) (meshLength c)
   unfolding LM meshLength
   mesh-length-encloses =
       by-both (λ x i. Encloses x (ten 6) i) (eqb (c .place) 1) (λ e. weighed-encloses (place-rodded b e))
@@ -98,7 +98,7 @@ module _ {c : Case} (b : Bounds c) where
 
   -- ---- the mesh voltage
 
-  driven-encloses : Encloses (exactly (ρ c) ·x Ki c ·x IG c ÷x LM c) mV (drivenEnds c)
+  pub driven-encloses : Encloses (exactly (ρ c) ·x Ki c ·x IG c ÷x LM c) mV (drivenEnds c)
   unfolding drivenEnds mV ten
   driven-encloses =
       encloses-quotient (ten 3) 1 refl (span-divisor (omega (arith, mesh-length-low b)) (mesh-length-span b) .0) (drive-consistent b)

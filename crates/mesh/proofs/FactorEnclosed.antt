@@ -56,13 +56,13 @@ module _ {c : Case} (b : Bounds c) where
   unfolding h whole decimal over ten _+f_
   depth-count = omega arith
 
-  depth-encloses : Encloses (Kh c) (ten 9) (depthFactor c)
+  pub depth-encloses : Encloses (Kh c) (ten 9) (depthFactor c)
   unfolding Kh depthFactor ten
   depth-encloses =
       encloses-sqrt-even (ten 9) {v = ten 3} (1000 + c .depth) 1000 refl (omega arith) (pair-ends ((1000 + c .depth) * 10 ^ 15))
       (encloses-count (pos (1000 + c .depth)) (ten 3) depth-count)
 
-  kii-encloses : Encloses (Kii c) (ten 9) (innerFactor c)
+  pub kii-encloses : Encloses (Kii c) (ten 9) (innerFactor c)
   unfolding Kii innerFactor ten
   kii-encloses =
       by-both (λ x i. Encloses x (ten 9) i) (eqb (c .place) 1) (λ e. encloses-whole 1 (ten 9) refl) (λ e. inner-encloses b)

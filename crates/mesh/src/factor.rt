@@ -37,7 +37,7 @@ fn argument_log(c: Case) -> Interval
 }
 
 // Kh in 10^-9.
-fn depth_factor(c: Case) -> Interval
+pub fn depth_factor(c: Case) -> Interval
     requires { ⌜ Bounds c ⌝ }
     ensures { λ r. ⌜ r ≡ depthFactor c ⌝ }
 {
@@ -45,7 +45,7 @@ fn depth_factor(c: Case) -> Interval
 }
 
 // Kii in 10^-9, for the case's n.
-fn inner_factor(c: Case, n: Interval) -> Interval
+pub fn inner_factor(c: Case, n: Interval) -> Interval
     requires { ⌜ Bounds c ⌝ }
     requires { ⌜ n ≡ numberOf c ⌝ }
     ensures { λ r. ⌜ r ≡ innerFactor c ⌝ }

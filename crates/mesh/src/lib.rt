@@ -3,16 +3,19 @@ ghost use mathlib.Core.Path.{_≡_};
 ghost use Rattle.case.specs.Bounds.{Bounds};
 ghost use Rattle.drive.specs.Ends.{numberOf, driveEnds};
 ghost use Rattle.mesh.specs.Ends.{drivenEnds, meshEnds};
-use crate::factor::geometric_factor;
-use crate::rods::mesh_length;
 use case::Case;
 use interval::Interval;
 
 mod factor;
 mod rods;
 
+pub use factor::depth_factor;
+pub use factor::geometric_factor;
+pub use factor::inner_factor;
+pub use rods::mesh_length;
+
 // ρ·Ki·IG/LM in mV.
-fn driven(c: Case, drive: Interval) -> Interval
+pub fn driven(c: Case, drive: Interval) -> Interval
     requires { ⌜ Bounds c ⌝ }
     requires { ⌜ drive ≡ driveEnds c ⌝ }
     ensures { λ r. ⌜ r ≡ drivenEnds c ⌝ }

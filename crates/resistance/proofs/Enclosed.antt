@@ -59,7 +59,7 @@ module _ {c : Case} (b : Bounds c) where
       (count-product x y (ten 3) (ten 3) (trans≈ (x-is c) (decimal-over x 3)) (trans≈ (y-is c) (decimal-over y 3)))
 
   -- s in micrometres
-  side-encloses : Encloses (s c) (ten 6) (sideEnds c)
+  pub side-encloses : Encloses (s c) (ten 6) (sideEnds c)
   unfolding s √area sideEnds ten
   side-encloses =
       by-both (λ x i. Encloses x (ten 6) i) (equalCounts c)

@@ -18,7 +18,7 @@ fn root_twenty() -> Interval
 }
 
 // s in micrometres: the side of a square, else the root of the area.
-fn side_term(c: Case) -> Interval
+pub fn side_term(c: Case) -> Interval
     requires { ⌜ Bounds c ⌝ }
     ensures { λ r. ⌜ r ≡ sideEnds c ⌝ }
 {

@@ -56,7 +56,7 @@ fn spacing_sum(c: Case, n: Interval) -> Interval
 }
 
 // Ks in 10^-7 per metre.
-fn spacing_factor(c: Case, n: Interval) -> Interval
+pub fn spacing_factor(c: Case, n: Interval) -> Interval
     requires { ⌜ Bounds c ⌝ }
     requires { ⌜ n ≡ numberOf c ⌝ }
     ensures { λ r. ⌜ r ≡ spacingFactor c ⌝ }
@@ -65,7 +65,7 @@ fn spacing_factor(c: Case, n: Interval) -> Interval
 }
 
 // LS in twentieths of a millimetre.
-fn step_length(c: Case) -> u64
+pub fn step_length(c: Case) -> u64
     requires { ⌜ Bounds c ⌝ }
     ensures { λ r. ⌜ r ≡ stepLength c ⌝ }
 {

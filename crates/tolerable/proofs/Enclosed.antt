@@ -92,7 +92,7 @@ module _ {c : Case} (b : Bounds c) where
       (trans≤ (counted (s .a) f .fro) (grows share n (decimal-nonneg f 3) (Q-point .low) (sym≈ e)))
       (trans≤ (grows share n (trans≤ (decimal-nonneg f 3) (e .fro)) (Q-point .high) e) (counted (s .b) f .to)))
 
-  time-encloses : Encloses (rootTime c) (ten 8) (timeRoot c)
+  pub time-encloses : Encloses (rootTime c) (ten 8) (timeRoot c)
   unfolding rootTime timeRoot ten
   time-encloses =
       encloses-sqrt-even (ten 8) {v = ten 3} (c .shock) (10 ^ 4) refl (omega arith) (pair-ends (c .shock * 10 ^ 13))

@@ -47,7 +47,7 @@ fn body_factor(c: Case) -> u64
 }
 
 // √t in 10^-8.
-fn time_root(c: Case) -> Interval
+pub fn time_root(c: Case) -> Interval
     requires { ⌜ Bounds c ⌝ }
     ensures { λ r. ⌜ r ≡ timeRoot c ⌝ }
 {

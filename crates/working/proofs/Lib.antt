@@ -1,0 +1,4 @@
+pub mod Layer
+pub mod Leasts
+pub mod Widths
+pub mod Right

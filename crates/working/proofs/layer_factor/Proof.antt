@@ -1,0 +1,113 @@
+-- `layer_factor` is Cs for bare soil or with a layer; the bounds of layer, thickness and soil keep it within 64 bits.
+-- Assumes nothing.
+use native.Mathlib.Omega.{arith}
+use borrow.Author.Tests.{eq-eqb, ne-eqb}
+use lib.Dec.{lit≤, lit<}
+use Rattle.interval.proofs.Fits.{fits-below, fits-product}
+use Rattle.interval.proofs.Span.{span-point}
+use Rattle.interval.proofs.SpanFits.{quotient-fits}
+use Rattle.case.specs.Bounds.{Layered}
+use Rattle.working.specs.Ends.{derated, full, layerFactor}
+use Rattle.working.proofs.Layer.{not-bare, derated-most, full-bounds}
+use borrow.Author.Needs.{needs}
+use Rattle.working.proofs.layer_factor.Statement.{statement}
+use Rattle.working.proofs.layer_factor.Tie as tie
+
+-- past the test there is a layer
+covered : (c : tie.Else1) → Layered (c .before .before .args .c)
+covered c = not-bare (c .before .before .pre) (c .if1 .left)
+
+point-requires : tie.Need-point-requires
+point-requires c κs = search needs
+
+returns : tie.Need-returns
+unfolding layerFactor
+returns c = simp (eq-eqb (c .before .before .before .args .c .layer) 0 (c .before .if1 .taken)) (c .point .ensures)
+
+cast-layer : tie.Need-cast-layer
+cast-layer c = search needs
+
+cast-thick : tie.Need-cast-thick
+cast-thick c = search needs
+
+mul-derated : tie.Need-mul-derated
+mul-derated c = let l = covered (c .before .before) in fits-product (l .layer .high) (l .thick .high) (lit< tt)
+
+mul-derated-2 : tie.Need-mul-derated-2
+unfolding derated
+mul-derated-2 c =
+    let e = c .before .before in
+    fits-below {m = 6450000} (omega (arith, derated-most (e .before .before .pre) (covered e))) (lit< tt)
+
+cast-derated : tie.Need-cast-derated
+cast-derated c = search needs
+
+mul-derated-3 : tie.Need-mul-derated-3
+mul-derated-3 c = search needs
+
+add-derated : tie.Need-add-derated
+unfolding derated
+add-derated c =
+    let e = c .before .before .before in
+    fits-below (derated-most (e .before .before .pre) (covered e)) (lit< tt)
+
+point-requires-2 : tie.Need-point-requires-2
+unfolding derated
+point-requires-2 c κs =
+    let e = c .before .before .before in
+    omega (arith, derated-most (e .before .before .pre) (covered e))
+
+mul-point : tie.Need-mul-point
+mul-point c = search needs
+
+add-point : tie.Need-add-point
+add-point c = search needs
+
+mul-point-2 : tie.Need-mul-point-2
+unfolding full
+mul-point-2 c =
+    let e = c .before .before .before .before in
+    fits-below (full-bounds (e .before .before .pre) (covered e) .high) (lit< tt)
+
+point-requires-3 : tie.Need-point-requires-3
+unfolding full
+point-requires-3 c κs =
+    let e = c .before .before .before .before in
+    omega (arith, full-bounds (e .before .before .pre) (covered e) .high)
+
+quotient-requires : tie.Need-quotient-requires
+unfolding derated full
+quotient-requires c κs =
+    let e = c .before .before .before .before .before in
+    let b = e .before .before .pre in
+    let f = full-bounds b (covered e) in
+    rw (c .point3 .ensures, c .before .point2 .ensures)
+    (quotient-fits (lit< tt) (lit< tt) (lit≤ tt) (span-point (derated (e .before .before .args .c)) {l = 0} (omega arith) (derated-most b (covered e)))
+    (span-point (full (e .before .before .args .c)) (f .low) (f .high)))
+
+returns-2 : tie.Need-returns-2
+unfolding layerFactor derated full
+returns-2 c =
+    let e = c .before .before .before .before .before .before in
+    rw (ne-eqb (e .before .before .args .c .layer) 0 (e .if1 .left)) (cc)
+
+pub layer-factor-spec : {M : Type 1} → statement M
+layer-factor-spec =
+    tie.close
+    (tie.spec
+    point-requires
+    returns
+    cast-layer
+    cast-thick
+    mul-derated
+    mul-derated-2
+    cast-derated
+    mul-derated-3
+    add-derated
+    point-requires-2
+    mul-point
+    add-point
+    mul-point-2
+    point-requires-3
+    quotient-requires
+    returns-2)

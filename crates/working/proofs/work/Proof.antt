@@ -1,0 +1,129 @@
+-- `work` puts the parts together.
+-- Assumes nothing.
+use native.Mathlib.Omega.{arith}
+use Rattle.lengths.proofs.Lengths.{conductor-bounds, rod-bound, total-bounds}
+use Rattle.conductors.proofs.NumberSpans.{n-span}
+use Rattle.conductors.proofs.NumberEnclosed.{counts}
+use Rattle.working.specs.Ends.{workingOf}
+use borrow.Author.Needs.{needs}
+use Rattle.working.proofs.work.Statement.{statement}
+use Rattle.working.proofs.work.Tie as tie
+
+-- where ρ·Ki·IG was worked, seen from LM and from ρ·Ki·IG/LM
+abbrev driven-from : tie.After-mesh-length → tie.After-drive
+driven-from c = c .before .before .before .before .before .before .before .before .before .before
+
+abbrev weighed : tie.After-spacing-factor → tie.After-mesh-length
+weighed c = c .before .before .before .before .before .before
+
+abbrev started : tie.After-drive → tie.Start
+started c = c .before .before .before .before
+
+factor-ends-requires : tie.Need-factor-ends-requires
+factor-ends-requires c κs = search needs
+
+grid-current-requires : tie.Need-grid-current-requires
+grid-current-requires c κs = search needs
+
+effective-number-requires : tie.Need-effective-number-requires
+effective-number-requires c κs = counts (c .before .before .pre)
+
+drive-requires : tie.Need-drive-requires
+drive-requires c κs = search needs
+
+layer-factor-requires : tie.Need-layer-factor-requires
+layer-factor-requires c κs = search needs
+
+time-root-requires : tie.Need-time-root-requires
+time-root-requires c κs = search needs
+
+side-term-requires : tie.Need-side-term-requires
+side-term-requires c κs = search needs
+
+conductor-length-requires : tie.Need-conductor-length-requires
+conductor-length-requires c κs = search needs
+
+in-micrometres-requires : tie.Need-in-micrometres-requires
+in-micrometres-requires c κs = rw (c .conductor-length .ensures) (omega (arith, conductor-bounds (started (c .before .before .before .before) .pre) .high))
+
+rod-length-requires : tie.Need-rod-length-requires
+rod-length-requires c κs = search needs
+
+in-micrometres-requires-2 : tie.Need-in-micrometres-requires-2
+in-micrometres-requires-2 c κs = rw (c .rod-length .ensures) (omega (arith, rod-bound (started (c .before .before .before .before .before .before) .pre)))
+
+total-length-requires : tie.Need-total-length-requires
+total-length-requires c κs = search needs
+
+in-micrometres-requires-3 : tie.Need-in-micrometres-requires-3
+in-micrometres-requires-3 c κs = rw (c .total-length .ensures) (omega (arith, total-bounds (started (c .before .before .before .before .before .before .before .before) .pre) .high))
+
+mesh-length-requires : tie.Need-mesh-length-requires
+mesh-length-requires c κs = search needs
+
+step-in-micrometres-requires : tie.Need-step-in-micrometres-requires
+step-in-micrometres-requires c κs = started (driven-from c) .pre
+
+irregularity-requires : tie.Need-irregularity-requires
+irregularity-requires c κs = let d = driven-from (c .before) in rw (d .before .effective-number .ensures) (n-span (counts (started d .pre)))
+
+inner-factor-requires : tie.Need-inner-factor-requires
+inner-factor-requires c κs = let d = driven-from (c .before .before) in (started d .pre, d .before .effective-number .ensures)
+
+depth-factor-requires : tie.Need-depth-factor-requires
+depth-factor-requires c κs = started (driven-from (c .before .before .before)) .pre
+
+geometric-factor-requires : tie.Need-geometric-factor-requires
+geometric-factor-requires c κs = let d = driven-from (c .before .before .before .before) in (started d .pre, d .before .effective-number .ensures)
+
+spacing-factor-requires : tie.Need-spacing-factor-requires
+spacing-factor-requires c κs = let d = driven-from (c .before .before .before .before .before) in (started d .pre, d .before .effective-number .ensures)
+
+driven-requires : tie.Need-driven-requires
+driven-requires c κs = let d = driven-from (weighed c) in (started d .pre, d .drive .ensures)
+
+returns : tie.Need-returns
+unfolding workingOf
+returns c =
+    let k = c .before in
+    let g = k .before in
+    let h = g .before in
+    let i = h .before in
+    let r = i .before in
+    let s = r .before in
+    let m = s .before in
+    let l = m .before in
+    let t = l .before in
+    let u = t .before .before in
+    let v = u .before .before in
+    let w = v .before in
+    let x = w .before in
+    let y = x .before in
+    rw (c .driven .ensures, k .spacing-factor .ensures, g .geometric-factor .ensures, h .depth-factor .ensures, i .inner-factor .ensures, r .irregularity .ensures, s .step-in-micrometres .ensures, m .mesh-length .ensures, l .in-micrometres3 .ensures, t .total-length .ensures, t .before .in-micrometres2 .ensures, u .rod-length .ensures, u .before .in-micrometres .ensures, v .conductor-length .ensures, w .side-term .ensures, x .time-root .ensures, y .layer-factor .ensures, y .before .before .effective-number .ensures)
+
+pub work-spec : {M : Type 1} → statement M
+work-spec =
+    tie.close
+    (tie.spec
+    factor-ends-requires
+    grid-current-requires
+    effective-number-requires
+    drive-requires
+    layer-factor-requires
+    time-root-requires
+    side-term-requires
+    conductor-length-requires
+    in-micrometres-requires
+    rod-length-requires
+    in-micrometres-requires-2
+    total-length-requires
+    in-micrometres-requires-3
+    mesh-length-requires
+    step-in-micrometres-requires
+    irregularity-requires
+    inner-factor-requires
+    depth-factor-requires
+    geometric-factor-requires
+    spacing-factor-requires
+    driven-requires
+    returns)

@@ -1,0 +1,4 @@
+pub mod Surface
+pub mod Ends
+pub mod Working
+pub mod Examples

@@ -1,0 +1,112 @@
+// The working of a case: the quantities between its record and its row, as IEEE Std 80's Annex B prints them.
+ghost use mathlib.Core.Path.{_≡_};
+ghost use lib.IntN.{pos};
+ghost use Prim.Native.Nat.{_*_, _≤_};
+ghost use Rattle.interval.specs.Operations.{point};
+ghost use Rattle.case.specs.Bounds.{Bounds};
+ghost use Rattle.step.specs.Ends.{stepLength};
+ghost use Rattle.working.specs.Ends.{layerFactor, workingOf};
+ghost use Rattle.working.specs.Working.{WorkingAnswered};
+use case::Case;
+use case::Judged;
+use case::judge;
+use interval::Interval;
+
+// A pair of ends for each quantity.
+pub struct Quantities {
+    // Cs, 10^-9
+    pub cs: Interval,
+    // √t of the shock time, 10^-8 of √s
+    pub root_time: Interval,
+    // √area, and the lengths Lc, LR, LT, LM and LS: micrometres
+    pub side: Interval,
+    pub lc: Interval,
+    pub lr: Interval,
+    pub lt: Interval,
+    pub lm: Interval,
+    pub ls: Interval,
+    // 10^-7
+    pub n: Interval,
+    // 10^-10
+    pub ki: Interval,
+    // 10^-9
+    pub kii: Interval,
+    pub kh: Interval,
+    // 10^-7, and 10^-7 per metre
+    pub km: Interval,
+    pub ks: Interval,
+    // ρ·Ki·IG/LM, millivolts
+    pub driven: Interval,
+}
+
+// The working of a case, or a refusal with number, line and column.
+pub enum Worked {
+    Is(Quantities),
+    Refused(u32, usize, usize),
+}
+
+// Cs in 10^-9: with a layer the quotient of two whole numbers.
+fn layer_factor(c: Case) -> Interval
+    requires { ⌜ Bounds c ⌝ }
+    ensures { λ r. ⌜ r ≡ layerFactor c ⌝ }
+{
+    if c.layer == 0 {
+        return Interval::point(1000000000);
+    }
+    let layer = c.layer as u64;
+    let thick = c.thick as u64;
+    let derated = 2 * (layer * thick) + 90 * (c.soil as u64);
+    Interval::point(derated).quotient(Interval::point(layer * (2 * thick + 90)), 1000000000)
+}
+
+// Millimetres in micrometres.
+fn in_micrometres(mm: u64) -> Interval
+    requires { ⌜ mm ≤ 38000000 ⌝ }
+    ensures { λ r. ⌜ r ≡ point (pos (1000 * mm)) ⌝ }
+{
+    Interval::point(1000 * mm)
+}
+
+// LS in micrometres, of which a twentieth of a millimetre has 50.
+fn step_in_micrometres(c: Case) -> Interval
+    requires { ⌜ Bounds c ⌝ }
+    ensures { λ r. ⌜ r ≡ point (pos (50 * stepLength c)) ⌝ }
+{
+    Interval::point(50 * step::step_length(c))
+}
+
+fn work(c: Case) -> Quantities
+    requires { ⌜ Bounds c ⌝ }
+    ensures { λ r. ⌜ r ≡ workingOf c ⌝ }
+{
+    let current = current::grid_current(c, decrement::factor_ends(c));
+    let n = conductors::effective_number(c.across, c.along);
+    let drive = drive::drive(c, n, current);
+    Quantities {
+        cs: layer_factor(c),
+        root_time: tolerable::time_root(c),
+        side: resistance::side_term(c),
+        lc: in_micrometres(lengths::conductor_length(c)),
+        lr: in_micrometres(lengths::rod_length(c)),
+        lt: in_micrometres(lengths::total_length(c)),
+        lm: mesh::mesh_length(c),
+        ls: step_in_micrometres(c),
+        n,
+        ki: conductors::irregularity(n),
+        kii: mesh::inner_factor(c, n),
+        kh: mesh::depth_factor(c),
+        km: mesh::geometric_factor(c, n),
+        ks: step::spacing_factor(c, n),
+        driven: mesh::driven(c, drive),
+    }
+}
+
+// The working of a case, after the checks of a record.
+pub fn working(c: Case) -> Worked
+    ensures { λ r. ⌜ WorkingAnswered c r ⌝ }
+{
+    match judge(c) {
+        Judged::Sound => Worked::Is(work(c)),
+        Judged::Refused(number, line, column) => Worked::Refused(number, line, column),
+    }
+}
