@@ -20,6 +20,8 @@ pub use margin::margins;
 pub use readings::Report;
 pub use readings::Sounding;
 pub use readings::soil;
+pub use release::Released;
+pub use release::release;
 pub use row::Row;
 pub use row::Verdict;
 // The twenty numbers of a row in the table's order, as `margins` takes them.

@@ -1,0 +1,67 @@
+-- `licences::portfolios` is safe and ends: the measure is what is left of the portfolios.
+-- Assumes nothing.
+use lib.ListN.{length}
+use borrow.Author.Needs.{needs}
+use Rattle.text.proofs.LineTurns.{skipped-shorter}
+use Rattle.text.proofs.FieldTurns.{part-length}
+use Rattle.licences.proofs.portfolios.Statement.{statement}
+use Rattle.licences.proofs.portfolios.Tie as tie
+
+abbrev Inv-loop : tie.InvT-loop
+Inv-loop s rest₀ rest = Unit
+
+abbrev μ-loop : tie.MeasureT-loop
+μ-loop s rest₀ rest = length rest
+
+loop-holds : tie.Need-loop-holds Inv-loop μ-loop
+loop-holds c = search needs
+
+find-requires : tie.Need-find-requires Inv-loop μ-loop
+find-requires c κs = search needs
+
+slice-aggregate-on-table : tie.Need-slice-aggregate-on-table Inv-loop μ-loop
+slice-aggregate-on-table c = part-length 0 _ _ (c .before .find .ensures)
+
+on-table-requires : tie.Need-on-table-requires Inv-loop μ-loop
+on-table-requires c κs = search needs
+
+skip-requires : tie.Need-skip-requires Inv-loop μ-loop
+skip-requires c κs = search needs
+
+sub-rest : tie.Need-sub-rest Inv-loop μ-loop
+sub-rest c = search needs
+
+part-rest-start : tie.Need-part-rest-start Inv-loop μ-loop
+part-rest-start c = search needs
+
+part-rest-end : tie.Need-part-rest-end Inv-loop μ-loop
+part-rest-end c = search needs
+
+loop-less : tie.Need-loop-less Inv-loop μ-loop
+loop-less c =
+    let t = c .before .before .before .before .before in
+    skipped-shorter (t .before .loop .rest .now) (t .loop-test .taken) (c .before .skip .ensures)
+
+loop-again : tie.Need-loop-again Inv-loop μ-loop
+loop-again c = search needs
+
+returns : tie.Need-returns Inv-loop μ-loop
+returns c = search needs
+
+pub portfolios-spec : {M : Type 1} → statement M
+portfolios-spec =
+    tie.close
+    (tie.spec
+    Inv-loop
+    μ-loop
+    loop-holds
+    find-requires
+    slice-aggregate-on-table
+    on-table-requires
+    skip-requires
+    sub-rest
+    part-rest-start
+    part-rest-end
+    loop-less
+    loop-again
+    returns)

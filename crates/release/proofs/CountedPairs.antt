@@ -1,0 +1,78 @@
+-- What an answer that is a count of pairs says: the sheet was read, its cases are within their bounds, and the count is that of the pairs.
+-- Assumes nothing.
+use Prim.Native.Nat.{ℕ, _*_, _/_, _<_}
+use mathlib.Core.Path.{_≡_, refl, sym, _∙_}
+use mathlib.Core.Bool.{Bool, true, false, cond}
+use mathlib.Core.List.{List, []}
+use native.Mathlib.Omega.{arith}
+use lib.Dec.{ltb}
+use lib.ListN.{length, length-map}
+use Rattle.text.specs.Text.{fieldsOf}
+use Rattle.case.specs.Columns.{columns}
+use Rattle.case.specs.Bounds.{Bounds}
+use Rattle.header.specs.Header.{columnsOf}
+use Rattle.line.specs.Line.{lineCase}
+use Rattle.judgement.specs.declared.Judgement.{Judgement}
+use Rattle.judgement.specs.declared.Judgement.the-variants as judged
+use Rattle.judgement.specs.Sheet.{names, valueLines, judgement}
+use Rattle.judgement.proofs.Accepted.{accepted}
+use Rattle.sheet.specs.Answer.{cases}
+use Rattle.sheet.proofs.Accepted.{sound-bounds}
+use Rattle.sheet.proofs.StoredCases.{case-at}
+use Rattle.release.specs.declared.licence.Wrong.{Wrong}
+use Rattle.release.specs.declared.licence.Wrong.the-variants.{At, Nothing}
+use Rattle.release.specs.declared.Released.the-variants.{Pairs, Refused}
+use Rattle.release.specs.Licence.{pairsOf, badCount, firstWrong}
+use Rattle.release.specs.Pair.{pairLength}
+use Rattle.release.specs.Tally.{EveryBounds}
+use Rattle.release.specs.Answer.{roomAnswer, afterPairs, licenceAnswer, afterSheet, releaseAnswer}
+use Rattle.release.specs.Meaning.{lineAt}
+use Rattle.release.proofs.Members.{every-bounds}
+use Rattle.release.proofs.Pairs.{pair-count}
+
+-- ---- an answer that is a count of pairs
+
+never : {A : Type 0} {n k l c : ℕ} → Refused k l c ≡ Pairs n → A
+never e = let z : _≡_ {A = ℕ} 0 1 = cc in absurd (omega arith)
+
+room-count : (room n m : ℕ) → roomAnswer room m ≡ Pairs n → m ≡ n
+unfolding roomAnswer
+room-count room n m e = go (ltb room (pairLength * m)) e
+  where
+    go : (t : Bool) → cond t (Refused 23 0 0) (Pairs m) ≡ Pairs n → m ≡ n
+    go true h = never h
+    go false h = cc
+
+licence-count : (licence : List ℕ) (room n : ℕ) → licenceAnswer licence room ≡ Pairs n → length licence / 2 ≡ n
+unfolding licenceAnswer afterPairs
+licence-count licence room n e = go (badCount (length licence)) (firstWrong [] 1 (pairsOf licence)) e
+  where
+    go : (t : Bool) (w : Wrong) → cond t (Refused 21 0 0) (afterPairs (roomAnswer room (length (pairsOf licence))) w) ≡ Pairs n → length licence / 2 ≡ n
+    go true w h = never h
+    go false (At place column) h = never h
+    go false Nothing h = sym (pair-count licence) ∙ room-count room n (length (pairsOf licence)) h
+
+pub record Counted (s licence : List ℕ) (n : ℕ) : Type 0 where
+  pub lines : ℕ
+  pub read : judgement columns s ≡ judged.Lines lines
+  pub count : length licence / 2 ≡ n
+
+pub counted : (s licence : List ℕ) (room n : ℕ) → releaseAnswer s licence room ≡ Pairs n → Counted s licence n
+unfolding releaseAnswer afterSheet
+counted s licence room n e = go (judgement columns s) refl e
+  where
+    go : (j : Judgement) → judgement columns s ≡ j → afterSheet (licenceAnswer licence room) j ≡ Pairs n → Counted s licence n
+    go (judged.Refused k l c) q h = never h
+    go (judged.Lines m) q h = record { lines = m; read = q; count = licence-count licence room n h }
+
+-- ---- the cases of a sheet that was read are within their bounds
+
+pub cases-bounds : (s : List ℕ) (m : ℕ) → judgement columns s ≡ judged.Lines m → EveryBounds (cases s)
+unfolding cases
+cases-bounds s m e = every-bounds (cases s) (λ k h. at k h)
+  where
+    at : (k : ℕ) → k < length (cases s) → Bounds (lineAt s k)
+    at k h =
+        let a = accepted columns s m e in
+        let l : k < length (valueLines s) = rw (length-map (valueLines s) (λ line. lineCase (columnsOf columns (names s)) (fieldsOf line))) at h in
+        rw (case-at (columnsOf columns (names s)) (valueLines s) k l) (sound-bounds (a .placed) (a .lines .line k l))

@@ -1,0 +1,13 @@
+-- `same_yard` compares the nine columns.
+-- Assumes nothing.
+use mathlib.Core.Path.{refl}
+use Rattle.release.specs.Lines.{sameYard}
+use Rattle.release.proofs.add.same_yard.Statement.{statement}
+use Rattle.release.proofs.add.same_yard.Tie as tie
+
+returns : tie.Need-returns
+unfolding sameYard
+returns c = refl
+
+pub same-yard-spec : {M : Type 1} → statement M
+same-yard-spec = tie.close (tie.spec returns)

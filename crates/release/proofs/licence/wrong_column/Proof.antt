@@ -1,0 +1,98 @@
+-- `wrong_column` tests the station, then the seasons.
+-- Assumes nothing.
+use Prim.Native.Nat.{ℕ, _*_}
+use mathlib.Core.Path.{sym, _∙_, _≡_}
+use mathlib.Core.List.{List}
+use lib.ListN.{getD}
+use borrow.Author.Tests.{le-leb, lt-leb}
+use borrow.Author.Needs.{needs}
+use Rattle.release.specs.Licence.{wrongStation, wrongSeasons}
+use Rattle.release.specs.Earlier.{earlier, wrongAt}
+use Rattle.release.proofs.licence.wrong_column.Statement.{statement}
+use Rattle.release.proofs.licence.wrong_column.Tie as tie
+
+mul-station : tie.Need-mul-station
+mul-station c = search needs
+
+mul-station-2 : tie.Need-mul-station-2
+mul-station-2 c = search needs
+
+shared-slice-read-station : tie.Need-shared-slice-read-station
+shared-slice-read-station c = search needs
+
+mul-seasons : tie.Need-mul-seasons
+mul-seasons c = search needs
+
+add-seasons : tie.Need-add-seasons
+add-seasons c = search needs
+
+mul-seasons-2 : tie.Need-mul-seasons-2
+mul-seasons-2 c = search needs
+
+shared-slice-read-seasons : tie.Need-shared-slice-read-seasons
+shared-slice-read-seasons c = search needs
+
+returns : tie.Need-returns
+unfolding wrongAt wrongStation
+returns c = rw (lt-leb _ _ (c .if1 .taken))
+
+returns-2 : tie.Need-returns-2
+unfolding wrongAt wrongStation
+returns-2 c = rw (le-leb _ _ (c .before .if1 .left), lt-leb _ _ (c .if2 .taken))
+
+stands-before-requires : tie.Need-stands-before-requires
+stands-before-requires c κs = search needs
+
+-- the station is tested: its range, then the earlier pairs
+module _ (c : tie.After-stands-before) where
+  abbrev range : tie.Else2
+  range = c .before
+
+  abbrev licence : List ℕ
+  licence = range .before .before .before .before .before .args .licence .now
+
+  abbrev place : ℕ
+  place = range .before .before .before .before .before .args .k
+
+  station-is : wrongStation (earlier licence place) (getD licence (2 * place) 0) ≡ c .stands-before .result
+  unfolding wrongStation
+  station-is = rw (le-leb _ _ (range .before .if1 .left), le-leb _ _ (range .if2 .left)) (sym (c .stands-before .ensures))
+
+returns-3 : tie.Need-returns-3
+unfolding wrongAt
+returns-3 c = rw (station-is (c .before) ∙ c .if3 .taken)
+
+returns-4 : tie.Need-returns-4
+unfolding wrongAt wrongSeasons
+returns-4 c = let e = c .before in rw (station-is (e .before) ∙ e .if3 .left, lt-leb _ _ (c .if4 .taken))
+
+returns-5 : tie.Need-returns-5
+unfolding wrongAt wrongSeasons
+returns-5 c =
+    let e = c .before .before in
+    rw (station-is (e .before) ∙ e .if3 .left, le-leb _ _ (c .before .if4 .left), lt-leb _ _ (c .if5 .taken))
+
+returns-6 : tie.Need-returns-6
+unfolding wrongAt wrongSeasons
+returns-6 c =
+    let e = c .before .before in
+    rw (station-is (e .before) ∙ e .if3 .left, le-leb _ _ (c .before .if4 .left), le-leb _ _ (c .if5 .left))
+
+pub wrong-column-spec : {M : Type 1} → statement M
+wrong-column-spec =
+    tie.close
+    (tie.spec
+    mul-station
+    mul-station-2
+    shared-slice-read-station
+    mul-seasons
+    add-seasons
+    mul-seasons-2
+    shared-slice-read-seasons
+    returns
+    returns-2
+    stands-before-requires
+    returns-3
+    returns-4
+    returns-5
+    returns-6)

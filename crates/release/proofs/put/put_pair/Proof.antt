@@ -1,0 +1,98 @@
+-- `put_pair` counts the lines of its station and puts the eight numbers in their own part of the table.
+-- Assumes nothing.
+use Prim.Native.Nat.{ℕ, _≤_}
+use mathlib.Core.Path.{ap, _∙_, _≡_}
+use mathlib.Core.List.{List}
+use borrow.Author.Needs.{needs}
+use Rattle.case.specs.declared.Case.{Case}
+use Rattle.sheet.specs.Rows.{storedCases}
+use Rattle.release.specs.Lines.{linesOf, firstLine}
+use Rattle.release.specs.Pair.{stationNumbers}
+use Rattle.release.specs.declared.Tally.{Tally}
+use Rattle.release.specs.Tally.{tallyOf, Small, missingBy, eight}
+use Rattle.release.proofs.Counts.{tally-small, missing-most, eight-is}
+use Rattle.release.proofs.StationLines.{lines-most}
+use Rattle.release.proofs.Tables.{pair-written}
+use Rattle.release.proofs.put.put_pair.Statement.{statement}
+use Rattle.release.proofs.put.put_pair.Tie as tie
+
+first-line-requires : tie.Need-first-line-requires
+first-line-requires c κs = search needs
+
+count-lines-requires : tie.Need-count-lines-requires
+count-lines-requires c κs = search needs
+
+missing-seasons-requires : tie.Need-missing-seasons-requires
+missing-seasons-requires c κs = search needs
+
+mul-a : tie.Need-mul-a
+mul-a c = search needs
+
+add-b : tie.Need-add-b
+add-b c = search needs
+
+mul-put-numbers : tie.Need-mul-put-numbers
+mul-put-numbers c = search needs
+
+sub-put-numbers : tie.Need-sub-put-numbers
+sub-put-numbers c = search needs
+
+part-put-numbers-start : tie.Need-part-put-numbers-start
+part-put-numbers-start c = search needs
+
+part-put-numbers-end : tie.Need-part-put-numbers-end
+part-put-numbers-end c = search needs
+
+-- what is counted of the station
+module _ (m : tie.After-missing-seasons) where
+  abbrev start : tie.Start
+  start = m .before .before .before .before
+
+  abbrev lines : List Case
+  lines = linesOf (start .args .station) (storedCases (start .args .values .now) (start .args .n))
+
+  tally-is : m .before .count-lines .result ≡ tallyOf (firstLine lines) lines
+  tally-is = m .before .count-lines .ensures ∙ ap (λ (y : Case). tallyOf y lines) (m .before .before .first-line .ensures)
+
+  counted : (m .missing-seasons .result ≤ 4) × Small (m .before .count-lines .result)
+  counted = (
+    rw (m .missing-seasons .ensures) (missing-most (start .args .seasons) _),
+    rw tally-is (tally-small (firstLine lines) lines (lines-most _ _ _ (start .pre .0))),
+  )
+
+  numbers-are : eight (start .args .station) (m .missing-seasons .result) (m .before .count-lines .result)
+      ≡ stationNumbers (start .args .station) (start .args .seasons) (storedCases (start .args .values .now) (start .args .n))
+  unfolding stationNumbers
+  numbers-are =
+      ap (λ (k : ℕ). eight (start .args .station) k (m .before .count-lines .result)) (m .missing-seasons .ensures)
+      ∙ ap (λ (t : Tally). eight (start .args .station) (missingBy (start .args .seasons) t) t) tally-is
+      ∙ eight-is (start .args .station) (start .args .seasons) lines
+
+put-numbers-requires : tie.Need-put-numbers-requires
+put-numbers-requires c κs = let m = c .before in (counted m .0, (counted m .1, search needs))
+
+same-length : tie.Need-same-length
+same-length c = search needs
+
+returns : tie.Need-returns
+returns c = let p = c .before in
+    let m = p .before .before in
+    let s = m .before .before .before .before in
+    rw (← numbers-are m) (pair-written (s .args .i) (s .args .table .now) _ _ _ _ (s .pre .1 .1 .1) (p .put-numbers .ensures))
+
+pub put-pair-spec : {M : Type 1} → statement M
+put-pair-spec =
+    tie.close
+    (tie.spec
+    first-line-requires
+    count-lines-requires
+    missing-seasons-requires
+    mul-a
+    add-b
+    mul-put-numbers
+    sub-put-numbers
+    part-put-numbers-start
+    part-put-numbers-end
+    put-numbers-requires
+    same-length
+    returns)

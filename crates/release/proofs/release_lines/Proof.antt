@@ -1,0 +1,77 @@
+-- `release_lines` refuses in the order of the checks, and else puts the pairs.
+-- Assumes nothing.
+use mathlib.Core.Path.{sym, _∙_, _≡_}
+use mathlib.Core.Bool.{false}
+use mathlib.Core.List.{[]}
+use lib.ListN.{length}
+use borrow.Author.Needs.{needs}
+use Rattle.release.specs.declared.licence.Wrong.the-variants.{Nothing}
+use Rattle.release.specs.Licence.{pairsOf, badCount, firstWrong}
+use Rattle.release.proofs.Answers.{count-refused, pair-refused, room-refused, pairs-released}
+use Rattle.release.proofs.release_lines.Statement.{statement}
+use Rattle.release.proofs.release_lines.Tie as tie
+
+-- what the checks found
+module _ (f : tie.After-first-wrong) where
+  abbrev start : tie.Start
+  start = f .before .before .before .before .before
+
+  count-right : badCount (length (start .args .licence .now)) ≡ false
+  count-right = sym (f .before .before .bad-count .ensures) ∙ f .before .if1 .left
+
+abbrev wrong : tie.After-enum-told → tie.After-first-wrong
+wrong e = e .before .before
+
+none-wrong : (e : tie.After-enum-told) → firstWrong [] 1 (pairsOf (start (wrong e) .args .licence .now)) ≡ Nothing
+none-wrong e = sym (wrong e .first-wrong .ensures) ∙ e .enum-told .given .1
+
+bad-count-requires : tie.Need-bad-count-requires
+bad-count-requires c κs = search needs
+
+returns : tie.Need-returns
+returns c = count-refused _ _ _ (sym (c .before .bad-count .ensures) ∙ c .if1 .taken)
+
+first-wrong-requires : tie.Need-first-wrong-requires
+first-wrong-requires c κs = search needs
+
+enum-known-place : tie.Need-enum-known-place
+enum-known-place c = search needs
+
+enum-told : tie.Need-enum-told
+enum-told c = search needs
+
+mul-if2 : tie.Need-mul-if2
+mul-if2 c = search needs
+
+returns-2 : tie.Need-returns-2
+returns-2 c = let e = c .before in room-refused _ _ _ (count-right (wrong e)) (none-wrong e) (c .if2 .taken)
+
+put-pairs-requires : tie.Need-put-pairs-requires
+put-pairs-requires c κs = let s = start (wrong (c .before .before)) in (s .pre .0, (s .pre .1 .0, (s .pre .1 .1, c .before .if2 .left)))
+
+returns-3 : tie.Need-returns-3
+returns-3 c = let f = c .before .before .before in pair-refused _ _ _ (count-right f) (sym (f .first-wrong .ensures) ∙ c .before .place .given .1)
+
+same-length : tie.Need-same-length
+same-length c = search needs
+
+returns-4 : tie.Need-returns-4
+returns-4 c = let p = c .before in
+    let e = p .before .before in
+    pairs-released _ _ _ (count-right (wrong (e .before))) (none-wrong (e .before)) (e .if2 .left) (p .put-pairs .ensures)
+
+pub release-lines-spec : {M : Type 1} → statement M
+release-lines-spec =
+    tie.close
+    (tie.spec
+    bad-count-requires
+    returns
+    first-wrong-requires
+    enum-known-place
+    enum-told
+    mul-if2
+    returns-2
+    put-pairs-requires
+    returns-3
+    same-length
+    returns-4)

@@ -1,0 +1,68 @@
+-- The answer to a sheet, a licence and a table, and what it leaves in the table: one claim over every three of them.
+-- Assumes nothing.
+use Prim.Native.Nat.{ℕ, _*_, _<_}
+use mathlib.Core.Path.{_≡_}
+use mathlib.Core.Bool.{cond}
+use mathlib.Core.List.{List, []}
+use lib.Dec.{ltb}
+use lib.IntN.{ℤ}
+use lib.ListN.{length, getD, drop}
+use Rattle.tables.specs.Parts.{partAt}
+use Rattle.case.specs.declared.Case.{Case}
+use Rattle.case.specs.Columns.{columns}
+use Rattle.judgement.specs.declared.Judgement.{Judgement}
+use Rattle.judgement.specs.declared.Judgement.the-variants as judged
+use Rattle.judgement.specs.Sheet.{judgement}
+use Rattle.sheet.specs.Answer.{cases}
+use Rattle.release.specs.declared.licence.Wrong.{Wrong}
+use Rattle.release.specs.declared.licence.Wrong.the-variants.{At, Nothing}
+use Rattle.release.specs.declared.Released.{Released}
+use Rattle.release.specs.declared.Released.the-variants.{Pairs, Refused}
+use Rattle.release.specs.Licence.{pairsOf, badCount, firstWrong}
+use Rattle.release.specs.Pair.{pairLength, releaseOf}
+
+-- "last 23, 0, 0 when the table is shorter than eight numbers a pair"; "The answer is the count of pairs"
+unfoldable pub roomAnswer : ℕ → ℕ → Released
+roomAnswer room count = cond (ltb room (pairLength * count)) (Refused 23 0 0) (Pairs count)
+
+-- "22 with the first such pair's place from 1 as line", else what comes next
+unfoldable pub afterPairs : Released → Wrong → Released
+afterPairs next (At place column) = Refused 22 place column
+afterPairs next Nothing = next
+
+-- "then over the whole licence 21, 0, 0 when the count of numbers is 0, odd or above 512; 22 ..; last 23"
+unfoldable pub licenceAnswer : List ℕ → ℕ → Released
+licenceAnswer licence room =
+    cond (badCount (length licence)) (Refused 21 0 0)
+    (afterPairs (roomAnswer room (length (pairsOf licence))) (firstWrong [] 1 (pairsOf licence)))
+
+-- "Refusals: the sheet's own 1 to 7; then"
+unfoldable pub afterSheet : Released → Judgement → Released
+afterSheet next (judged.Lines count) = next
+afterSheet next (judged.Refused number line column) = Refused number line column
+
+-- of a sheet and a licence, for a table of this length
+unfoldable pub releaseAnswer : List ℕ → List ℕ → ℕ → Released
+releaseAnswer s licence room = afterSheet (licenceAnswer licence room) (judgement columns s)
+
+-- "For each pair in the licence's order eight numbers"; "numbers past the last keep what they held"
+pub record Filled (pairs : List (List ℤ)) (before after : List ℤ) : Type 0 where
+  pub size : length after ≡ length before
+  pub pair : (i : ℕ) → i < length pairs → partAt pairLength after i ≡ getD pairs i []
+  pub rest : drop (pairLength * length pairs) after ≡ drop (pairLength * length pairs) before
+
+-- the numbers of the cases of a sheet; "any refusal leaves the table"
+unfoldable pub TableAfter : List Case → List ℕ → List ℤ → List ℤ → Released → Type 0
+TableAfter cs licence before after (Pairs count) = Filled (releaseOf (pairsOf licence) cs) before after
+TableAfter cs licence before after (Refused number line column) = after ≡ before
+
+-- the same of the cases of a sheet that was read
+pub record LinesReleased (cs : List Case) (licence : List ℕ) (before after : List ℤ) (r : Released) : Type 0 where
+  pub answer-is : r ≡ licenceAnswer licence (length before)
+  pub table-is : TableAfter cs licence before after r
+
+-- the answer and what it leaves in the table. Two wrong programs: one that does not ask the sheet's first line breaks `table-is`; one that refuses a wrong
+-- pair with 21 breaks `answer-is`.
+pub record ReleaseAnswered (s licence : List ℕ) (before after : List ℤ) (r : Released) : Type 0 where
+  pub answer-is : r ≡ releaseAnswer s licence (length before)
+  pub table-is : TableAfter (cases s) licence before after r

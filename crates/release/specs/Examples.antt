@@ -1,0 +1,70 @@
+-- The licence's answer, the lines of a station and the seasons without a line computed.
+-- Assumes nothing.
+use Prim.Native.Nat.{ℕ}
+use mathlib.Core.Path.{_≡_, refl}
+use mathlib.Core.List.{List, [], _∷_, map}
+use Rattle.case.specs.declared.Case.{Case}
+use Rattle.case.specs.Case.{caseOf}
+use Rattle.release.specs.declared.Released.{Released}
+use Rattle.release.specs.declared.Released.the-variants.{Pairs, Refused}
+use Rattle.release.specs.Licence.{pairsOf, licensed, badCount, among, wrongStation, wrongSeasons, firstWrong}
+use Rattle.release.specs.Lines.{linesOf, one, countOf, hasLine, without, missing, sameYard, otherYard, firstLine}
+use Rattle.release.specs.Pair.{released}
+use Rattle.release.specs.Answer.{roomAnswer, afterPairs, licenceAnswer}
+
+-- a licence, the length of the table, and the answer
+record Example : Type 0 where
+  licence : List ℕ
+  room : ℕ
+  answered : Released
+
+abbrev row : List ℕ → ℕ → Released → Example
+row licence room answered = record { licence = licence; room = room; answered = answered }
+
+examples : List Example
+examples =
+    row (7 ∷ 3 ∷ []) 8 (Pairs 1)
+    ∷ row (7 ∷ 15 ∷ 65535 ∷ 1 ∷ []) 20 (Pairs 2)
+    -- 21: none, odd
+    ∷ row [] 8 (Refused 21 0 0)
+    ∷ row (7 ∷ 3 ∷ 9 ∷ []) 8 (Refused 21 0 0)
+    -- 22: the station, the seasons, the station of an earlier pair; the station of a pair before its seasons, the first such pair
+    ∷ row (0 ∷ 3 ∷ []) 8 (Refused 22 1 1)
+    ∷ row (65536 ∷ 0 ∷ []) 8 (Refused 22 1 1)
+    ∷ row (7 ∷ 16 ∷ []) 8 (Refused 22 1 2)
+    ∷ row (9 ∷ 1 ∷ 7 ∷ 3 ∷ 9 ∷ 2 ∷ []) 24 (Refused 22 3 1)
+    ∷ row (7 ∷ 0 ∷ 0 ∷ 1 ∷ []) 16 (Refused 22 1 2)
+    -- 23 comes last
+    ∷ row (7 ∷ 3 ∷ []) 7 (Refused 23 0 0)
+    ∷ row (0 ∷ 3 ∷ []) 7 (Refused 22 1 1)
+    ∷ []
+
+right : map (λ e. licenceAnswer (e .licence) (e .room)) examples ≡ map (λ e. e .answered) examples
+unfolding examples pairsOf badCount among wrongStation wrongSeasons firstWrong roomAnswer afterPairs licenceAnswer
+right = refl
+
+-- document 01's sample station in seasons 1 and 2, and another station
+abbrev line : ℕ → ℕ → ℕ → Case
+line station season depth =
+    caseOf (station ∷ season ∷ 400 ∷ 2500 ∷ 102 ∷ 500 ∷ 500 ∷ 500 ∷ 70 ∷ 3180 ∷ 600 ∷ 10 ∷ 11 ∷ 11 ∷ 7000 ∷ depth ∷ 100 ∷ 0 ∷ 0 ∷ 0 ∷ 1 ∷ 60 ∷ [])
+
+abbrev lines : List Case
+lines = line 7 1 500 ∷ line 9 3 500 ∷ line 7 2 600 ∷ []
+
+own : linesOf 7 lines ≡ line 7 1 500 ∷ line 7 2 600 ∷ []
+unfolding linesOf
+own = refl
+
+-- seasons 1, 3 and 4 are licensed, and season 1 has a line
+two-missing : missing 13 (linesOf 7 lines) ≡ 2
+unfolding linesOf licensed one hasLine without missing
+two-missing = refl
+
+-- the second line is at another depth
+one-other : countOf (otherYard (firstLine (linesOf 7 lines))) (linesOf 7 lines) ≡ 1
+unfolding linesOf one countOf sameYard otherYard
+one-other = refl
+
+held : released 0 0 0 1 0 ≡ 2
+unfolding released
+held = refl

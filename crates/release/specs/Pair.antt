@@ -1,0 +1,43 @@
+-- The eight numbers of a pair of the licence.
+-- Assumes nothing.
+use Prim.Native.Nat.{ℕ, _+_}
+use mathlib.Core.Bool.{cond}
+use mathlib.Core.List.{List, [], _∷_, map}
+use lib.Dec.{eqb}
+use lib.IntN.{ℤ, pos}
+use Rattle.case.specs.declared.Case.{Case}
+use Rattle.release.specs.Licence.{Pair}
+use Rattle.release.specs.Lines.{linesOf, countOf, missing, answeredUnsafe, answeredUndecided, otherYard, tooSmall, firstLine}
+use Rattle.release.specs.Fault.{stationFault}
+
+-- "eight numbers a pair"
+abbrev pub pairLength : ℕ
+pairLength = 8
+
+-- "1 released or 2 held": "Released exactly when the five counts are 0", which they are where their sum is
+unfoldable pub released : ℕ → ℕ → ℕ → ℕ → ℕ → ℕ
+released noLine unsafe undecided other small = cond (eqb (noLine + unsafe + undecided + other + small) 0) 1 2
+
+-- of a station with its seasons and its lines: "station; 1 released or 2 held; how many seasons of the licence have no line; of all lines of the station,
+-- licensed or not, how many are answered unsafe; how many undecided; how many describe another yard than its first line; how many have a conductor too
+-- small for the row's size; and the greatest fault current"
+unfoldable pub numbersOf : ℕ → ℕ → List Case → List ℤ
+numbersOf station seasons lines =
+    pos station
+    ∷ pos (released (missing seasons lines) (countOf answeredUnsafe lines) (countOf answeredUndecided lines)
+    (countOf (otherYard (firstLine lines)) lines) (countOf tooSmall lines))
+    ∷ pos (missing seasons lines)
+    ∷ pos (countOf answeredUnsafe lines)
+    ∷ pos (countOf answeredUndecided lines)
+    ∷ pos (countOf (otherYard (firstLine lines)) lines)
+    ∷ pos (countOf tooSmall lines)
+    ∷ pos (stationFault lines)
+    ∷ []
+
+-- of a pair with this station and these seasons, and the cases of a sheet
+unfoldable pub stationNumbers : ℕ → ℕ → List Case → List ℤ
+stationNumbers station seasons cs = numbersOf station seasons (linesOf station cs)
+
+-- "For each pair in the licence's order eight numbers", of the cases of a sheet
+unfoldable pub releaseOf : List Pair → List Case → List (List ℤ)
+releaseOf ps cs = map (λ p. stationNumbers (p .station) (p .seasons) cs) ps

@@ -1,0 +1,95 @@
+// Release: which stations of a licence may be released on a sheet, and why the others are held.
+mod add;
+mod licence;
+mod put;
+mod station;
+
+ghost use Prim.Native.Nat.{_*_, _≤_};
+ghost use mathlib.Core.Path.{_≡_};
+ghost use lib.ListN.{length};
+ghost use Rattle.case.specs.Columns.{nameCount};
+ghost use Rattle.judgement.specs.Limits.{mostLines};
+ghost use Rattle.sheet.specs.Rows.{StoredBounds, storedCases};
+ghost use Rattle.release.specs.Answer.{LinesReleased, ReleaseAnswered};
+use case::Form;
+use judgement::Judgement;
+use judgement::VALUES;
+use judgement::read;
+use licence::Wrong;
+use licence::bad_count;
+use licence::first_wrong;
+use put::put_pairs;
+
+// How many numbers a pair of the licence has in the table.
+pub const PAIR_LENGTH: usize = 8;
+
+// What is counted of the lines of a station.
+struct Tally {
+    pub lines: u32,
+    // whether seasons 1 to 4 have a line
+    pub first: bool,
+    pub second: bool,
+    pub third: bool,
+    pub fourth: bool,
+    pub not_safe: u32,
+    pub undecided: u32,
+    // lines of another yard than the first
+    pub other: u32,
+    // lines whose conductor is too small
+    pub small: u32,
+    // the greatest fault current at which every line is safe, in amperes, or 0
+    pub fault: u32,
+}
+
+// The count of pairs, or a refusal with number, line and column.
+pub enum Released {
+    Pairs(usize),
+    Refused(u32, usize, usize),
+}
+
+// The answer to a licence after the sheet was read, whose n lines of values are sound.
+fn release_lines<'a>(values: &'a [u32], n: usize, licence: &'a [u32], table: &mut [i64]) -> Released
+    requires { ⌜ n ≤ mostLines ⌝ }
+    requires { ⌜ StoredBounds (now values) n ⌝ }
+    requires { ⌜ nameCount * n ≤ length (now values) ⌝ }
+    ensures { λ r. ⌜ LinesReleased (storedCases (now (values .entry)) n) (now (licence .entry)) (now (table .entry)) (now (table .exit)) r ⌝ }
+{
+    if bad_count(licence.len()) {
+        return Released::Refused(21, 0, 0);
+    }
+    match first_wrong(licence) {
+        Wrong::At(place, column) => Released::Refused(22, place, column),
+        Wrong::Nothing => {
+            let pairs = licence.len() / 2;
+            if table.len() < PAIR_LENGTH * pairs {
+                return Released::Refused(23, 0, 0);
+            }
+            put_pairs(values, n, licence, table);
+            Released::Pairs(pairs)
+        }
+    }
+}
+
+// The same from the sheet, by way of a store for the values of the most lines.
+fn release_by<'a>(
+    s: &'a [u8],
+    licence: &'a [u32],
+    values: &mut [u32],
+    table: &mut [i64],
+) -> Released
+    requires { ⌜ length (now values) ≡ nameCount * mostLines ⌝ }
+    ensures { λ r. ⌜ ReleaseAnswered (now (s .entry)) (now (licence .entry)) (now (table .entry)) (now (table .exit)) r ⌝ }
+{
+    match read(Form::Present, s, values) {
+        Judgement::Refused(number, line, column) => Released::Refused(number, line, column),
+        Judgement::Lines(n) => release_lines(values, n, licence, table),
+    }
+}
+
+// The answer to a sheet and a licence, a station and its seasons in turn, and eight numbers a pair in the table.
+pub fn release<'a>(s: &'a [u8], licence: &'a [u32], table: &mut [i64]) -> Released
+    ensures { λ r. ⌜ ReleaseAnswered (now (s .entry)) (now (licence .entry)) (now (table .entry)) (now (table .exit)) r ⌝ }
+{
+    let mut values = [0u32; VALUES];
+    release_by(s, licence, &mut values, table)
+}

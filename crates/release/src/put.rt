@@ -1,0 +1,121 @@
+// The eight numbers of each pair into the table.
+ghost use mathlib.Core.Path.{_≡_};
+ghost use mathlib.Core.Bool.{not, cond, _&&_};
+ghost use Prim.Native.Nat.{_≤_, _<_, _+_, _*_, _/_, _%_};
+ghost use lib.Dec.{eqb};
+ghost use lib.ListN.{length};
+ghost use Rattle.tables.specs.Parts.{Written};
+ghost use Rattle.case.specs.Columns.{nameCount};
+ghost use Rattle.judgement.specs.Limits.{mostLines};
+ghost use Rattle.sheet.specs.Rows.{StoredBounds, storedCases};
+ghost use Rattle.release.specs.Licence.{pairsOf};
+ghost use Rattle.release.specs.Lines.{linesOf, one};
+ghost use Rattle.release.specs.Pair.{pairLength, released, releaseOf, stationNumbers};
+ghost use Rattle.release.specs.Tally.{Small, missingBy, eight};
+ghost use Rattle.release.specs.Answer.{Filled};
+use crate::PAIR_LENGTH;
+use crate::Tally;
+use crate::station::count_lines;
+use crate::station::first_line;
+
+// 1 where the season that counts `unit` is licensed and has no line.
+fn lacking(unit: u32, seasons: u32, has: bool) -> u32
+    requires { ⌜ 1 ≤ unit ⌝ }
+    ensures { λ r. ⌜ r ≡ one (eqb (seasons / unit % 2) 1 && not has) ⌝ }
+{
+    if seasons / unit % 2 != 1 {
+        return 0;
+    }
+    if has {
+        return 0;
+    }
+    1
+}
+
+// How many licensed seasons have no line.
+fn missing_seasons(seasons: u32, t: Tally) -> u32
+    ensures { λ r. ⌜ r ≡ missingBy seasons t ⌝ }
+{
+    let first_two = lacking(1, seasons, t.first) + lacking(2, seasons, t.second);
+    first_two + lacking(4, seasons, t.third) + lacking(8, seasons, t.fourth)
+}
+
+// 1 released, 2 held; `without` is the count of licensed seasons that have no line.
+fn released_or_held(without: u32, t: Tally) -> u32
+    requires { ⌜ without ≤ 4 ⌝ }
+    requires { ⌜ Small t ⌝ }
+    ensures { λ r. ⌜ r ≡ released without (t .«not_safe») (t .undecided) (t .other) (t .small) ⌝ }
+{
+    if without + t.not_safe + t.undecided + t.other + t.small == 0 {
+        return 1;
+    }
+    2
+}
+
+// The fault current, which without a line is 0.
+fn reported_fault(t: Tally) -> u32
+    ensures { λ r. ⌜ r ≡ cond (eqb (t .lines) 0) 0 (t .fault) ⌝ }
+{
+    if t.lines == 0 {
+        return 0;
+    }
+    t.fault
+}
+
+fn put_numbers(station: u32, without: u32, t: Tally, part: &mut [i64])
+    requires { ⌜ without ≤ 4 ⌝ }
+    requires { ⌜ Small t ⌝ }
+    requires { ⌜ length (now part) ≡ pairLength ⌝ }
+    ensures { λ _. ⌜ now (part .exit) ≡ eight station without t ⌝ }
+{
+    let first = station as i64;
+    let told = released_or_held(without, t) as i64;
+    let none = without as i64;
+    let not_safe = t.not_safe as i64;
+    let undecided = t.undecided as i64;
+    let other = t.other as i64;
+    let small = t.small as i64;
+    let fault = reported_fault(t) as i64;
+    part[0] = first;
+    part[1] = told;
+    part[2] = none;
+    part[3] = not_safe;
+    part[4] = undecided;
+    part[5] = other;
+    part[6] = small;
+    part[7] = fault;
+}
+
+// The pair with index i.
+fn put_pair(values: &[u32], n: usize, station: u32, seasons: u32, table: &mut [i64], i: usize)
+    requires { ⌜ n ≤ mostLines ⌝ }
+    requires { ⌜ StoredBounds (now values) n ⌝ }
+    requires { ⌜ nameCount * n ≤ length (now values) ⌝ }
+    requires { ⌜ pairLength * i + pairLength ≤ length (now table) ⌝ }
+    ensures { λ _. ⌜ Written pairLength i (stationNumbers station seasons (storedCases (now (values .entry)) n)) (now (table .entry)) (now (table .exit)) ⌝ }
+{
+    let yard = first_line(values, n, station);
+    let t = count_lines(values, n, station, yard);
+    let without = missing_seasons(seasons, t);
+    let a = PAIR_LENGTH * i;
+    let b = a + PAIR_LENGTH;
+    put_numbers(station, without, t, &mut table[a..b]);
+}
+
+// Every pair of the licence, one after the other.
+pub fn put_pairs<'a>(values: &'a [u32], n: usize, licence: &'a [u32], table: &mut [i64])
+    requires { ⌜ n ≤ mostLines ⌝ }
+    requires { ⌜ StoredBounds (now values) n ⌝ }
+    requires { ⌜ nameCount * n ≤ length (now values) ⌝ }
+    requires { ⌜ pairLength * (length (now licence) / 2) ≤ length (now table) ⌝ }
+    ensures { λ _. ⌜ Filled (releaseOf (pairsOf (now (licence .entry))) (storedCases (now (values .entry)) n)) (now (table .entry)) (now (table .exit)) ⌝ }
+{
+    let pairs = licence.len() / 2;
+    let mut i: usize = 0;
+    while i < pairs {
+        let station = licence[2 * i];
+        let seasons = licence[2 * i + 1];
+        put_pair(values, n, station, seasons, table, i);
+        i += 1;
+    }
+}
