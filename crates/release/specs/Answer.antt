@@ -61,8 +61,8 @@ pub record LinesReleased (cs : List Case) (licence : List ℕ) (before after : L
   pub answer-is : r ≡ licenceAnswer licence (length before)
   pub table-is : TableAfter cs licence before after r
 
--- the answer and what it leaves in the table. Two wrong programs: one that does not ask the sheet's first line breaks `table-is`; one that refuses a wrong
--- pair with 21 breaks `answer-is`.
+-- the answer and what it leaves in the table. Two wrong programs: one whose refusal writes breaks `table-is`; one that refuses a wrong pair with 21 breaks
+-- `answer-is`.
 pub record ReleaseAnswered (s licence : List ℕ) (before after : List ℤ) (r : Released) : Type 0 where
   pub answer-is : r ≡ releaseAnswer s licence (length before)
   pub table-is : TableAfter (cases s) licence before after r
