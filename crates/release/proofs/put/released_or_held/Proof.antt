@@ -1,5 +1,7 @@
 -- `released_or_held` tests the sum of the five counts.
 -- Assumes nothing.
+use mathlib.Core.Path.{ap, sym}
+use mathlib.Core.Bool.{cond}
 use borrow.Author.Tests.{eq-eqb, ne-eqb}
 use borrow.Author.Needs.{needs}
 use Rattle.release.specs.Pair.{released}
@@ -20,11 +22,11 @@ add-if1-4 c = search needs
 
 returns : tie.Need-returns
 unfolding released
-returns c = rw (eq-eqb _ _ (c .if1 .taken))
+returns c = ap (λ b. cond b 1 2) (sym (eq-eqb _ _ (c .if1 .taken)))
 
 returns-2 : tie.Need-returns-2
 unfolding released
-returns-2 c = rw (ne-eqb _ _ (c .if1 .left))
+returns-2 c = ap (λ b. cond b 1 2) (sym (ne-eqb _ _ (c .if1 .left)))
 
 pub released-or-held-spec : {M : Type 1} → statement M
 released-or-held-spec =
