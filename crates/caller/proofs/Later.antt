@@ -1,9 +1,8 @@
 -- Less fault current cannot upset a released yard.
--- Assumes nothing.
 use Prim.Native.Nat.{ℕ, _≤_}
-use mathlib.Core.Path.{_≡_, refl, sym}
+use mathlib.Core.Path.{refl, sym}
 use mathlib.Core.Bool.{Bool, false}
-use native.Mathlib.Omega.{arith}
+use Rattle.text.proofs.Clash.{clash}
 use Rattle.case.specs.declared.Case.{Case}
 use Rattle.case.proofs.Bounds.{record-bounds}
 use Rattle.hocsimbur.proofs.Answers.{row-told, row-sound}
@@ -16,7 +15,7 @@ module _ {c : Case} {fault : ℕ} where
   pub not-less : (100 ≤ fault → fault ≤ c .fault → ⊥) → StaysReleased c fault false
   not-less n =
       record {
-        safe = λ e. let z : _≡_ {A = ℕ} 0 1 = cc in absurd (omega arith);
+        safe = λ e. clash cc;
         none-held-back = λ low less row e s. absurd (n low less);
       }
 
@@ -28,6 +27,7 @@ module _ {c : Case} {fault : ℕ} where
             let w = h .safe e in
             let t = row-sound c (sym (w .is)) in
             let b = record-bounds (t .0) in
-            row-stays-safe (row-told c refl (t .0) (t .1)) (w .verdict) (record { all-else = refl; less = less }) (b .station) (b .season) low later;
+            row-stays-safe (row-told c refl (t .0) (t .1)) (w .verdict) (record { all-else = refl; less = less }) (b .station) (b .season)
+            low later;
         none-held-back = λ low′ less′ row e s. h .none-held-back row e s;
       }

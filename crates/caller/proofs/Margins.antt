@@ -1,8 +1,7 @@
 -- The margins of the numbers of a case's row are right.
--- Assumes nothing.
 use Prim.Native.Nat.{ℕ}
 use mathlib.Core.Path.{_≡_, refl, sym, _∙_}
-use native.Mathlib.Omega.{arith}
+use Rattle.text.proofs.Clash.{clash}
 use Rattle.case.specs.declared.Case.{Case}
 use Rattle.case.proofs.Bounds.{record-bounds}
 use Rattle.row.specs.declared.Row.{Row}
@@ -21,7 +20,7 @@ module _ {c : Case} {a : RowAnswer} (h : RowAnswered c a) where
   pub refused-none : {number line column : ℕ} → a ≡ Refused number line column → MarginsTold c None
   refused-none {number} {line} {column} q =
       record {
-        right = λ row e. let k : Is row ≡ Refused number line column = sym e ∙ sym (h .answer) ∙ q in let z : _≡_ {A = ℕ} 0 1 = cc in absurd (omega arith);
+        right = λ row e. let k : Is row ≡ Refused number line column = sym e ∙ sym (h .answer) ∙ q in clash cc;
         refused = λ n l k e. refl;
       }
 
@@ -30,5 +29,5 @@ module _ {c : Case} {a : RowAnswer} (h : RowAnswered c a) where
       let t = row-sound c (sym q ∙ h .answer) in
       record {
         right = λ other k. rw (e, t .1) (right-margins (record-bounds (t .0)));
-        refused = λ n l k f. let m : Is row ≡ Refused n l k = sym q ∙ h .answer ∙ f in let z : _≡_ {A = ℕ} 0 1 = cc in absurd (omega arith);
+        refused = λ n l k f. let m : Is row ≡ Refused n l k = sym q ∙ h .answer ∙ f in clash cc;
       }

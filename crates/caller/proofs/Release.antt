@@ -1,9 +1,8 @@
 -- A right row that is safe is so of the exact values; what is no safe row is not released.
--- Assumes nothing.
 use Prim.Native.Nat.{ℕ}
 use mathlib.Core.Path.{_≡_, refl, sym, _∙_}
 use mathlib.Core.Bool.{true, false}
-use native.Mathlib.Omega.{arith}
+use Rattle.text.proofs.Clash.{clash}
 use Rattle.case.specs.declared.Case.{Case}
 use Rattle.row.specs.declared.Row.{Row}
 use Rattle.row.specs.declared.Verdict.{Verdict}
@@ -18,16 +17,16 @@ use Rattle.caller.specs.Release.{Released}
 held : (c : Case) → ((row : Row) → rowAnswer c ≡ Is row → row .verdict ≡ Safe → ⊥) → Released c false
 held c none =
     record {
-      safe = λ e. let z : _≡_ {A = ℕ} 0 1 = cc in absurd (omega arith);
-      touch = λ e. let z : _≡_ {A = ℕ} 0 1 = cc in absurd (omega arith);
-      step = λ e. let z : _≡_ {A = ℕ} 0 1 = cc in absurd (omega arith);
+      safe = λ e. clash cc;
+      touch = λ e. clash cc;
+      step = λ e. clash cc;
       none-held-back = λ row e s. absurd (none row e s);
     }
 
 module _ {c : Case} {r : RowAnswer} (a : RowAnswered c r) where
   pub refused-held : {number line column : ℕ} → r ≡ Refused number line column → Released c false
   refused-held {number} {line} {column} q =
-      held c (λ row e s. let k : Is row ≡ Refused number line column = sym e ∙ sym (a .answer) ∙ q in let z : _≡_ {A = ℕ} 0 1 = cc in omega arith)
+      held c (λ row e s. let k : Is row ≡ Refused number line column = sym e ∙ sym (a .answer) ∙ q in clash cc)
 
   module _ {row : Row} (q : r ≡ Is row) where
     pub verdict-held : (v : Verdict) → row .verdict ≡ v → (v ≡ Safe → ⊥) → Released c false
@@ -47,7 +46,7 @@ module _ {c : Case} {r : RowAnswer} (a : RowAnswered c r) where
         }
 
 pub not-unsafe : Unsafe ≡ Safe → ⊥
-not-unsafe e = let z : _≡_ {A = ℕ} 0 1 = cc in omega arith
+not-unsafe e = clash cc
 
 pub not-undecided : Undecided ≡ Safe → ⊥
-not-undecided e = let z : _≡_ {A = ℕ} 0 1 = cc in omega arith
+not-undecided e = clash cc

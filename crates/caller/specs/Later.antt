@@ -1,6 +1,5 @@
--- A released yard with the fault current of a later study. Request (n) of document 02: "Planners ask whether a later fault study can upset a released
--- design."
--- Assumes nothing.
+-- A released yard with the fault current of a later study. Request (n) of document 02: "Planners ask whether a later fault study can upset
+-- a released design."
 use Prim.Native.Nat.{ℕ, _≤_}
 use mathlib.Core.Path.{_≡_}
 use mathlib.Core.Bool.{Bool, true}

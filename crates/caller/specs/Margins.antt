@@ -1,5 +1,4 @@
 -- The margins of a case asked alone.
--- Assumes nothing.
 use Prim.Native.Nat.{ℕ}
 use mathlib.Core.Path.{_≡_}
 use Rattle.case.specs.declared.Case.{Case}

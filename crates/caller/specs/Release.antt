@@ -1,5 +1,4 @@
 -- A yard that may be released is answered safe and safe of its exact voltages, and no yard answered safe is held back.
--- Assumes nothing.
 use mathlib.Core.Path.{_≡_}
 use mathlib.Core.Bool.{Bool, true}
 use Rattle.exact.specs.Exact.{AtOrBelow}

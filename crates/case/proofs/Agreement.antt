@@ -1,14 +1,13 @@
 -- A case without disagreement: layer and thick are both 0 or both not 0, and so are rods, rodlen and place.
--- Assumes nothing.
 use Prim.Native.Nat.{ℕ, zero, suc, _≤_}
 use mathlib.Core.Path.{_≡_, refl, sym, _∙_}
 use mathlib.Core.Bool.{Bool, true, false, cond, _&&_, false≢true}
 use mathlib.Core.Logic.{_⊎_, inl, inr}
 use mathlib.Core.List.{List}
 use native.Mathlib.Omega.{arith}
-use lib.Dec.{eqb, eqb·suc-zero}
+use lib.Dec.{eqb·suc-zero}
+use Rattle.text.proofs.Clash.{clash}
 use Rattle.case.specs.declared.Case.{Case}
-use Rattle.case.specs.declared.Finding.{Finding}
 use Rattle.case.specs.declared.Finding.the-variants.{Sound, Disagreement}
 use Rattle.text.specs.Text.{same}
 use Rattle.case.specs.Columns.{columns, nameIndex, named}
@@ -41,7 +40,8 @@ disagreement-is at c = refl
 
 pub agreements : (at : List ℕ) (c : Case) → disagreement columns at (values c) ≡ Sound → Agreed c
 agreements at c h =
-    go (agree (c .layer) (c .thick)) refl (agree (c .rods) (c .rodlen)) refl (agree (c .rods) (c .place)) refl (sym (disagreement-is at c) ∙ h)
+    go (agree (c .layer) (c .thick)) refl (agree (c .rods) (c .rodlen)) refl (agree (c .rods) (c .place)) refl
+    (sym (disagreement-is at c) ∙ h)
   where
     go : (p : Bool) → agree (c .layer) (c .thick) ≡ p → (q : Bool) → agree (c .rods) (c .rodlen) ≡ q
         → (r : Bool) → agree (c .rods) (c .place) ≡ r
@@ -49,6 +49,6 @@ agreements at c h =
         → Agreed c
     go true e true f true g k =
         record { layer = agreed (c .layer) (c .thick) e; rodlen = agreed (c .rods) (c .rodlen) f; place = agreed (c .rods) (c .place) g }
-    go true e true f false g k = let z : _≡_ {A = ℕ} 0 1 = cc in absurd (omega arith)
-    go true e false f r g k = let z : _≡_ {A = ℕ} 0 1 = cc in absurd (omega arith)
-    go false e q f r g k = let z : _≡_ {A = ℕ} 0 1 = cc in absurd (omega arith)
+    go true e true f false g k = clash cc
+    go true e false f r g k = clash cc
+    go false e q f r g k = clash cc

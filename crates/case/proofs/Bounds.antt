@@ -1,5 +1,4 @@
 -- A case in which the checks find no fault is within its bounds.
--- Assumes nothing.
 use Prim.Native.Nat.{ℕ, zero, suc, _+_, _≤_, _<_}
 use Prim.Native.String.{String}
 use mathlib.Core.Path.{_≡_, refl, ap}
@@ -9,13 +8,15 @@ use mathlib.Core.List.{List}
 use native.Mathlib.Omega.{arith}
 use lib.ListN.{length, getD}
 use lib.Dec.{T, leb, eqb, leb→le, eqb→eq}
+use Rattle.text.proofs.Clash.{clash}
 use Rattle.case.specs.declared.Case.{Case}
 use Rattle.case.specs.declared.Finding.{Finding}
 use Rattle.case.specs.declared.Finding.the-variants.{Sound, OutOfRange, Disagreement}
 use Rattle.text.specs.Text.{bytes, same}
 use Rattle.case.specs.Columns.{columns, inRange, nameIndex, named}
 use Rattle.case.specs.Case.{values}
-use Rattle.case.specs.Check.{outOfRange, disagreement, finding, caseFinding, countFrom, ownPlaces, recordFinding, judgedBy, recordJudged}
+use Rattle.case.specs.Check.{outOfRange, disagreement, finding, caseFinding, countFrom, ownPlaces, recordFinding, judgedBy}
+use Rattle.case.specs.Check.{recordJudged}
 use Rattle.case.specs.declared.Judged.the-variants as judged
 use Rattle.case.specs.Parts.{rangeAt}
 use Rattle.case.specs.Bounds.{Placed, Between, Bare, Layered, Rodless, Rodded, Bounds}
@@ -36,7 +37,7 @@ tests at c h = go (eqb (outOfRange columns at (values c)) 0) refl h
     go : (b : Bool) → eqb (outOfRange columns at (values c)) 0 ≡ b
         → cond b (disagreement columns at (values c)) (OutOfRange (outOfRange columns at (values c))) ≡ Sound → Tests at c
     go true t k = record { ranges = eqb→eq _ 0 (rw t tt); agrees = k }
-    go false t k = let z : _≡_ {A = ℕ} 0 1 = cc in absurd (omega arith)
+    go false t k = clash cc
 
 -- ---- the bounds
 
@@ -134,5 +135,5 @@ record-bounds {c} h = bounds own-placed (found (recordFinding c) h)
   where
     found : (f : Finding) → judgedBy f ≡ judged.Sound → f ≡ Sound
     found Sound e = refl
-    found (OutOfRange k) e = let z : _≡_ {A = ℕ} 0 1 = cc in absurd (omega arith)
-    found (Disagreement k) e = let z : _≡_ {A = ℕ} 0 1 = cc in absurd (omega arith)
+    found (OutOfRange k) e = clash cc
+    found (Disagreement k) e = clash cc

@@ -1,5 +1,4 @@
 -- A case within its bounds is one in which the checks of a record find no fault: the converse of `record-bounds`.
--- Assumes nothing.
 use Prim.Native.Nat.{ℕ, zero, suc, _≤_}
 use mathlib.Core.Path.{_≡_, refl, _∙_}
 use mathlib.Core.Bool.{true, _&&_, _||_}
@@ -57,7 +56,12 @@ record SurfaceTests (c : Case) : Type 0 where
 
 surface-tests : {c : Case} → Bare c ⊎ Layered c → SurfaceTests c
 surface-tests {c} (inl b) =
-    record { layer = zero-passes 100 10000 _ (b .layer); thick = zero-passes 20 300 _ (b .thick); agrees = agree-zero _ _ (b .layer) (b .thick) }
+    record {
+      layer = zero-passes 100 10000 _ (b .layer);
+      thick = zero-passes 20 300 _ (b .thick);
+      agrees = agree-zero _ _ (b .layer)
+          (b .thick);
+    }
 surface-tests {c} (inr l) =
     record {
       layer = within-passes (l .layer);

@@ -1,5 +1,4 @@
 -- A case with another fault current, split, shock time and body, under another key, is within its bounds where these are in their ranges.
--- Assumes nothing.
 use Prim.Native.Nat.{ℕ}
 use mathlib.Core.Path.{_≡_}
 use mathlib.Core.Logic.{_⊎_, inl, inr}
@@ -20,7 +19,8 @@ module _ (c : Case) (station season fault split shock body : ℕ) where
   rodded (inl z) = inl (record { rods = z .rods; rodlen = z .rodlen; place = z .place })
   rodded (inr l) = inr (record { rods = l .rods; rodlen = l .rodlen; place = l .place })
 
-  pub eased-bounds : Bounds c → Between 1 station 65535 → Between 1 season 4 → Between 100 fault 80000 → Between 1 split 1000 → Between 9 shock 3000
+  pub eased-bounds : Bounds c → Between 1 station 65535 → Between 1 season 4 → Between 100 fault 80000 → Between 1 split 1000
+      → Between 9 shock 3000
       → (body ≡ 50) ⊎ (body ≡ 70) → Bounds other
   eased-bounds b k s f p t w =
       record {

@@ -1,5 +1,4 @@
 -- The finding of a form's values by what its parts find.
--- Assumes nothing.
 use Prim.Native.Nat.{ℕ, _+_, _≤_}
 use mathlib.Core.Path.{_≡_, refl, sym, _∙_}
 use mathlib.Core.Bool.{true, false, cond, _&&_}
@@ -18,9 +17,15 @@ use Rattle.case.specs.Parts.{formOf, rodsPlace, RodsPlace}
 -- the places that must agree are within each form
 pub rods-place : (form : CodeForm) → RodsPlace form (rodsPlace form)
 unfolding formOf rodsPlace
-rods-place Present = record { is = refl; thick = omega (arith, name-count); place = omega (arith, name-count); most = omega (arith, name-count) }
+rods-place Present =
+    record { is = refl; thick = omega (arith, name-count); place = omega (arith, name-count); most = omega (arith, name-count) }
 rods-place Former =
-    record { is = refl; thick = omega (arith, former-name-count); place = omega (arith, former-name-count); most = omega (arith, former-name-count) }
+    record {
+      is = refl;
+      thick = omega (arith, former-name-count);
+      place = omega (arith, former-name-count);
+      most = omega (arith, former-name-count);
+    }
 
 pub form-most : (form : CodeForm) → length (formOf form) ≤ nameCount
 form-most form = rods-place form .most
@@ -29,7 +34,8 @@ module _ (form : CodeForm) (at v : List ℕ) where
   -- the finding by the places of the names
   disagreement-is : disagreement (formOf form) at v
       ≡ cond (agree (getD v 3 0) (getD v 4 0))
-      (cond (agree (getD v (rodsPlace form) 0) (getD v (rodsPlace form + 1) 0) && agree (getD v (rodsPlace form) 0) (getD v (rodsPlace form + 2) 0)) Sound
+      (cond (agree (getD v (rodsPlace form) 0) (getD v (rodsPlace form + 1) 0) && agree (getD v (rodsPlace form) 0)
+      (getD v (rodsPlace form + 2) 0)) Sound
       (Disagreement (getD at (rodsPlace form) 0)))
       (Disagreement (getD at 3 0))
   unfolding disagreement named nameIndex columns formerColumns same formOf rodsPlace
@@ -37,7 +43,8 @@ module _ (form : CodeForm) (at v : List ℕ) where
     where
       go : (f : CodeForm) → disagreement (formOf f) at v
           ≡ cond (agree (getD v 3 0) (getD v 4 0))
-          (cond (agree (getD v (rodsPlace f) 0) (getD v (rodsPlace f + 1) 0) && agree (getD v (rodsPlace f) 0) (getD v (rodsPlace f + 2) 0)) Sound
+          (cond (agree (getD v (rodsPlace f) 0) (getD v (rodsPlace f + 1) 0) && agree (getD v (rodsPlace f) 0) (getD v (rodsPlace f + 2) 0))
+          Sound
           (Disagreement (getD at (rodsPlace f) 0)))
           (Disagreement (getD at 3 0))
       go Present = refl
@@ -54,7 +61,8 @@ module _ (form : CodeForm) (at v : List ℕ) where
         → Disagreement (getD at r 0) ≡ disagreement (formOf form) at v
     place-disagrees q t = sym (disagreement-is ∙ rw (← place, layer, q, t))
 
-    pub all-agree : agree (getD v r 0) (getD v (r + 1) 0) ≡ true → agree (getD v r 0) (getD v (r + 2) 0) ≡ true → Sound ≡ disagreement (formOf form) at v
+    pub all-agree : agree (getD v r 0) (getD v (r + 1) 0) ≡ true → agree (getD v r 0) (getD v (r + 2) 0) ≡ true
+        → Sound ≡ disagreement (formOf form) at v
     all-agree q t = sym (disagreement-is ∙ rw (← place, layer, q, t))
 
 module _ (form : Form) (at v : List ℕ) {column : ℕ} (first : column ≡ outOfRange form at v) where

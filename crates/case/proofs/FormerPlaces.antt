@@ -1,7 +1,6 @@
 -- The places of the former form's names among those of today, whose ranges they have.
--- Assumes nothing.
 use Prim.Native.Nat.{ℕ, _<_}
-use mathlib.Core.Path.{_≡_, refl}
+use mathlib.Core.Path.{refl}
 use mathlib.Core.List.{List, [], _∷_}
 use native.Mathlib.Omega.{arith}
 use lib.ListN.{length, getD}
@@ -15,7 +14,9 @@ formerPlaces = 0 ∷ 1 ∷ 2 ∷ 3 ∷ 4 ∷ 5 ∷ 8 ∷ 9 ∷ 10 ∷ 11 ∷ 12 
 
 pub former-place : (k : ℕ) → k < length formerColumns → SameRange Former k (getD formerPlaces k 0)
 unfolding allBelow columns formerColumns rangeAt formerPlaces formOf
-former-place k h = let p = place-at (rangeAt columns) (λ c. c .range) nameCount formerPlaces formerColumns k refl tt h in record { within = p .0; is = p .1 }
+former-place k h =
+    let p = place-at (rangeAt columns) (λ c. c .range) nameCount formerPlaces formerColumns k refl tt h in
+    record { within = p .0; is = p .1 }
 
 pub present-place : (k : ℕ) → k < length columns → SameRange Present k k
 unfolding formOf

@@ -1,7 +1,6 @@
 -- The search for the leftmost column out of range, from the last name of a form to the first: what holds when the names from k on are done.
--- Assumes nothing.
 use Prim.Native.Nat.{ℕ, zero, suc, _-_, _≤_, _<_}
-use mathlib.Core.Path.{_≡_, refl, sym}
+use mathlib.Core.Path.{_≡_}
 use mathlib.Core.Bool.{Bool, cond}
 use mathlib.Core.List.{List}
 use native.Mathlib.Numerals.{sub-one}
@@ -33,7 +32,14 @@ leftmost-step {form} {at} {v} {c} {k = suc k} r a h e =
       values-all = a .values-all;
       within = omega (arith, a .within);
       is =
-          rw (sub-one, drop-cons form k noColumn (omega (arith, a .within)), drop-cons at k 0 (omega (arith, a .within)), drop-cons v k 0 (omega (arith, a .within)), ← a .is)
+          rw (
+            sub-one,
+            drop-cons form k noColumn (omega (arith, a .within)),
+            drop-cons at k 0 (omega (arith, a .within)),
+            drop-cons v k 0
+                (omega (arith, a .within)),
+            ← a .is,
+          )
           (rw sub-one at e);
     }
 

@@ -1,5 +1,4 @@
 -- Columns with their names in order have each a name of its own.
--- Assumes nothing.
 use Prim.Native.Nat.{ℕ}
 use mathlib.Core.Path.{sym, ap, _∙_}
 use mathlib.Core.List.{List}

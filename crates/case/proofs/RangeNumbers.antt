@@ -1,14 +1,14 @@
 -- The ranges as three numbers each: a value between the first two, or the third, is in the range.
--- Assumes nothing.
 use Prim.Native.Nat.{ℕ, zero, suc, _+_, _≤_, _<_}
 use mathlib.Core.Path.{_≡_, refl, sym, _∙_}
-use mathlib.Core.Bool.{Bool, true, false, cond, _&&_, _||_, or-comm}
+use mathlib.Core.Bool.{Bool, true, false, _&&_, _||_, or-comm}
 use mathlib.Core.List.{List, [], _∷_}
 use native.Mathlib.Decide.{ℕ-discrete, decLt}
 use native.Mathlib.Omega.{arith}
 use lib.ListN.{length, getD}
 use lib.Dec.{leb, eqb}
 use borrow.Author.Tests.{eq-eqb, ne-eqb, le-leb, lt-leb}
+use Rattle.text.proofs.Clash.{clash}
 use Rattle.case.specs.Columns.{Range, from, zeroOr, either, inRange, Form, columns, nameCount, name-count}
 use Rattle.case.specs.Check.{outOfRange}
 use Rattle.case.specs.Parts.{rangeAt, lowOf, highOf, otherOf, passes, InRanges}
@@ -23,7 +23,7 @@ and-left false b e = e
 
 and-right : (a b : Bool) → (a && b) ≡ true → b ≡ true
 and-right true b e = e
-and-right false b e = let z : _≡_ {A = ℕ} 0 1 = cc in absurd (omega arith)
+and-right false b e = clash cc
 
 -- the test is that of the range, where its low end is not above its high end
 passes-is : (r : Range) (x : ℕ) → leb (lowOf r) (highOf r) ≡ true → passes (lowOf r) (highOf r) (otherOf r) x ≡ inRange r x
@@ -65,14 +65,16 @@ entry-is : (form : Form) → orderly form ≡ true → (k : ℕ) → k < length 
 unfolding rangeAt
 entry-is [] o k h x = absurd (omega arith)
 entry-is (c ∷ form) o zero h x = passes-is (c .range) x (and-left (leb (lowOf (c .range)) (highOf (c .range))) (orderly form) o)
-entry-is (c ∷ form) o (suc k) h x = entry-is form (and-right (leb (lowOf (c .range)) (highOf (c .range))) (orderly form) o) k (omega arith) x
+entry-is (c ∷ form) o (suc k) h x =
+    entry-is form (and-right (leb (lowOf (c .range)) (highOf (c .range))) (orderly form) o) k (omega arith) x
 
 orderly-columns : orderly columns ≡ true
 unfolding columns lowOf highOf
 orderly-columns = refl
 
 -- by the tables of today's form
-pub table-entry : (k x : ℕ) → k < nameCount → passes (getD (lows columns) k 0) (getD (highs columns) k 0) (getD (others columns) k 0) x ≡ inRange (rangeAt columns k) x
+pub table-entry : (k x : ℕ) → k < nameCount
+    → passes (getD (lows columns) k 0) (getD (highs columns) k 0) (getD (others columns) k 0) x ≡ inRange (rangeAt columns k) x
 table-entry k x h = entry-is columns orderly-columns k (omega (arith, name-count)) x
 
 -- ---- the pass over the values of today's form: what holds when the first k are done
@@ -100,7 +102,8 @@ pub tested-end : {v : List ℕ} {all : Bool} {k : ℕ} → Tested v all k → na
 tested-end a h e = record { each = λ j l. a .each e j (omega (arith, name-count)) }
 
 -- where every value is in its range, no column is at fault
-none-out : (form : Form) (at v : List ℕ) → ((k : ℕ) → k < length form → inRange (rangeAt form k) (getD v k 0) ≡ true) → outOfRange form at v ≡ 0
+none-out : (form : Form) (at v : List ℕ) → ((k : ℕ) → k < length form → inRange (rangeAt form k) (getD v k 0) ≡ true)
+    → outOfRange form at v ≡ 0
 unfolding outOfRange rangeAt
 none-out [] at v h = refl
 none-out (k ∷ ks) [] v h = refl

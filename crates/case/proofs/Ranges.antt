@@ -1,5 +1,4 @@
 -- Where no column is at fault, every value is in its range.
--- Assumes nothing.
 use Prim.Native.Nat.{ℕ, zero, suc, _≤_, _<_}
 use mathlib.Core.Path.{_≡_, refl}
 use mathlib.Core.Bool.{Bool, true, false, cond}
@@ -7,6 +6,7 @@ use mathlib.Core.List.{List, [], _∷_}
 use native.Mathlib.Omega.{arith}
 use lib.ListN.{length, getD}
 use lib.Dec.{T, leb, eqb}
+use Rattle.text.proofs.Clash.{clash}
 use Rattle.case.specs.Columns.{Form, inRange}
 use Rattle.case.specs.Check.{leftOf, outOfRange}
 use Rattle.case.specs.Parts.{rangeAt}
@@ -32,7 +32,7 @@ left-some c d h = go (eqb d 0) refl (leb c d)
     go false e false k = false-zero (rw k at e)
       where
         false-zero : eqb 0 0 ≡ false → ⊥
-        false-zero h = let z : _≡_ {A = ℕ} 0 1 = cc in omega arith
+        false-zero h = clash cc
 
 pub in-range : (ks : Form) (at v : List ℕ) → length at ≡ length ks → Some at → outOfRange ks at v ≡ 0 → InRange ks v
 unfolding outOfRange

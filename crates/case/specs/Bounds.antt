@@ -1,5 +1,4 @@
 -- What the checks leave of a sound case: consequences of the table of names, proved in proofs/Bounds.antt.
--- Assumes nothing.
 use Prim.Native.Nat.{ℕ, _≤_, _<_}
 use mathlib.Core.Path.{_≡_}
 use mathlib.Core.Logic.{_⊎_}

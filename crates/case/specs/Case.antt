@@ -1,5 +1,4 @@
 -- A case and its values in the order of the table of names.
--- Assumes nothing.
 use Prim.Native.Nat.{ℕ}
 use mathlib.Core.Path.{_≡_, refl}
 use mathlib.Core.List.{List, [], _∷_}
@@ -41,5 +40,4 @@ caseOf v =
     }
 
 pub case-of-values : (c : Case) → caseOf (values c) ≡ c
-unfolding values caseOf
 case-of-values c = refl

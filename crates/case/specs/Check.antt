@@ -1,5 +1,4 @@
 -- The checks of the values of a form, and of one case: refusals 5 and 6. Document 01, 'The sheet' and 'The result table'.
--- Assumes nothing.
 use Prim.Native.Nat.{ℕ, zero, suc}
 use mathlib.Core.Bool.{Bool, cond, not, _&&_}
 use mathlib.Core.List.{List, [], _∷_}

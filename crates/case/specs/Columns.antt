@@ -1,5 +1,4 @@
 -- The table of names. Document 01, 'The sheet'.
--- Assumes nothing.
 use Prim.Native.Nat.{ℕ, zero, suc}
 use Prim.Native.String.{String}
 use mathlib.Core.Bool.{Bool, cond, _&&_, _||_}
@@ -31,7 +30,8 @@ Form = List Column
 abbrev column : String → Range → Column
 column name range = record { name = bytes name; range = range }
 
--- the columns, each with its range: document 01's, and those that requests (a), (c) and (d) of document 02 put in the place of ms and lines or added
+-- the columns, each with its range: document 01's, and those that requests (a), (c) and (d) of document 02 put in the place of ms and lines
+-- or added
 abbrev station : Column
 station = column "station" (from 1 65535)
 
@@ -95,11 +95,12 @@ hz = column "hz" (either 50 60)
 -- document 01's own names, in its order: the former form
 unfoldable pub formerColumns : Form
 formerColumns =
-    station ∷ season ∷ soil ∷ layer ∷ thick ∷ time "ms" ∷ body ∷ fault ∷ split ∷ xr ∷ conductors "lines" ∷ space ∷ depth ∷ dia ∷ rods ∷ rodlen ∷ place
+    station ∷ season ∷ soil ∷ layer ∷ thick ∷ time "ms" ∷ body ∷ fault ∷ split ∷ xr ∷ conductors "lines" ∷ space ∷ depth ∷ dia ∷ rods ∷
+    rodlen ∷ place
     ∷ metal ∷ []
 
--- the names of today; request (a) of document 02: "ms gives place to shock, clear and wire in that order"; request (c): "The column lines becomes
--- across and along in that order"; request (d): "A column hz, 50 or 60, is added last"
+-- the names of today; request (a) of document 02: "ms gives place to shock, clear and wire in that order"; request (c): "The column lines
+-- becomes across and along in that order"; request (d): "A column hz, 50 or 60, is added last"
 unfoldable pub columns : Form
 columns =
     station ∷ season ∷ soil ∷ layer ∷ thick ∷ time "shock" ∷ time "clear" ∷ time "wire" ∷ body ∷ fault ∷ split ∷ xr ∷ conductors "across"

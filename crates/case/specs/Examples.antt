@@ -1,5 +1,4 @@
 -- The checks of a record computed on examples.
--- Assumes nothing.
 use Prim.Native.Nat.{ℕ}
 use mathlib.Core.Path.{_≡_, refl}
 use mathlib.Core.List.{List, [], _∷_, map}
@@ -12,14 +11,15 @@ use Rattle.case.specs.Check.{leftOf, outOfRange, agree, disagreement, fi
 
 -- the finding of the record of some values
 found : List ℕ → Finding
-unfolding same columns inRange nameIndex named values caseOf leftOf outOfRange agree disagreement finding caseFinding countFrom ownPlaces recordFinding
+unfolding same columns inRange nameIndex named leftOf outOfRange agree disagreement finding caseFinding countFrom ownPlaces recordFinding
 found v = recordFinding (caseOf v)
 
 -- document 01's sample, and the ends of every range with a layer and rods
 sound : map found (
     (7 ∷ 1 ∷ 400 ∷ 2500 ∷ 102 ∷ 500 ∷ 500 ∷ 500 ∷ 70 ∷ 3180 ∷ 600 ∷ 10 ∷ 11 ∷ 11 ∷ 7000 ∷ 500 ∷ 100 ∷ 0 ∷ 0 ∷ 0 ∷ 1 ∷ 60 ∷ [])
     ∷ (1 ∷ 1 ∷ 10 ∷ 100 ∷ 20 ∷ 9 ∷ 9 ∷ 9 ∷ 50 ∷ 100 ∷ 1 ∷ 1 ∷ 2 ∷ 2 ∷ 2500 ∷ 250 ∷ 50 ∷ 1 ∷ 1000 ∷ 1 ∷ 1 ∷ 50 ∷ [])
-    ∷ (65535 ∷ 4 ∷ 5000 ∷ 10000 ∷ 300 ∷ 3000 ∷ 3000 ∷ 3000 ∷ 70 ∷ 80000 ∷ 1000 ∷ 40 ∷ 25 ∷ 25 ∷ 30000 ∷ 2500 ∷ 300 ∷ 200 ∷ 10000 ∷ 2 ∷ 11 ∷ 60 ∷ [])
+    ∷ (65535 ∷ 4 ∷ 5000 ∷ 10000 ∷ 300 ∷ 3000 ∷ 3000 ∷ 3000 ∷ 70 ∷ 80000 ∷ 1000 ∷ 40 ∷ 25 ∷ 25 ∷ 30000 ∷ 2500 ∷ 300 ∷ 200 ∷ 10000 ∷ 2 ∷ 11 ∷
+    60 ∷ [])
     ∷ []) ≡ Sound ∷ Sound ∷ Sound ∷ []
 unfolding found
 sound = refl

@@ -1,5 +1,4 @@
 -- A case under another station and season, all else equal.
--- Assumes nothing.
 use Prim.Native.Nat.{ℕ}
 use Rattle.case.specs.declared.Case.{Case}
 

@@ -1,5 +1,4 @@
 -- The names of the columns of a header, by their indices: the other way round from the columns of the names.
--- Assumes nothing.
 use Prim.Native.Nat.{ℕ, _+_, _-_, _<_}
 use mathlib.Core.Path.{_≡_}
 use mathlib.Core.List.{List}

@@ -1,5 +1,4 @@
 -- Numbers by first appearance: which line each comes from.
--- Assumes nothing.
 use Prim.Native.Nat.{ℕ, suc, _+_, _<_}
 use mathlib.Core.Path.{_≡_, refl, sym, ap, _∙_}
 use mathlib.Core.Bool.{Bool, true, false, cond, _||_, false≢true}
@@ -11,6 +10,7 @@ use lib.IntN.{ℤ, pos}
 use lib.ListN.{length, getD, drop, length-append, List·getD-append}
 use lib.Seq.{getD-append-add, getD-drop, drop-drop}
 use borrow.Author.Tests.{eq-eqb, ne-eqb}
+use Rattle.text.proofs.Clash.{clash}
 use Rattle.stations.specs.Summary.{sameZ, among, byAppearance}
 use Rattle.stations.proofs.Same.{same-refl, same-eq}
 use Rattle.claims.specs.Summary.{ByAppearance}
@@ -18,7 +18,7 @@ use Rattle.claims.specs.Summary.{ByAppearance}
 -- a number among others stands at some place
 among-place : (x : ℤ) (ys : List ℤ) → among x ys ≡ true → (j : ℕ) × (j < length ys) × (getD ys j (pos 0) ≡ x)
 unfolding among
-among-place x [] h = let z : _≡_ {A = ℕ} 0 1 = cc in absurd (omega arith)
+among-place x [] h = clash cc
 among-place x (y ∷ ys) h = go (sameZ x y) refl h (among-place x ys)
   where
     go : (b : Bool) → sameZ x y ≡ b → b || among x ys ≡ true → (among x ys ≡ true → (j : ℕ) × (j < length ys) × (getD ys j (pos 0) ≡ x))
@@ -56,10 +56,11 @@ module _ (zs : List ℤ) where
 
   among-more : (x y : ℤ) (found : List ℤ) → among x found ≡ true → among x (found ++ (y ∷ [])) ≡ true
   unfolding among
-  among-more x y [] h = let z : _≡_ {A = ℕ} 0 1 = cc in absurd (omega arith)
+  among-more x y [] h = clash cc
   among-more x y (z ∷ found) h = go (sameZ x z) h (among-more x y found)
     where
-      go : (b : Bool) → b || among x found ≡ true → (among x found ≡ true → among x (found ++ (y ∷ [])) ≡ true) → b || among x (found ++ (y ∷ [])) ≡ true
+      go : (b : Bool) → b || among x found ≡ true → (among x found ≡ true → among x (found ++ (y ∷ [])) ≡ true)
+          → b || among x (found ++ (y ∷ [])) ≡ true
       go true k later = refl
       go false k later = later k
 
@@ -139,7 +140,8 @@ module _ (zs : List ℤ) where
       let rest : drop (k + 1) zs ≡ xs = sym (drop-drop 1 k zs) ∙ ap (drop 1) e in
       rw (w, here) (go (among (at k) found) refl (λ now g. found-all xs (k + 1) now rest g))
     where
-      go : (b : Bool) → among (at k) found ≡ b → ((now : List ℤ) → Found zs (k + 1) now → Found zs (k + 1 + length xs) (byAppearance now xs))
+      go : (b : Bool) → among (at k) found ≡ b
+          → ((now : List ℤ) → Found zs (k + 1) now → Found zs (k + 1 + length xs) (byAppearance now xs))
           → Found zs (k + 1 + length xs) (byAppearance (cond b found (found ++ (at k ∷ []))) xs)
       go true q next = next found (found-old f q)
       go false q next = next (found ++ (at k ∷ [])) (found-new f q)
@@ -157,7 +159,8 @@ module _ (zs : List ℤ) where
       })
 
   -- the law, of numbers that are those of the list and of its numbers by first appearance
-  pub by-appearance : {n m : ℕ} (station order : ℕ → ℤ) → n ≡ length zs → m ≡ length (byAppearance [] zs) → ((i : ℕ) → i < n → station i ≡ at i)
+  pub by-appearance : {n m : ℕ} (station order : ℕ → ℤ) → n ≡ length zs → m ≡ length (byAppearance [] zs)
+      → ((i : ℕ) → i < n → station i ≡ at i)
       → ((j : ℕ) → j < m → order j ≡ getD (byAppearance [] zs) j (pos 0)) → ByAppearance station n m order
   by-appearance {n} {m} station order p q s o =
       let f = appearance in

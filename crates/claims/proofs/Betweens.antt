@@ -1,19 +1,18 @@
 -- Tests by two ends, and a question that a test settles.
--- Assumes nothing.
 use Prim.Native.Nat.{ℕ}
 use mathlib.Core.Path.{_≡_, refl}
 use mathlib.Core.Bool.{Bool, true, false, _&&_}
-use native.Mathlib.Omega.{arith}
 use lib.Dec.{leb}
 use lib.IntN.{ℤ}
 use lib.Signed.{_≤ℤ_, leZ, leZ-yes}
 use borrow.Author.Tests.{leb-true, le-leb}
+use Rattle.text.proofs.Clash.{clash}
 use Rattle.case.specs.Bounds.{Between}
 use Rattle.case.proofs.Tests.{both, and-both, passed}
 
 pub and-yes : (a b : Bool) → a && b ≡ true → (a ≡ true) × (b ≡ true)
 and-yes true b e = (refl, e)
-and-yes false b e = let z : _≡_ {A = ℕ} 0 1 = cc in absurd (omega arith)
+and-yes false b e = clash cc
 
 module _ (a x b : ℕ) where
   pub between-yes : leb a x && leb x b ≡ true → Between a x b
@@ -22,7 +21,7 @@ module _ (a x b : ℕ) where
   pub between-no : leb a x && leb x b ≡ false → ¬ Between a x b
   between-no e h =
       let p : true ≡ false = rw (le-leb a x (h .low), le-leb x b (h .high)) at e in
-      let z : _≡_ {A = ℕ} 0 1 = cc in omega arith
+      clash cc
 
 -- of signed numbers
 module _ (a x b : ℤ) where

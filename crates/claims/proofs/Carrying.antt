@@ -1,5 +1,4 @@
 -- Request (e): every answer to a sheet that is to be carried over, and back.
--- Assumes nothing.
 use Prim.Native.Nat.{ℕ, zero, suc, _+_, _≤_, _<_}
 use Prim.Native.String.{String}
 use mathlib.Core.Path.{_≡_, refl, sym, ap, _∙_}
@@ -10,6 +9,7 @@ use lib.Dec.{eqb, ltb}
 use lib.ListN.{length, getD, take, drop, length-append, length-drop, length-map}
 use lib.Seq.{take-at, drop-at}
 use borrow.Author.Tests.{eqb-true, eqb-false, ne-eqb, ltb-true, ltb-false}
+use Rattle.text.proofs.Clash.{clash}
 use Rattle.text.specs.Text.{same}
 use Rattle.case.specs.declared.Form.{Form}
 use Rattle.case.specs.declared.Form.the-variants.{Present, Former}
@@ -30,7 +30,8 @@ use Rattle.conversion.specs.Sheet.{casesIn}
 use Rattle.conversion.specs.Answer.{lineChange, changesFrom, changes, carriedText, roomAnswer, refusedOr, answer, bufferAfter, Answered}
 use Rattle.conversion.proofs.RoundTrip as trip
 use Rattle.claims.specs.Words.{Breaks}
-use Rattle.claims.specs.Carried.{AcceptedIn, lineIn, Into, Returns, Held, times, counts, hertz, Goes, NewSheet, Written, CarryOutcome, rule, held, short, carried, BackOutcome}
+use Rattle.claims.specs.Carried.{AcceptedIn, lineIn, Into, Returns, Held, times, counts, hertz, Goes, NewSheet, Written}
+use Rattle.claims.specs.Carried.{CarryOutcome, rule, held, short, carried, BackOutcome}
 use Rattle.claims.specs.Carried as claim
 
 -- ---- the lines on the way back
@@ -41,10 +42,12 @@ data Changed (vs : List (List ℕ)) (k : ℕ) : Judgement → Type 0 where
       → Changed vs k (judged.Refused n line 0)
 
 -- one line, and what the later ones leave
-line-changed : (v : List ℕ) (vs : List (List ℕ)) (k : ℕ) {later : Judgement} → Changed vs (suc k) later → Changed (v ∷ vs) k (lineChange k later v)
+line-changed : (v : List ℕ) (vs : List (List ℕ)) (k : ℕ) {later : Judgement} → Changed vs (suc k) later
+    → Changed (v ∷ vs) k (lineChange k later v)
 unfolding lineChange
 line-changed v vs k {later} c =
-    go (eqb (the "shock") (the "clear")) refl (eqb (the "clear") (the "wire")) refl (eqb (the "across") (the "along")) refl (eqb (the "hz") 60) refl
+    go (eqb (the "shock") (the "clear")) refl (eqb (the "clear") (the "wire")) refl (eqb (the "across") (the "along")) refl
+    (eqb (the "hz") 60) refl
   where
     the : String → ℕ
     the name = named columns v name
@@ -64,7 +67,8 @@ line-changed v vs k {later} c =
         before zero g = r
         before (suc j) g = b j (omega arith)
 
-    go : (a : Bool) → eqb (the "shock") (the "clear") ≡ a → (b : Bool) → eqb (the "clear") (the "wire") ≡ b → (d : Bool) → eqb (the "across") (the "along") ≡ d
+    go : (a : Bool) → eqb (the "shock") (the "clear") ≡ a → (b : Bool) → eqb (the "clear") (the "wire") ≡ b → (d : Bool)
+        → eqb (the "across") (the "along") ≡ d
         → (h : Bool) → eqb (the "hz") 60 ≡ h
         → Changed (v ∷ vs) k (cond (a && b) (cond d (cond h later (judged.Refused 11 k 0)) (judged.Refused 10 k 0)) (judged.Refused 9 k 0))
     go false e b f d g h i = here (times (λ t. eqb-false _ _ e (t .0)))
@@ -88,9 +92,25 @@ map-at f (v ∷ vs) (suc i) h = map-at f vs i (omega arith)
 into : (form : Form) (s text : List ℕ) (i : ℕ) → lineIn form text i ≡ carriedValues form (lineIn (other form) s i) → Into form s text i
 unfolding carriedValues other formOf presentValues formerValues columns formerColumns named nameIndex same
 into Present s text i e =
-    record { shock = rw e; clear = rw e; wire = rw e; across = rw e; along = rw e; hz = rw e; others = rw e (refl then refl then refl then refl then refl then refl then refl then refl then refl then refl then refl then refl then refl then refl then refl then refl then tt) }
+    record {
+      shock = rw e;
+      clear = rw e;
+      wire = rw e;
+      across = rw e;
+      along = rw e;
+      hz = rw e;
+      others = rw e
+          (refl then refl then refl then refl then refl then refl then refl then refl then refl then refl then refl then refl then refl then refl
+          then refl then refl then tt);
+    }
 into Former s text i e =
-    record { ms = rw e; lines = rw e; others = rw e (refl then refl then refl then refl then refl then refl then refl then refl then refl then refl then refl then refl then refl then refl then refl then refl then tt) }
+    record {
+      ms = rw e;
+      lines = rw e;
+      others = rw e
+          (refl then refl then refl then refl then refl then refl then refl then refl then refl then refl then refl then refl then refl then refl
+          then refl then refl then tt);
+    }
 
 -- ---- a sheet that its own form accepts
 
@@ -115,7 +135,8 @@ module _ (form : Form) (s : List ℕ) (n : ℕ) (e : AcceptedIn (other form) s n
 
 -- ---- the buffer
 
-written : {text before after : List ℕ} → length text ≤ length before → after ≡ text ++ drop (length text) before → Written text before after (length text)
+written : {text before after : List ℕ} → length text ≤ length before → after ≡ text ++ drop (length text) before
+    → Written text before after (length text)
 written {text} {before} {after} h e =
     record {
       count-is = refl;
@@ -148,10 +169,11 @@ unfolding refusedOr bufferAfter formOf other
 back-way {s} {n = n} a (none all) b =
     roomed (record { accepted = a; returns = λ e i l. all i (omega (arith, lines-count Former s n a)) }) b
 back-way {s} {n = n} a (first line i e l before h) b =
-    rw e (held {i = i} (record { back = refl; lines = n; accepted = a; within = omega (arith, lines-count Former s n a); before = before }) h b)
+    rw e (held {i = i} (record { back = refl; lines = n; accepted = a; within = omega (arith, lines-count Former s n a); before = before })
+    h b)
 
 not-back : Present ≡ Former → ⊥
-not-back e = let z : _≡_ {A = ℕ} 0 1 = cc in omega arith
+not-back e = clash cc
 
 way : (form : Form) {s before after : List ℕ} {n : ℕ} → AcceptedIn (other form) s n
     → after ≡ bufferAfter form s before (refusedOr (changes form (casesIn (formOf (other form)) s)) (roomAnswer (carriedText form s) (length before)))
@@ -160,7 +182,8 @@ unfolding changes refusedOr formOf other
 way Present a b = roomed (record { accepted = a; returns = λ e. absurd (not-back e) }) b
 way Former {s} a b = back-way a (changed 2 (casesIn columns s)) b
 
-pub carry-outcome : {form : Form} {s before after : List ℕ} {r : Carried} → Answered form s before after r → CarryOutcome form s before after r
+pub carry-outcome : {form : Form} {s before after : List ℕ} {r : Carried} → Answered form s before after r
+    → CarryOutcome form s before after r
 unfolding answer refusedOr bufferAfter
 carry-outcome {form} {s} {before} {after} {r} a =
     rw (a .answer-is) (go (judgement (formOf (other form)) s) refl (rw (a .answer-is) at (a .buffer-is)))
@@ -180,10 +203,11 @@ unfolding other
 other-twice Present = refl
 other-twice Former = refl
 
-passed : {count : ℕ} (j : Judgement) (next : Carried) → Bytes count ≡ refusedOr j next → (n : ℕ) × (j ≡ judged.Lines n) × (Bytes count ≡ next)
+passed : {count : ℕ} (j : Judgement) (next : Carried) → Bytes count ≡ refusedOr j next
+    → (n : ℕ) × (j ≡ judged.Lines n) × (Bytes count ≡ next)
 unfolding refusedOr
 passed (judged.Lines n) next e = (n, refl, e)
-passed (judged.Refused n l c) next e = let z : _≡_ {A = ℕ} 0 1 = cc in absurd (omega arith)
+passed (judged.Refused n l c) next e = clash cc
 
 -- the bytes of the way there
 text-of : {form : Form} {s before after : List ℕ} {k : ℕ} → CarryOutcome form s before after (Bytes k) → take k after ≡ carriedText form s
@@ -227,7 +251,8 @@ module _ {form : Form} {s before after : List ℕ} {k : ℕ} (h : Answered form 
           go true q e = claim.short (ltb-true (length before′) (length (carriedText (other form) text)) q)
           go false q e =
               claim.restored
-              (ap (casesIn (formOf (other form))) (ap (take (length (carriedText (other form) text))) e ∙ take-at (carriedText (other form) text) _ _ refl)
+              (ap (casesIn (formOf (other form))) (ap (take (length (carriedText (other form) text))) e ∙ take-at
+              (carriedText (other form) text) _ _ refl)
               ∙ trip.sheet-restored form s (source .0) (source .1) (changed-none .1))
 
 -- ---- request (a): a sheet of document 01's names is none of today's
@@ -237,5 +262,11 @@ unfolding judgement judgementWithin namesJudgement nameRefused formOf
 ms-refused s n e =
     let a = accepted formerColumns s n e in
     let wrong : wrongName columns 1 (noColumns columns) (names s) ≡ 0 → ⊥
-    = λ z. omega (arith, names-stand columns (names s) z .count, names-stand formerColumns (names s) (a .names-sound) .count, name-count, former-name-count) in
+    = λ z. omega (
+      arith,
+      names-stand columns (names s) z .count,
+      names-stand formerColumns (names s) (a .names-sound) .count,
+      name-count,
+      former-name-count,
+    ) in
     (wrongName columns 1 (noColumns columns) (names s), rw (a .text, ne-eqb (wrongName columns 1 (noColumns columns) (names s)) 0 wrong))

@@ -1,5 +1,4 @@
 -- Request (h) of document 02: what programs sold earlier for the same columns answer.
--- Assumes nothing.
 use Prim.Native.Nat.{ℕ}
 use mathlib.Core.List.{List}
 use Rattle.case.specs.Columns.{columns}

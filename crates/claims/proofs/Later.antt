@@ -1,10 +1,10 @@
 -- Headroom, and what cannot turn a yard red, of the answers of `row` and of the lines of sheets.
--- Assumes nothing.
 use Prim.Native.Nat.{ℕ, _<_}
 use mathlib.Core.Path.{_≡_, refl, sym, _∙_}
 use mathlib.Core.List.{List}
 use native.Mathlib.Omega.{arith}
 use lib.IntN.{ℤ, pos}
+use Rattle.text.proofs.Clash.{clash}
 use Rattle.tables.proofs.Parts.{part-entry}
 use Rattle.case.specs.declared.Case.{Case}
 use Rattle.case.specs.declared.Judged.{Judged}
@@ -40,7 +40,7 @@ checked-sound {c} e = go (recordJudged c) refl (checked c) e
   where
     go : (j : Judged) → recordJudged c ≡ j → Checked c j → j ≡ judged.Sound → RecordSound c
     go judged.Sound q (sound i s t) e = record-sound q i s t
-    go (judged.Refused n l k) q h e = let z : _≡_ {A = ℕ} 0 1 = cc in absurd (omega arith)
+    go (judged.Refused n l k) q h e = clash cc
 
 checked-refused : {c : Case} {n l k : ℕ} → recordJudged c ≡ judged.Refused n l k → RecordRefused c n l k
 checked-refused {c} {n} {l} {k} e = go (rw e at (checked c))
@@ -59,18 +59,22 @@ headroom-outcome {c} {r} h = go r h
 
 -- ---- no worse, and drier
 
-pub no-worse : {c d : Case} {r : Row} {a : RowAnswer} → RowAnswered c (Is r) → r .verdict ≡ Safe → NoWorse c d → EasedInside d → RowAnswered d a
+pub no-worse : {c d : Case} {r : Row} {a : RowAnswer} → RowAnswered c (Is r) → r .verdict ≡ Safe → NoWorse c d → EasedInside d
+    → RowAnswered d a
     → AnsweredWith Safe a
 no-worse h e n d a = no-worse-row-safe n (d .station) (d .season) (d .fault) (d .split) (d .shock) (d .body) h e a
 
-module _ {s t : List ℕ} {before after before′ after′ : List ℤ} {n m : ℕ} (h : Answered s before after (Rows n)) (k : Answered t before′ after′ (Rows m))
+module _ {s t : List ℕ} {before after before′ after′ : List ℤ} {n m : ℕ} (h : Answered s before after (Rows n))
+    (k : Answered t before′ after′ (Rows m))
     (i j : ℕ) (l : i < n) (g : j < m) where
   pub line-no-worse : NoWorse (caseAt s i) (caseAt t j) → verdictAt after i ≡ pos 1 → verdictAt after′ j ≡ pos 1
   line-no-worse w e =
       sym (part-entry 20 j 2 after′ (pos 0) (omega arith))
-      ∙ no-worse-line-safe h k i j (omega (arith, case-count h)) (omega (arith, case-count k)) w (part-entry 20 i 2 after (pos 0) (omega arith) ∙ e)
+      ∙ no-worse-line-safe h k i j (omega (arith, case-count h)) (omega (arith, case-count k)) w
+      (part-entry 20 i 2 after (pos 0) (omega arith) ∙ e)
 
   pub line-drier-soil : LessSoil (caseAt s i) (caseAt t j) → verdictAt after i ≡ pos 1 → ¬ (verdictAt after′ j ≡ pos 2)
   line-drier-soil w e u =
-      drier-line-decides h k i j (omega (arith, case-count h)) (omega (arith, case-count k)) w (part-entry 20 i 2 after (pos 0) (omega arith) ∙ e)
+      drier-line-decides h k i j (omega (arith, case-count h)) (omega (arith, case-count k)) w
+      (part-entry 20 i 2 after (pos 0) (omega arith) ∙ e)
       (part-entry 20 j 2 after′ (pos 0) (omega arith) ∙ u)

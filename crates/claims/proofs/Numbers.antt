@@ -1,5 +1,4 @@
 -- What follows from being one number, for the page.
--- Assumes nothing.
 use Rattle.numbers.proofs.OneNumber.{ends-together, held-overlap, one-fraction, above-across, below-trans}
 use Rattle.claims.specs.Numbers.{OneNumber}
 

@@ -1,5 +1,4 @@
 -- Request (g): every answer to a list of readings.
--- Assumes nothing.
 use Prim.Native.Nat.{ℕ, zero, suc, _+_, _*_, _/_, _%_, _≤_, _<_}
 use mathlib.Core.Path.{_≡_, refl, sym, ap, _∙_}
 use mathlib.Core.Bool.{Bool, true, false, cond, _&&_}
@@ -13,6 +12,7 @@ use lib.ListN.{length, getD, drop}
 use lib.Seq.{getD-drop}
 use lib.Signed.{_≤ℤ_, _<ℤ_, leZ-yes, ltZ-yes}
 use borrow.Author.Tests.{leb-true, leb-false, eqb-true, eqb-false}
+use Rattle.text.proofs.Clash.{clash}
 use Rattle.interval.specs.declared.Interval.{Interval}
 use Rattle.interval.specs.Operations.{natural}
 use Rattle.interval.specs.Whole.{ceilDiv}
@@ -35,7 +35,8 @@ use Rattle.readings.proofs.Pairs.{pair-count, pairAt, pairs-at}
 use Rattle.readings.proofs.Spans as spans
 use Rattle.readings.proofs.Extent.{least-below, greatest-above, least-some, greatest-some}
 use Rattle.numbers.proofs.Readings.{reading-numbers}
-use Rattle.claims.specs.Measured.{WrongCount, DistanceInside, ResistanceInside, FirstPair, SoilReport, SoilOutcome, count, distance, resistance, soil}
+use Rattle.claims.specs.Measured.{WrongCount, DistanceInside, ResistanceInside, FirstPair, SoilReport, SoilOutcome, count, distance}
+use Rattle.claims.specs.Measured.{resistance, soil}
 use Rattle.claims.proofs.Betweens.{and-yes, between-yes, between-no}
 
 -- ---- the count
@@ -48,7 +49,7 @@ count-wrong n h = go (leb 1 n) refl (eqb (n % 2) 0) refl (leb n 128) refl h
     go false e b f d g k = let l = leb-false 1 n e in inl (omega arith)
     go true e false f d g k = let l = eqb-false (n % 2) 0 f in inr (inl (omega arith))
     go true e true f false g k = let l = leb-false n 128 g in inr (inr (omega arith))
-    go true e true f true g k = let z : _≡_ {A = ℕ} 0 1 = cc in absurd (omega arith)
+    go true e true f true g k = clash cc
 
 count-right : (n : ℕ) → soundCount n ≡ true → ¬ WrongCount n
 unfolding soundCount
@@ -87,7 +88,8 @@ insideAt range column ps i = inRange range (numberIn column (getD ps i noReading
 
 data First (range : Range) (column place : ℕ) (ps : List Reading) : Found → Type 0 where
   nothing : ((i : ℕ) → i < length ps → insideAt range column ps i ≡ true) → First range column place ps Nothing
-  at : (p i : ℕ) → p ≡ place + i → i < length ps → insideAt range column ps i ≡ false → ((j : ℕ) → j < i → insideAt range column ps j ≡ true)
+  at : (p i : ℕ) → p ≡ place + i → i < length ps → insideAt range column ps i ≡ false
+      → ((j : ℕ) → j < i → insideAt range column ps j ≡ true)
       → First range column place ps (At p)
 
 first : (range : Range) (column place : ℕ) (ps : List Reading) → First range column place ps (firstOutside range column place ps)
@@ -193,10 +195,12 @@ pub soil-outcome : {s : List ℕ} {r : Sounding} → Answered s r → SoilOutcom
 unfolding answerOf judged refusedAt RightAnswer
 soil-outcome {s} {r} a = rw (a .answer) (counted (soundCount (length s)) refl (rw (a .answer) at (a .right)))
   where
-    judge : 1 ≤ length (pairsOf s) → ¬ WrongCount (length s) → (f g : Found) → First distances 1 1 (pairsOf s) f → First resistances 2 1 (pairsOf s) g
+    judge : 1 ≤ length (pairsOf s) → ¬ WrongCount (length s) → (f g : Found) → First distances 1 1 (pairsOf s) f
+        → First resistances 2 1 (pairsOf s) g
         → RightAnswer (pairsOf s) (refusedAt 13 1 f (refusedAt 14 2 g (Soil (reportOf (pairsOf s)))))
         → SoilOutcome s (refusedAt 13 1 f (refusedAt 14 2 g (Soil (reportOf (pairsOf s)))))
-    judge some n (At _) g (at p i e l f b) k h = let z : p ≡ suc i = omega arith in rw z (distance {i = i} n (first-not s (distances-tested s) i l f b))
+    judge some n (At _) g (at p i e l f b) k h =
+        let z : p ≡ suc i = omega arith in rw z (distance {i = i} n (first-not s (distances-tested s) i l f b))
     judge some n Nothing (At _) (nothing d) (at p i e l f b) h =
         let z : p ≡ suc i = omega arith in
         rw z (resistance {i = i} n (all-so s (distances-tested s) d) (first-not s (resistances-tested s) i l f b))

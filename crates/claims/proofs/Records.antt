@@ -1,5 +1,4 @@
 -- The checks of one case as a record, in the words of document 01.
--- Assumes nothing.
 use Prim.Native.Nat.{ℕ, zero, suc, _+_, _≤_, _<_}
 use mathlib.Core.Path.{_≡_, refl, sym, _∙_}
 use mathlib.Core.Bool.{Bool, true, false, cond, _&&_}
@@ -9,6 +8,7 @@ use native.Mathlib.Omega.{arith}
 use lib.Dec.{eqb, leb, eqb·suc-zero}
 use lib.ListN.{length, getD}
 use borrow.Author.Tests.{le-leb}
+use Rattle.text.proofs.Clash.{clash}
 use Rattle.text.specs.Text.{same}
 use Rattle.case.specs.declared.Case.{Case}
 use Rattle.case.specs.declared.Finding.the-variants as found
@@ -16,7 +16,8 @@ use Rattle.case.specs.declared.Judged.{Judged}
 use Rattle.case.specs.declared.Judged.the-variants as judged
 use Rattle.case.specs.Case.{values}
 use Rattle.case.specs.Columns.{Form, columns, inRange, nameIndex, named, name-count}
-use Rattle.case.specs.Check.{leftOf, outOfRange, agree, disagreement, finding, caseFinding, countFrom, ownPlaces, recordFinding, judgedBy, recordJudged, recordAnswer}
+use Rattle.case.specs.Check.{leftOf, outOfRange, agree, disagreement, finding, caseFinding, countFrom, ownPlaces, recordFinding, judgedBy}
+use Rattle.case.specs.Check.{recordJudged, recordAnswer}
 use Rattle.case.specs.Parts.{rangeAt, InRanges}
 use Rattle.case.proofs.Agreement.{disagreement-is}
 use Rattle.case.proofs.Bounds.{record-bounds}
@@ -103,7 +104,7 @@ agree-yes (suc a) (suc b) h = inr (omega arith, omega arith)
 
 agree-no : (a b : ℕ) → agree a b ≡ false → ¬ Agree a b
 unfolding agree
-agree-no zero zero h t = let z : _≡_ {A = ℕ} 0 1 = cc in omega arith
+agree-no zero zero h t = clash cc
 agree-no zero (suc b) h (inl t) = omega (arith, t .1)
 agree-no zero (suc b) h (inr t) = omega (arith, t .0)
 agree-no (suc a) zero h (inl t) = omega (arith, t .0)
@@ -137,7 +138,8 @@ module _ (c : Case) where
       rw (disagreement-is ownPlaces c)
       (go (agree (c .layer) (c .thick)) refl (agree (c .rods) (c .rodlen)) refl (agree (c .rods) (c .place)) refl)
     where
-      go : (a : Bool) → agree (c .layer) (c .thick) ≡ a → (b : Bool) → agree (c .rods) (c .rodlen) ≡ b → (d : Bool) → agree (c .rods) (c .place) ≡ d
+      go : (a : Bool) → agree (c .layer) (c .thick) ≡ a → (b : Bool) → agree (c .rods) (c .rodlen) ≡ b → (d : Bool)
+          → agree (c .rods) (c .place) ≡ d
           → Checked c (judgedBy (cond a (cond (b && d) found.Sound (found.Disagreement 18)) (found.Disagreement 4)))
       go false e b f d g = refused (claim.surface r (agree-no _ _ e))
       go true e false f d g = refused (claim.rods r (agree-yes _ _ e) (λ t. agree-no _ _ f (agrees-length c t)))
@@ -148,11 +150,13 @@ module _ (c : Case) where
   unfolding recordJudged recordFinding caseFinding finding judgedBy ownPlaces
   checked = go (outOfRange columns ownPlaces (values c)) (first columns (values c) 1 (sym name-count))
     where
-      go : (o : ℕ) → First columns (values c) 1 o → Checked c (judgedBy (cond (eqb o 0) (disagreement columns ownPlaces (values c)) (found.OutOfRange o)))
+      go : (o : ℕ) → First columns (values c) 1 o
+          → Checked c (judgedBy (cond (eqb o 0) (disagreement columns ownPlaces (values c)) (found.OutOfRange o)))
       go o (none e r) = rw e (agreeing r)
       go o (some i e l f b) =
           let p : o ≡ suc i = omega arith in
-          rw (p, eqb·suc-zero i) (refused (claim.out-of-range {i = i} (record { within = omega (arith, name-count); outside = f; before = b })))
+          rw (p, eqb·suc-zero i) (refused (claim.out-of-range {i = i}
+          (record { within = omega (arith, name-count); outside = f; before = b })))
 
 -- ---- the questions
 
@@ -173,7 +177,8 @@ pub row-outcome : {c : Case} {r : RowAnswer} → RowAnswered c r → RowOutcome 
 unfolding rowAnswer
 row-outcome {c} a =
     rw (a .answer)
-    (by-checks (RowOutcome c) row.Refused (row.Is (rowOf c)) c (λ n l k h. claim.refused h) (λ s. claim.row s (table.row-alone (s .bounds))))
+    (by-checks (RowOutcome c) row.Refused (row.Is (rowOf c)) c (λ n l k h. claim.refused h)
+    (λ s. claim.row s (table.row-alone (s .bounds))))
 
 -- a question for two ends, whose named ends report the value of every case within its bounds
 pair-outcome : {x : Exact} {u : Scale} {width : Ends → Fraction} (ends : Case → Interval) {c : Case} {r : Pair}

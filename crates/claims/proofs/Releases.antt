@@ -1,5 +1,4 @@
 -- Release in the words of the page: the checks of the licence, then what the eight numbers of a pair say.
--- Assumes nothing.
 use Prim.Native.Nat.{ℕ, zero, suc, _+_, _*_, _/_, _%_, _≤_, _<_}
 use mathlib.Core.Path.{_≡_, refl}
 use mathlib.Core.Bool.{Bool, true, false, cond, not, _&&_, _||_}
@@ -10,6 +9,7 @@ use lib.Dec.{leb, ltb, eqb}
 use lib.IntN.{ℤ}
 use lib.ListN.{length}
 use borrow.Author.Tests.{ltb-true, ltb-false, eqb-true, eqb-false}
+use Rattle.text.proofs.Clash.{clash}
 use Rattle.case.specs.Columns.{columns}
 use Rattle.case.specs.Bounds.{Bounds}
 use Rattle.case.specs.Fault.{withFault}
@@ -34,23 +34,25 @@ use Rattle.release.specs.Meaning as meaning
 use Rattle.release.specs.Meaning.{stationAt, seasonsAt, LineOf}
 use Rattle.release.proofs.Pairs.{pair-count, Searching, searching-start, searching-found, searching-step, searching-end}
 use Rattle.release.proofs.Tables.{release-count}
-use Rattle.release.proofs.ReleasedStations.{pair-numbers, pair-station, one-or-two, released-means, released-none, none-released, fault-means}
+use Rattle.release.proofs.ReleasedStations.{pair-numbers, pair-station, one-or-two, released-means, released-none, none-released}
+use Rattle.release.proofs.ReleasedStations.{fault-means}
 use Rattle.claims.specs.Words.{BreaksNone, caseAt}
 use Rattle.claims.specs.Later.{FaultInside}
 use Rattle.claims.specs.Releases as claim
-use Rattle.claims.specs.Releases.{InPairs, StationSound, SeasonsSound, PairSound, PairWrong, ReleasedStation, SafeThroughout, FaultReported, PairTold, ReleaseOutcome}
+use Rattle.claims.specs.Releases.{InPairs, StationSound, SeasonsSound, PairSound, PairWrong, ReleasedStation, SafeThroughout}
+use Rattle.claims.specs.Releases.{FaultReported, PairTold, ReleaseOutcome}
 use Rattle.claims.proofs.Betweens.{between-yes, between-no}
 use Rattle.claims.proofs.Sheets.{cases-count, bounds-at}
 
 -- ---- tests
 
 or-no : (a b : Bool) → a || b ≡ false → (a ≡ false) × (b ≡ false)
-or-no true b e = let z : _≡_ {A = ℕ} 0 1 = cc in absurd (omega arith)
+or-no true b e = clash cc
 or-no false b e = (refl, e)
 
 not-no : (a : Bool) → not a ≡ false → a ≡ true
 not-no true e = refl
-not-no false e = let z : _≡_ {A = ℕ} 0 1 = cc in absurd (omega arith)
+not-no false e = clash cc
 
 -- ---- the count of numbers
 
@@ -72,11 +74,12 @@ not-in-pairs : (licence : List ℕ) → badCount (length licence) ≡ true → (
 unfolding badCount
 not-in-pairs licence e m p = go (eqb (length licence) 0) (eqb (length licence % 2) 0) (ltb 512 (length licence)) refl refl refl e
   where
-    go : (a b c : Bool) → eqb (length licence) 0 ≡ a → eqb (length licence % 2) 0 ≡ b → ltb 512 (length licence) ≡ c → a || (not b || c) ≡ true → ⊥
+    go : (a b c : Bool) → eqb (length licence) 0 ≡ a → eqb (length licence % 2) 0 ≡ b → ltb 512 (length licence) ≡ c
+        → a || (not b || c) ≡ true → ⊥
     go true b c f g h e = omega (arith, eqb-true (length licence) 0 f, p .two-each, p .some)
     go false false c f g h e = eqb-false (length licence % 2) 0 g (omega (arith, p .two-each))
     go false true true f g h e = omega (arith, ltb-true 512 (length licence) h, p .two-each, p .most)
-    go false true false f g h e = let z : _≡_ {A = ℕ} 0 1 = cc in omega arith
+    go false true false f g h e = clash cc
 
 -- ---- a pair
 
@@ -94,10 +97,11 @@ module _ (licence : List ℕ) where
 
   some-among : (x k : ℕ) → among x (earlier licence k) ≡ true → ((i : ℕ) → i < k → ¬ (stationAt licence i ≡ x)) → ⊥
   unfolding among earlier
-  some-among x zero e h = let z : _≡_ {A = ℕ} 0 1 = cc in omega arith
+  some-among x zero e h = clash cc
   some-among x (suc k) e h = go (eqb (stationAt licence k) x) refl e (λ d. some-among x k d (λ i l. h i (omega arith)))
     where
-      go : (t : Bool) → eqb (stationAt licence k) x ≡ t → t || among x (earlier licence k) ≡ true → (among x (earlier licence k) ≡ true → ⊥) → ⊥
+      go : (t : Bool) → eqb (stationAt licence k) x ≡ t → t || among x (earlier licence k) ≡ true → (among x (earlier licence k) ≡ true → ⊥)
+          → ⊥
       go true q e below = h k (omega arith) (eqb-true (stationAt licence k) x q)
       go false q e below = below e
 
@@ -131,7 +135,7 @@ module _ (licence : List ℕ) where
     seasons-wrong e s = go (leb 1 (seasonsAt licence k) && leb (seasonsAt licence k) 15) refl e
       where
         go : (t : Bool) → leb 1 (seasonsAt licence k) && leb (seasonsAt licence k) 15 ≡ t → not t ≡ true → ⊥
-        go true q e = let z : _≡_ {A = ℕ} 0 1 = cc in omega arith
+        go true q e = clash cc
         go false q e = between-no 1 (seasonsAt licence k) 15 q s
 
     judged-pair : ((wrongAt licence k ≡ 0) × PairSound licence k) ⊎ ((wrongAt licence k ≡ 0 → ⊥) × PairWrong licence k (wrongAt licence k))
@@ -154,7 +158,8 @@ module _ (licence : List ℕ) where
       → Searched (length licence / 2) (firstWrong [] 1 (pairsOf licence))
   search-on zero k e a b = rw (← searching-end a (omega arith)) (none (λ i l. b i (omega arith)))
   search-on (suc fuel) k e a b =
-      go (judged-pair k) (λ z p. search-on fuel (k + 1) (omega arith) (searching-step a (omega arith) z) (λ i l. below p i l (ltb i k) refl))
+      go (judged-pair k) (λ z p. search-on fuel (k + 1) (omega arith) (searching-step a (omega arith) z)
+      (λ i l. below p i l (ltb i k) refl))
     where
       below : PairSound licence k → (i : ℕ) → i < k + 1 → (t : Bool) → ltb i k ≡ t → PairSound licence i
       below p i l true h = b i (ltb-true i k h)
@@ -218,7 +223,8 @@ module _ {s licence : List ℕ} {before after : List ℤ} where
 
   -- ---- the answer
 
-  kept : {r : Released} {number line column : ℕ} → r ≡ Refused number line column → ReleaseAnswered s licence before after r → after ≡ before
+  kept : {r : Released} {number line column : ℕ} → r ≡ Refused number line column → ReleaseAnswered s licence before after r
+      → after ≡ before
   unfolding TableAfter
   kept e h = rw e at (h .table-is)
 
@@ -231,7 +237,8 @@ module _ {s licence : List ℕ} {before after : List ℤ} where
   unfolding roomAnswer
   roomed {n} {m} {r} b p q h e = go (ltb (length before) (pairLength * m)) refl e
     where
-      go : (t : Bool) → ltb (length before) (pairLength * m) ≡ t → r ≡ cond t (Refused 23 0 0) (Pairs m) → ReleaseOutcome s licence before after r
+      go : (t : Bool) → ltb (length before) (pairLength * m) ≡ t → r ≡ cond t (Refused 23 0 0) (Pairs m)
+          → ReleaseOutcome s licence before after r
       go true l e = rw e (claim.table b p q (ltb-true _ _ l) (kept e h))
       go false l e =
           let a : ReleaseAnswered s licence before after (Pairs m) = (rw e at h) in
@@ -261,6 +268,7 @@ module _ {s licence : List ℕ} {before after : List ℤ} where
   unfolding releaseAnswer afterSheet
   release {r} h = go (judgement columns s) refl (h .answer-is)
     where
-      go : (j : Judgement) → judgement columns s ≡ j → r ≡ afterSheet (licenceAnswer licence (length before)) j → ReleaseOutcome s licence before after r
+      go : (j : Judgement) → judgement columns s ≡ j → r ≡ afterSheet (licenceAnswer licence (length before)) j
+          → ReleaseOutcome s licence before after r
       go (judged.Refused number line column) q e = rw e (claim.rule q (kept e h))
       go (judged.Lines n) q e = numbered q h e

@@ -1,5 +1,4 @@
 -- What a refusal says of a sheet, in document 01's words.
--- Assumes nothing.
 use Prim.Native.Nat.{ℕ, _+_, _≤_, _<_}
 use mathlib.Core.Path.{_≡_, refl}
 use mathlib.Core.Bool.{Bool, true, false}
@@ -8,6 +7,7 @@ use mathlib.Core.List.{List, []}
 use native.Mathlib.Omega.{arith}
 use lib.ListN.{length, getD}
 use borrow.Author.Tests.{ne-eqb}
+use Rattle.text.proofs.Clash.{clash}
 use Rattle.text.specs.Text.{same}
 use Rattle.case.specs.Case.{caseOf}
 use Rattle.case.specs.Columns.{columns, name-count, nameIndex, named}
@@ -45,13 +45,14 @@ module _ (a b : ℕ) where
   others-agree p q = rw (ne-eqb a 0 (λ e. omega (arith, e)), ne-eqb b 0 (λ e. omega (arith, e)))
 
 not-both : {b : Bool} → b ≡ true → b ≡ false → ⊥
-not-both p q = let z : _≡_ {A = ℕ} 0 1 = cc in omega arith
+not-both p q = clash cc
 
 module _ (s : List ℕ) (i : ℕ) (h : i < length (valueLines s)) (right : cause.wrongColumn columns s ≡ 0) where
   stands-in : (k : ℕ) → k < 22 → StandsAt (names s) (nameAt columns k) (getD (columnsIn s) k 0)
   stands-in k l = name-stands (names-stand columns (names s) right) k (omega (arith, name-count))
 
-  out-of-range : (outOfRange columns (columnsIn s) (valuesAt s i) ≡ 0 → ⊥) → OutOfRange s i (outOfRange columns (columnsIn s) (valuesAt s i))
+  out-of-range : (outOfRange columns (columnsIn s) (valuesAt s i) ≡ 0 → ⊥)
+      → OutOfRange s i (outOfRange columns (columnsIn s) (valuesAt s i))
   out-of-range e =
       let r = range-broken columns (columnsIn s) (valuesAt s i) e in
       let l : r .name < 22 = omega (arith, r .known, name-count) in
@@ -81,7 +82,8 @@ module _ (s : List ℕ) (i : ℕ) (h : i < length (valueLines s)) (right : cause
       differ (inr p) = not-both (rw (others-agree _ _ (p .0) (p .1), others-agree _ _ (p .0) (p .2))) e
 
 -- the first line that is not sound
-module _ (s : List ℕ) (right : cause.wrongColumn columns s ≡ 0) {k l c : ℕ} (r : RefusedAt columns (columnsIn s) [] 2 (valueLines s) k l c) where
+module _ (s : List ℕ) (right : cause.wrongColumn columns s ≡ 0) {k l c : ℕ}
+    (r : RefusedAt columns (columnsIn s) [] 2 (valueLines s) k l c) where
   abbrev i : ℕ
   i = r .index
 
@@ -117,7 +119,7 @@ module _ (s : List ℕ) (right : cause.wrongColumn columns s ≡ 0) {k l c : ℕ
 
   by-finding : {f : LineFinding} → Found f → lineJudgement (i + 2) (Lines 0) f ≡ Refused k l c → Broken s k l c
   unfolding lineJudgement
-  by-finding (line.all-sound f q) e = let z : _≡_ {A = ℕ} 0 1 = cc in absurd (omega arith)
+  by-finding (line.all-sound f q) e = clash cc
   by-finding (line.wrong-form q) e = told e (rules.value i (r .within) (wrong-fields (fieldsAt s i) q))
   by-finding (line.out-of-range f q) e = told e (rules.range i (own i (r .within) f) (out-of-range s i (r .within) right q))
   by-finding (line.layer-differs f q) e = told e (rules.agreement i (own i (r .within) f) (layer-disagrees s i (r .within) right q))
@@ -136,4 +138,5 @@ rule-broken {s} e = go (rw e at (cause.cause columns s today))
     go (cause.name h) = rules.name (wrong-name columns (names s) h)
     go (cause.no-line h) = rules.no-line h
     go (cause.many-lines h) = rules.many-lines h
-    go (cause.lines b right some most h) = line-broken s right (refused-at columns (columnsIn s) (length (valueLines s)) [] 2 (valueLines s) h)
+    go (cause.lines b right some most h) =
+        line-broken s right (refused-at columns (columnsIn s) (length (valueLines s)) [] 2 (valueLines s) h)

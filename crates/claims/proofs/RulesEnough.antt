@@ -1,5 +1,4 @@
 -- A sheet of which every rule holds is one that breaks none: each refusal contradicts its rule.
--- Assumes nothing.
 use Prim.Native.Nat.{ℕ, zero, suc, _≤_, _<_}
 use mathlib.Core.Path.{_≡_, refl, sym, ap, _∙_}
 use mathlib.Core.Bool.{Bool, true, false, cond}
@@ -10,6 +9,7 @@ use native.Mathlib.Omega.{arith}
 use lib.Dec.{eqb}
 use lib.ListN.{length, getD}
 use borrow.Author.Tests.{eqb-true}
+use Rattle.text.proofs.Clash.{clash}
 use Rattle.text.specs.Value.{valueOf}
 use Rattle.case.specs.declared.Case.{Case}
 use Rattle.case.specs.declared.Judged.the-variants.{Sound}
@@ -54,7 +54,7 @@ none-outside c e = go (eqb (outOfRange columns ownPlaces (values c)) 0) refl e
         → judgedBy (cond b (disagreement columns ownPlaces (values c)) (found.OutOfRange (outOfRange columns ownPlaces (values c)))) ≡ Sound
         → outOfRange columns ownPlaces (values c) ≡ 0
     go true q h = eqb-true _ 0 q
-    go false q h = let z : _≡_ {A = ℕ} 0 1 = cc in absurd (omega arith)
+    go false q h = clash cc
 
 in-its-range : {c : Case} → Bounds c → (k : ℕ) → inRange (rangeAt columns k) (getD (values c) k 0) ≡ true
 unfolding ownPlaces columns countFrom
@@ -65,7 +65,7 @@ in-its-range {c} b k =
 -- ---- each refusal contradicts its rule
 
 not-both : {b : Bool} → b ≡ true → b ≡ false → ⊥
-not-both p q = let z : _≡_ {A = ℕ} 0 1 = cc in omega arith
+not-both p q = clash cc
 
 right-or-wrong : {fields : List (List ℕ)} {column : ℕ} → RightValues 22 fields → WrongValues 22 fields column → ⊥
 right-or-wrong {column = column} r (wrong-form a b d e) = not-both (r .each column a b) e
@@ -106,7 +106,8 @@ module _ {s : List ℕ} {n : ℕ} (kept : RulesKept s n) where
   value-under i k column h l t =
       let o = kept .names-once k l in
       let m : k < length columns = omega (arith, name-count) in
-      let e : column ≡ getD (columnsIn s) k 0 = o .only column t ∙ sym (o .only _ (name-stands (names-stand columns (names s) names-right) k m)) in
+      let e : column ≡ getD (columnsIn s) k 0 =
+      o .only column t ∙ sym (o .only _ (name-stands (names-stand columns (names s) names-right) k m)) in
       let c = header-accepted columns (names s) names-right .count in
       let v : values (caseAt s i) ≡ valuesAt s i = ap values (case-is s i h) ∙ values-of-case (valuesAt s i) (values-count s i c) in
       rw e (sym (value-at (columnsIn s) (fieldsAt s i) k (omega (arith, c))) ∙ sym (ap (λ (l : List ℕ). getD l k 0) v))

@@ -1,5 +1,4 @@
 -- What holds of a sheet that breaks no rule, in document 01's words; its sample sheet breaks none.
--- Assumes nothing.
 use Prim.Native.Nat.{ℕ, _<_}
 use mathlib.Core.Path.{_≡_, refl, _∙_}
 use mathlib.Core.Bool.{Bool, true, false, _&&_}
@@ -8,6 +7,7 @@ use native.Mathlib.Omega.{arith}
 use lib.ListN.{length, getD}
 use lib.Dec.{eqb}
 use borrow.Author.Tests.{eq-eqb, eqb-true}
+use Rattle.text.proofs.Clash.{clash}
 use Rattle.text.specs.Text.{same}
 use Rattle.case.specs.Columns.{columns, name-count, nameIndex, named}
 use Rattle.case.specs.Bounds.{Bounds}
@@ -35,7 +35,7 @@ both-equal a b c d = go (eqb a b) refl
   where
     go : (p : Bool) → eqb a b ≡ p → (p && eqb c d) ≡ true → (a ≡ b) × (c ≡ d)
     go true q e = (eqb-true a b q, eqb-true c d e)
-    go false q e = let z : _≡_ {A = ℕ} 0 1 = cc in absurd (omega arith)
+    go false q e = clash cc
 
 module _ (s : List ℕ) (i j : ℕ) (h : i < length (valueLines s)) (l : j < length (valueLines s)) where
   pub same-key : sameKey columns (valuesAt s i) (valuesAt s j) ≡ true → SameKey (caseAt s i) (caseAt s j)

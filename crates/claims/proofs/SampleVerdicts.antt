@@ -1,6 +1,6 @@
--- The verdicts of document 01's sample sheet: "7,1,unsafe,16" and "7,2,safe,16". The formulas of its two lines are known at numbers, a reported
--- pair holds the same number and is narrow, and the voltages lie further apart than the widths: so every right row has these verdicts.
--- Assumes nothing.
+-- The verdicts of document 01's sample sheet: "7,1,unsafe,16" and "7,2,safe,16". The formulas of its two lines are known at numbers, a
+-- reported pair holds the same number and is narrow, and the voltages lie further apart than the widths: so every right row has these
+-- verdicts.
 use lib.ListN.{length}
 use Rattle.case.specs.declared.Case.{Case}
 use Rattle.row.specs.Verdict.{verdictNumber}
@@ -85,7 +85,8 @@ module _ {c : Case} (b : Bounds c) (h : Holds amperes (IG c)) {r : Row} (right :
       trans≤ (upper-near n (right .current) h (width-rises 2 6 2 6 (lower-at-most n (right .current) h)) .near) (at-most _ (whole 2000) tt)
 
   module _ (s : T (atMost (whole 0) (ρ c ·f referenceKi c))) where
-    reference-most : (l : Fraction) → ρ c ·f referenceKi c ·f reported μA (r .current) .upper ÷f l ≤f ρ c ·f referenceKi c ·f whole 2000 ÷f l
+    reference-most : (l : Fraction)
+        → ρ c ·f referenceKi c ·f reported μA (r .current) .upper ÷f l ≤f ρ c ·f referenceKi c ·f whole 2000 ÷f l
     reference-most l = div≤ l (mul-left≤ (at-most _ _ s) current-most)
 
     mesh-volt : T (atMost (most (ρ c ·f referenceKi c) (LT c)) (whole 1)) → meshWidth c (reported μA (r .current)) ≤f whole 1
@@ -113,14 +114,16 @@ module _ {r : Row} (right : RightRow sample r) where
       let i = holds-known (quantity-IG sound-sample .consistent) (current 1 400 11 11 0 0 0) in
       reported-apart (numbers .tolerable-touch .narrows) (numbers .mesh .narrows) (right .tolerable-touch) (right .mesh) t
       (holds-known (consistent-mesh sound-sample) mesh-sample)
-      (tolerable-volt (numbers .tolerable-touch .narrows) t (right .tolerable-touch) tt) (mesh-volt sound-sample i right tt tt) (less-than _ _ tt)
+      (tolerable-volt (numbers .tolerable-touch .narrows) t (right .tolerable-touch) tt) (mesh-volt sound-sample i right tt tt)
+      (less-than _ _ tt)
 
   pub dry-unsafe : r .verdict ≡ Unsafe
   unfolding verdictOf
   dry-unsafe =
       right .verdict
       ∙ unsafe-verdict _
-      (number-unsafe _ _ _ _ (right .tolerable-touch .ordered) (right .tolerable-step .ordered) (right .mesh .ordered) (right .step .ordered) .1
+      (number-unsafe _ _ _ _ (right .tolerable-touch .ordered) (right .tolerable-step .ordered) (right .mesh .ordered)
+      (right .step .ordered) .1
       (inl touch-below-mesh))
 
 -- ---- season 2 is safe
@@ -155,14 +158,16 @@ module _ {before after : List ℤ} (h : Answered sheetSample before after (Rows 
   dry-number =
       let row = row-of h 0 (omega arith) in
       verdict-is after 0 (rowOf (caseAt sheetSample 0)) (row .is)
-      ∙ ap (λ v. pos (verdictNumber v)) (dry-unsafe (subst (λ (c : Case). RightRow c (rowOf (caseAt sheetSample 0))) (sample-sheet .dry) (row .right)))
+      ∙ ap (λ v. pos (verdictNumber v)) (dry-unsafe (subst (λ (c : Case). RightRow c (rowOf (caseAt sheetSample 0))) (sample-sheet .dry)
+      (row .right)))
 
   wet-number : verdictAt after 1 ≡ pos 1
   unfolding verdictNumber
   wet-number =
       let row = row-of h 1 (omega arith) in
       verdict-is after 1 (rowOf (caseAt sheetSample 1)) (row .is)
-      ∙ ap (λ v. pos (verdictNumber v)) (wet-safe (subst (λ (c : Case). RightRow c (rowOf (caseAt sheetSample 1))) (sample-sheet .wet) (row .right)))
+      ∙ ap (λ v. pos (verdictNumber v)) (wet-safe (subst (λ (c : Case). RightRow c (rowOf (caseAt sheetSample 1))) (sample-sheet .wet)
+      (row .right)))
 
 pub sample-verdicts : {before after : List ℤ} {r : Answer} → Answered sheetSample before after r → 40 ≤ length before
     → (r ≡ Rows 2) × (verdictAt after 0 ≡ pos 2) × (verdictAt after 1 ≡ pos 1)

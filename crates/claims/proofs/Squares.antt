@@ -1,5 +1,4 @@
 -- Requests (b) and (c): what a square keeps.
--- Assumes nothing.
 use mathlib.Core.Path.{_≡_}
 use Rattle.case.specs.declared.Case.{Case}
 use Rattle.case.specs.Bounds.{Bounds}

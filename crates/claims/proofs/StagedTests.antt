@@ -1,5 +1,4 @@
 -- Request (l): every answer to the numbers of a staged test.
--- Assumes nothing.
 use Prim.Native.Nat.{ℕ, zero, suc, _%_, _<_}
 use mathlib.Core.Path.{_≡_, refl, ap}
 use mathlib.Core.Bool.{Bool, true, false, cond, not, _||_}
@@ -11,6 +10,7 @@ use lib.IntN.{ℤ, pos, negsuc, negℤ, natAbs}
 use lib.ListN.{length, getD}
 use lib.Signed.{ltZ, ltZ-yes, ltZ-no, clashℤ}
 use borrow.Author.Tests.{eqb-true, eqb-false, ltb-true, ltb-false}
+use Rattle.text.proofs.Clash.{clash}
 use Rattle.staged.specs.declared.SplitAnswer.{SplitAnswer}
 use Rattle.staged.specs.declared.SplitAnswer.the-variants.{Grid, Refused}
 use Rattle.staged.specs.Check.{fewestNumbers, mostNumbers, largestPart, badCount, outside, anyOutside, noneInjected}
@@ -29,16 +29,16 @@ count-wrong n h = go (eqb (n % 2) 0) refl (ltb n 4) refl (ltb 34 n) refl h
     go false e b f d g k = let l = eqb-false (n % 2) 0 e in inl (omega arith)
     go true e true f d g k = inr (inl (ltb-true n 4 f))
     go true e false f true g k = inr (inr (ltb-true 34 n g))
-    go true e false f false g k = let z : _≡_ {A = ℕ} 0 1 = cc in absurd (omega arith)
+    go true e false f false g k = clash cc
 
 count-right : (n : ℕ) → badCount n ≡ false → ¬ WrongParts n
 unfolding badCount fewestNumbers mostNumbers
 count-right n h = go (eqb (n % 2) 0) refl (ltb n 4) refl (ltb 34 n) refl h
   where
     go : (a : Bool) → eqb (n % 2) 0 ≡ a → (b : Bool) → ltb n 4 ≡ b → (d : Bool) → ltb 34 n ≡ d → not a || b || d ≡ false → ¬ WrongParts n
-    go false e b f d g k w = let z : _≡_ {A = ℕ} 0 1 = cc in omega arith
-    go true e true f d g k w = let z : _≡_ {A = ℕ} 0 1 = cc in omega arith
-    go true e false f true g k w = let z : _≡_ {A = ℕ} 0 1 = cc in omega arith
+    go false e b f d g k w = clash cc
+    go true e true f d g k w = clash cc
+    go true e false f true g k w = clash cc
     go true e false f false g k (inl w) = omega (arith, eqb-true (n % 2) 0 e)
     go true e false f false g k (inr (inl w)) = omega (arith, ltb-false n 4 f)
     go true e false f false g k (inr (inr w)) = omega (arith, ltb-false 34 n g)
@@ -46,8 +46,8 @@ count-right n h = go (eqb (n % 2) 0) refl (ltb n 4) refl (ltb 34 n) refl h
 -- ---- the parts
 
 none-of : (a b : Bool) → a || b ≡ false → T (not a) × T (not b)
-none-of true b h = let z : _≡_ {A = ℕ} 0 1 = cc in absurd (omega arith)
-none-of false true h = let z : _≡_ {A = ℕ} 0 1 = cc in absurd (omega arith)
+none-of true b h = clash cc
+none-of false true h = clash cc
 none-of false false h = (tt, tt)
 
 inside : (z : ℤ) → outside z ≡ false → PartInside z
@@ -61,7 +61,7 @@ not-inside z h p = go (ltZ z (negℤ (pos 1000000))) refl (ltZ (pos 1000000) z) 
     go : (a : Bool) → ltZ z (negℤ (pos 1000000)) ≡ a → (b : Bool) → ltZ (pos 1000000) z ≡ b → a || b ≡ true → ⊥
     go true e b f k = clashℤ (ltZ-yes (rw e tt)) (p .0)
     go false e true f k = clashℤ (ltZ-yes (rw f tt)) (p .1)
-    go false e false f k = let z : _≡_ {A = ℕ} 0 1 = cc in omega arith
+    go false e false f k = clash cc
 
 all-inside : (s : List ℤ) → anyOutside s ≡ false → AllParts s
 unfolding anyOutside
@@ -69,7 +69,7 @@ all-inside [] h i l = absurd (omega arith)
 all-inside (z ∷ s) h i l = go (outside z) refl h (all-inside s) i l
   where
     go : (b : Bool) → outside z ≡ b → b || anyOutside s ≡ false → (anyOutside s ≡ false → AllParts s) → AllParts (z ∷ s)
-    go true e k later i l = let z : _≡_ {A = ℕ} 0 1 = cc in absurd (omega arith)
+    go true e k later i l = clash cc
     go false e k later zero l = inside z e
     go false e k later (suc i) l = later k i (omega arith)
 
@@ -78,7 +78,7 @@ Outside s = (i : ℕ) × (i < length s) × (¬ PartInside (getD s i (pos 0)))
 
 one-outside : (s : List ℤ) → anyOutside s ≡ true → Outside s
 unfolding anyOutside
-one-outside [] h = let z : _≡_ {A = ℕ} 0 1 = cc in absurd (omega arith)
+one-outside [] h = clash cc
 one-outside (z ∷ s) h = go (outside z) refl h (one-outside s)
   where
     go : (b : Bool) → outside z ≡ b → b || anyOutside s ≡ true → (anyOutside s ≡ true → Outside s) → Outside (z ∷ s)
@@ -99,7 +99,7 @@ injected-some : (s : List ℤ) → noneInjected s ≡ false → ¬ NoneInjected 
 unfolding noneInjected
 injected-some s h n =
     let e : true ≡ false = rw (n .0, n .1) at h in
-    let z : _≡_ {A = ℕ} 0 1 = cc in omega arith
+    clash cc
 
 -- ---- the claim
 
@@ -107,7 +107,12 @@ staged : (s : List ℤ) {a b : ℤ} {n : ℕ} → answer s ≡ Grid a b n → St
 unfolding injectedSquare
 staged s e =
     let r = reported s e in
-    record { in-phase-whole = r .in-phase-whole; quadrature-whole = r .quadrature-whole; enough = r .not-below; smallest = r .smaller-below }
+    record {
+      in-phase-whole = r .in-phase-whole;
+      quadrature-whole = r .quadrature-whole;
+      enough = r .not-below;
+      smallest = r .smaller-below;
+    }
 
 pub split-outcome : {s : List ℤ} {r : SplitAnswer} → r ≡ answer s → SplitOutcome s r
 unfolding answer gridAnswer

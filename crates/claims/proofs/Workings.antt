@@ -1,5 +1,4 @@
 -- The working of a case as a record, in the words of the page.
--- Assumes nothing.
 use Rattle.case.specs.declared.Case.{Case}
 use Rattle.row.specs.Ends.{rowOf}
 use Rattle.hocsimbur.proofs.Answers.{row-sound}

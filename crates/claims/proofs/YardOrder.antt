@@ -1,5 +1,4 @@
 -- The list of yards by line and rod counts: at which index each yard stands, and which yard stands at each index.
--- Assumes nothing.
 use Prim.Native.Nat.{ℕ, zero, suc, _+_, _*_, _-_, _/_, _%_, _≤_, _<_}
 use mathlib.Core.Path.{_≡_, refl, sym, ap, _∙_}
 use mathlib.Core.Bool.{Bool, true, false, cond}
@@ -39,7 +38,12 @@ unfolding fits spacing spaceRange rangeAt columns inRange nameIndex same
 is-fits {side} {lines} b h =
     let p = and-yes _ _ h in
     let none : side % (lines - 1) ≡ 0 = eqb-true (side % (lines - 1)) 0 (p .0) in
-    record { counts = b; multiple = omega (arith, div-add-mod' side (lines - 1)); spacing = between-yes 2500 (side / (lines - 1)) 30000 (p .1) }
+    record {
+      counts = b;
+      multiple = omega (arith, div-add-mod' side (lines - 1));
+      spacing = between-yes 2500 (side / (lines - 1)) 30000
+          (p .1);
+    }
 
 -- ---- the yard with some lines and rods
 
@@ -47,18 +51,21 @@ yard-without : (c : Case) (side lines : ℕ) → yard c side lines 0 ≡ withYar
 unfolding yard
 yard-without c side lines = refl
 
-yard-with : (c : Case) (side lines k : ℕ) → 1 ≤ k → yard c side lines (4 * k) ≡ withYard lines lines (spacing side lines) (4 * k) (c .rodlen) 1 c
+yard-with : (c : Case) (side lines k : ℕ) → 1 ≤ k
+    → yard c side lines (4 * k) ≡ withYard lines lines (spacing side lines) (4 * k) (c .rodlen) 1 c
 unfolding yard
 yard-with c side lines k h = rw (ne-eqb (4 * k) 0 (λ e. omega arith))
 
-pub tried-is : {c : Case} {side lines k : ℕ} {y : Case} → YardTried c side lines k y → (fits side lines ≡ true) × (y ≡ yard c side lines (4 * k))
+pub tried-is : {c : Case} {side lines k : ℕ} {y : Case} → YardTried c side lines k y
+    → (fits side lines ≡ true) × (y ≡ yard c side lines (4 * k))
 tried-is {c} {side} {lines} {k} {y} t = let f = fits-is (t .fits) in (f .0, go k refl (f .1))
   where
     go : (m : ℕ) → k ≡ m → spacing side lines ≡ t .space → y ≡ yard c side lines (4 * k)
     go zero e s = t .without-rods e ∙ rw (e, ← s) (sym (yard-without c side lines))
     go (suc m) e s = let h : 1 ≤ k = omega arith in t .with-rods h ∙ rw (← s) (sym (yard-with c side lines k h))
 
-pub is-tried : (c : Case) {side lines k : ℕ} → Between 2 lines 25 → fits side lines ≡ true → k ≤ 10 → YardTried c side lines k (yard c side lines (4 * k))
+pub is-tried : (c : Case) {side lines k : ℕ} → Between 2 lines 25 → fits side lines ≡ true → k ≤ 10
+    → YardTried c side lines k (yard c side lines (4 * k))
 is-tried c {side} {lines} {k} b f h =
     record {
       space = spacing side lines;
@@ -70,7 +77,8 @@ is-tried c {side} {lines} {k} b f h =
 
 -- ---- how many counts fit
 
-pub fitting-more : (side first n m : ℕ) → fitting side first (n + suc m) ≡ fitting side first n + one (fits side (first + n)) + fitting side (first + n + 1) m
+pub fitting-more : (side first n m : ℕ)
+    → fitting side first (n + suc m) ≡ fitting side first n + one (fits side (first + n)) + fitting side (first + n + 1) m
 unfolding fitting
 fitting-more side first zero m =
     let z : 0 + suc m ≡ suc m = omega arith in
@@ -134,7 +142,8 @@ module _ (c : Case) (side : ℕ) where
       let e : 11 * 0 + k ≡ k = omega arith in
       let g : fits side from ≡ true = rw z at f in
       let w : k < length (yardsOf c side from 0) = rw (of-length c side from, g) (omega arith) in
-      rw (lines-next c side from (omega arith), z, e) (List·getD-append (yardsOf c side from 0) (yardsFrom c side (from + 1)) c k w ∙ of-entry c side from k g h)
+      rw (lines-next c side from (omega arith), z, e)
+      (List·getD-append (yardsOf c side from 0) (yardsFrom c side (from + 1)) c k w ∙ of-entry c side from k g h)
   stands (suc n) from k m f h =
       let z : from + suc n ≡ from + 1 + n = omega arith in
       let e : 11 * (one (fits side from) + fitting side (from + 1) n) + k ≡ length (yardsOf c side from 0) + indexFrom (from + 1) n k
@@ -160,11 +169,17 @@ module _ (c : Case) (side : ℕ) where
       nothing : length {A = Case} [] ≡ 0
       nothing = refl
   located (suc n) from i e h =
-      go (fits side from) refl (decLt i (length (yardsOf c side from 0))) (λ l. located n (from + 1) (i - length (yardsOf c side from 0)) (omega arith) (rest l))
+      go (fits side from) refl (decLt i (length (yardsOf c side from 0)))
+      (λ l. located n (from + 1) (i - length (yardsOf c side from 0)) (omega arith) (rest l))
     where
       rest : length (yardsOf c side from 0) ≤ i → i - length (yardsOf c side from 0) < length (yardsFrom c side (from + 1))
       rest l =
-          omega (arith, ap length (lines-next c side from (omega arith)), length-append (yardsOf c side from 0) (yardsFrom c side (from + 1)))
+          omega (
+            arith,
+            ap length (lines-next c side from (omega arith)),
+            length-append (yardsOf c side from 0)
+                (yardsFrom c side (from + 1)),
+          )
 
       later : length (yardsOf c side from 0) ≤ i → Located (from + 1) (i - length (yardsOf c side from 0)) → Located from i
       later l p =

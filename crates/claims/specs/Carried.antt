@@ -1,5 +1,4 @@
 -- Request (e) of document 02: a sheet of one form carried over to the other, `form` being the one that it is carried to.
--- Assumes nothing.
 use Prim.Native.Nat.{ℕ, _+_, _≤_, _<_}
 use Prim.Native.String.{String}
 use mathlib.Core.Path.{_≡_}
@@ -37,7 +36,8 @@ valueIn form s i name = named (formOf form) (lineIn form s i) name
 -- the names that both forms have
 abbrev pub otherNames : List String
 otherNames =
-    "station" ∷ "season" ∷ "soil" ∷ "layer" ∷ "thick" ∷ "body" ∷ "fault" ∷ "split" ∷ "xr" ∷ "space" ∷ "depth" ∷ "dia" ∷ "rods" ∷ "rodlen" ∷ "place"
+    "station" ∷ "season" ∷ "soil" ∷ "layer" ∷ "thick" ∷ "body" ∷ "fault" ∷ "split" ∷ "xr" ∷ "space" ∷ "depth" ∷ "dia" ∷ "rods" ∷ "rodlen" ∷
+    "place"
     ∷ "metal" ∷ []
 
 -- "turns them into the 22, with ms copied to the three times, lines to both counts, and hz 60": line i of the sheet s and of the new one
@@ -116,15 +116,21 @@ pub record Written (text before after : List ℕ) (count : ℕ) : Type 0 where
 
 pub data CarryOutcome (form : Form) (s before after : List ℕ) : Carried → Type 0 where
   -- "The source sheet passes all checks of its own form first, save 8."
-  rule : {number line column : ℕ} → RefusedIn (other form) s number line column → after ≡ before → CarryOutcome form s before after (Refused number line column)
+  rule : {number line column : ℕ} → RefusedIn (other form) s number line column → after ≡ before
+      → CarryOutcome form s before after (Refused number line column)
   -- "On the way back a line is then refused, with its line and column 0"
-  held : {number i : ℕ} → FirstHeld form s i → Held (lineIn Present s i) number → after ≡ before → CarryOutcome form s before after (Refused number (i + 2) 0)
+  held : {number i : ℕ} → FirstHeld form s i → Held (lineIn Present s i) number → after ≡ before
+      → CarryOutcome form s before after (Refused number (i + 2) 0)
   -- "and after all lines 8, 0, 0 either way when the output buffer is too short, any refusal leaving it untouched"
-  short : {lines : ℕ} → Goes form s lines → length before < length (carriedText form s) → after ≡ before → CarryOutcome form s before after (Refused 8 0 0)
-  carried : {lines count : ℕ} → Goes form s lines → NewSheet form s (carriedText form s) lines → Written (carriedText form s) before after count
+  short : {lines : ℕ} → Goes form s lines → length before < length (carriedText form s) → after ≡ before
+      → CarryOutcome form s before after (Refused 8 0 0)
+  carried : {lines count : ℕ} → Goes form s lines → NewSheet form s (carriedText form s) lines
+      → Written (carriedText form s) before after count
       → CarryOutcome form s before after (Bytes count)
 
--- "there and back restores every value": the answer of the way back, asked of the bytes `text` that the way there has written for the sheet s
+-- "there and back restores every value": the answer of the way back, asked of the bytes `text` that the way there has written for the sheet
+-- s
 pub data BackOutcome (form : Form) (s text before after : List ℕ) : Carried → Type 0 where
-  restored : {count : ℕ} → casesIn (formOf (other form)) (take count after) ≡ casesIn (formOf (other form)) s → BackOutcome form s text before after (Bytes count)
+  restored : {count : ℕ} → casesIn (formOf (other form)) (take count after) ≡ casesIn (formOf (other form)) s
+      → BackOutcome form s text before after (Bytes count)
   short : length before < length (carriedText (other form) text) → BackOutcome form s text before after (Refused 8 0 0)

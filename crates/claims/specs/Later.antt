@@ -1,5 +1,4 @@
 -- Beyond documents 01 and 02: how far the fault current of a case may grow, and which changes never make a safe yard unsafe.
--- Assumes nothing.
 use Prim.Native.Nat.{ℕ, _≤_}
 use mathlib.Core.Path.{_≡_}
 use mathlib.Core.Logic.{_⊎_, _↔_}
@@ -17,15 +16,16 @@ use Rattle.claims.specs.Record.{RecordRefused, RecordSound}
 abbrev pub FaultInside : ℕ → Type 0
 FaultInside f = Between 100 f 80000
 
--- "after the checks of one case (5, 6), the greatest fault current in 100..80000 at which the case, all else equal, is answered safe, or none": every answer,
--- each with its condition; the conditions exclude one another
+-- "after the checks of one case (5, 6), the greatest fault current in 100..80000 at which the case, all else equal, is answered safe, or
+-- none": every answer, each with its condition; the conditions exclude one another
 pub data HeadroomOutcome (c : Case) : Room → Type 0 where
   refused : {number line column : ℕ} → RecordRefused c number line column → HeadroomOutcome c (Refused number line column)
   -- "with F, every fault current in range is answered safe if and only if it is at most F"
   up-to : {F : ℕ} → RecordSound c → FaultInside F
       → ((f : ℕ) (a : RowAnswer) → FaultInside f → RowAnswered (withFault f c) a → AnsweredWith Safe a ↔ f ≤ F) → HeadroomOutcome c (UpTo F)
   -- "with none, none is"
-  none : RecordSound c → ((f : ℕ) (a : RowAnswer) → FaultInside f → RowAnswered (withFault f c) a → ¬ AnsweredWith Safe a) → HeadroomOutcome c None
+  none : RecordSound c → ((f : ℕ) (a : RowAnswer) → FaultInside f → RowAnswered (withFault f c) a → ¬ AnsweredWith Safe a)
+      → HeadroomOutcome c None
 
 -- the values of a case that may be eased are in their ranges
 pub record EasedInside (d : Case) : Type 0 where

@@ -1,6 +1,5 @@
--- What is asked of plain numbers: the logarithm, readings (g), a staged test (l), the margins of a row. Of each question every answer that it can give,
--- with its condition; the conditions exclude one another, so each answer is given exactly on its own.
--- Assumes nothing.
+-- What is asked of plain numbers: the logarithm, readings (g), a staged test (l), the margins of a row. Of each question every answer that
+-- it can give, with its condition; the conditions exclude one another, so each answer is given exactly on its own.
 use Prim.Native.Nat.{ℕ, suc, _+_, _*_, _/_, _%_, _^_, _≤_, _<_}
 use mathlib.Core.Path.{_≡_}
 use mathlib.Core.Logic.{_⊎_, _↔_}
@@ -53,7 +52,8 @@ pub data LogarithmOutcome (p q : ℕ) : Pair → Type 0 where
   upper : ¬ Askable p → LogarithmOutcome p q (pair.Refused 5 0 1)
   lower : Askable p → ¬ Askable q → LogarithmOutcome p q (pair.Refused 5 0 2)
   -- "answered as a pair in signed billionths that holds the exact value"
-  ends : {i : Interval} → Askable p → Askable q → Number (lnOf (whole p ÷f whole q)) → Reports (lnOf (whole p ÷f whole q)) (ten 9) twoHundred i → LogarithmOutcome p q (pair.Ends i)
+  ends : {i : Interval} → Askable p → Askable q → Number (lnOf (whole p ÷f whole q))
+      → Reports (lnOf (whole p ÷f whole q)) (ten 9) twoHundred i → LogarithmOutcome p q (pair.Ends i)
 
 -- ---- (g) soil from four-pin readings
 
@@ -91,8 +91,8 @@ module _ (numbers : List ℕ) where
     pub among : List·Memᴰ reading (pairsOf numbers)
     pub reached : AtOrBelow x (apparent reading)
 
-  -- "The report gives the ends of the least, the greatest and the mean over all pairs in micro-ohm metres, at most 1/1,000,000 of the lower end plus 2
-  -- apart"
+  -- "The report gives the ends of the least, the greatest and the mean over all pairs in micro-ohm metres, at most 1/1,000,000 of the lower
+  -- end plus 2 apart"
   pub record SoilReport (report : Report) : Type 0 where
     pub least : Reports (Resistivity.least (pairsOf numbers)) μΩm width (report .least)
     pub greatest : Reports (Resistivity.greatest (pairsOf numbers)) μΩm width (report .greatest)
@@ -108,7 +108,8 @@ module _ (numbers : List ℕ) where
   pub data SoilOutcome : Sounding → Type 0 where
     -- "12, 0, 0 when the count of numbers is 0, odd or above 128"
     count : WrongCount (length numbers) → SoilOutcome (sounding.Refused 12 0 0)
-    -- "13 when a distance is out of range; 14 when a resistance is; the last two with the first such pair's place from 1 as line, and column 1 or 2"
+    -- "13 when a distance is out of range; 14 when a resistance is; the last two with the first such pair's place from 1 as line, and
+    -- column 1 or 2"
     distance : {i : ℕ} → ¬ WrongCount (length numbers) → FirstPair DistanceInside i → SoilOutcome (sounding.Refused 13 (suc i) 1)
     resistance : {i : ℕ} → ¬ WrongCount (length numbers) → AllPairs DistanceInside → FirstPair ResistanceInside i
         → SoilOutcome (sounding.Refused 14 (suc i) 2)
@@ -173,7 +174,9 @@ module _ (row : List ℤ) where
         → MarginsOutcome (compared.Margins m k)
     none : ¬ RowComparable → MarginsOutcome compared.None
 
--- the margins of row i of a table, for a value line with the case c: true of the exact values, and the verdict is safe exactly where neither is above 0
+-- the margins of row i of a table, for a value line with the case c: true of the exact values, and the verdict is safe exactly where
+-- neither is above 0
 pub data RowMargins (c : Case) (table : List ℤ) (i : ℕ) : Compared → Type 0 where
-  margins : {m k : ℤ} → AtOrBelow (mesh c) (exactly (share m) ·x tolerableTouch c) → AtOrBelow (step c) (exactly (share k) ·x tolerableStep c)
+  margins : {m k : ℤ} → AtOrBelow (mesh c) (exactly (share m) ·x tolerableTouch c)
+      → AtOrBelow (step c) (exactly (share k) ·x tolerableStep c)
       → (verdictAt table i ≡ pos 1) ↔ (m ≤ℤ pos 0) × (k ≤ℤ pos 0) → RowMargins c table i (compared.Margins m k)

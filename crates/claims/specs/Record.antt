@@ -1,6 +1,5 @@
--- One case asked as a record: its checks, and every answer that the question for its row can give, each with its condition. The conditions exclude one
--- another, so each answer is given exactly on its own. Document 01, 'The sheet' and 'The result table'.
--- Assumes nothing.
+-- One case asked as a record: its checks, and every answer that the question for its row can give, each with its condition. The conditions
+-- exclude one another, so each answer is given exactly on its own. Document 01, 'The sheet' and 'The result table'.
 use Prim.Native.Nat.{ℕ, suc, _<_}
 use mathlib.Core.Path.{_≡_}
 use mathlib.Core.Bool.{Bool, true, false}
@@ -66,14 +65,14 @@ pub record RecordSound (c : Case) : Type 0 where
 
 -- ---- the answers
 
--- "One case may also be asked as a record of 18 numbers; the answer is its row or a refusal 5 or 6, whose line is 0 and whose column is the place in the table
--- of names above."; the row has all of demand 3
+-- "One case may also be asked as a record of 18 numbers; the answer is its row or a refusal 5 or 6, whose line is 0 and whose column is the
+-- place in the table of names above."; the row has all of demand 3
 pub data RowOutcome (c : Case) : RowAnswer → Type 0 where
   refused : {number line column : ℕ} → RecordRefused c number line column → RowOutcome c (Refused number line column)
   row : {r : Row} → RecordSound c → OwnRow c (numbers r) 0 → RowOutcome c (Is r)
 
--- "Decrement factor (in thousandths), conductor size, tolerable touch, tolerable step and resistance may each be asked alone, from a record, with the same
--- checks."
+-- "Decrement factor (in thousandths), conductor size, tolerable touch, tolerable step and resistance may each be asked alone, from a
+-- record, with the same checks."
 
 -- two ends for an exact value, which is one number: the factor, or the resistance
 pub data PairOutcome (c : Case) (x : Exact) (unit : Scale) (width : Ends → Fraction) : Pair → Type 0 where
@@ -83,11 +82,14 @@ pub data PairOutcome (c : Case) (x : Exact) (unit : Scale) (width : Ends → Fra
 -- (f) "The two separate questions are merged into one that gives both pairs of ends from one root."
 pub data TolerableOutcome (c : Case) : Tolerable → Type 0 where
   refused : {number line column : ℕ} → RecordRefused c number line column → TolerableOutcome c (tolerable.Refused number line column)
-  ends : {touch step : Interval} → RecordSound c → CaseNumbers c → Reports (tolerableTouch c) mV tolerableWidth touch → Reports (tolerableStep c) mV tolerableWidth step
+  ends : {touch step : Interval} → RecordSound c → CaseNumbers c → Reports (tolerableTouch c) mV tolerableWidth touch
+      → Reports (tolerableStep c) mV tolerableWidth step
       → TolerableOutcome c (tolerable.Ends touch step)
 
--- (d) "Conductor size is the smallest whole kcmil not below the product with the factor's upper end": of a pair of ends that reports the factor
+-- (d) "Conductor size is the smallest whole kcmil not below the product with the factor's upper end": of a pair of ends that reports the
+-- factor
 pub data SizeOutcome (c : Case) : SizeAnswer → Type 0 where
   refused : {number line column : ℕ} → RecordRefused c number line column → SizeOutcome c (sized.Refused number line column)
-  size : {kcmil : ℕ} (factor : Interval) → RecordSound c → Reports (Df c) billionths factorWidth factor → SmallestSize c (natAbs (factor .upper)) kcmil
+  size : {kcmil : ℕ} (factor : Interval) → RecordSound c → Reports (Df c) billionths factorWidth factor
+      → SmallestSize c (natAbs (factor .upper)) kcmil
       → SizeOutcome c (sized.Is kcmil)

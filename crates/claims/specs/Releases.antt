@@ -1,5 +1,4 @@
 -- Release, of no document: a sheet and a licence, asked with a table that was `before`, were answered with r.
--- Assumes nothing.
 use Prim.Native.Nat.{ℕ, _+_, _*_, _≤_, _<_}
 use mathlib.Core.Path.{_≡_}
 use mathlib.Core.Bool.{true}
@@ -51,8 +50,8 @@ PairSound licence k = StationSound licence k × SeasonsSound licence k
 
 -- ---- what the eight numbers of a pair say
 
--- "of a released station every season of the licence has a line, and in every line of it, for one and the same yard, the exact mesh and step voltages are at
--- or below what is tolerable"; and no conductor is too small for the row's size
+-- "of a released station every season of the licence has a line, and in every line of it, for one and the same yard, the exact mesh and
+-- step voltages are at or below what is tolerable"; and no conductor is too small for the row's size
 pub record ReleasedStation (s : List ℕ) (station seasons : ℕ) : Type 0 where
   pub every-season : (i : ℕ) → 1 ≤ i → i ≤ 4 → licensed i seasons ≡ true → SeasonLine s station i
   pub one-yard : (i j : ℕ) → LineOf s station i → LineOf s station j → OneYard (caseAt s i) (caseAt s j)
@@ -88,11 +87,14 @@ pub record PairTold (s licence : List ℕ) (after : List ℤ) (k : ℕ) : Type 0
 -- every answer, each with its condition; the conditions exclude one another
 pub data ReleaseOutcome (s licence : List ℕ) (before after : List ℤ) : Released → Type 0 where
   -- "Refusals: the sheet's own 1 to 7"; "any refusal leaves the table"
-  rule : {number line column : ℕ} → Breaks s number line column → after ≡ before → ReleaseOutcome s licence before after (Refused number line column)
+  rule : {number line column : ℕ} → Breaks s number line column → after ≡ before
+      → ReleaseOutcome s licence before after (Refused number line column)
   -- "then over the whole licence 21, 0, 0"
-  count : {n : ℕ} → BreaksNone s n → ((m : ℕ) → ¬ InPairs licence m) → after ≡ before → ReleaseOutcome s licence before after (Refused 21 0 0)
+  count : {n : ℕ} → BreaksNone s n → ((m : ℕ) → ¬ InPairs licence m) → after ≡ before
+      → ReleaseOutcome s licence before after (Refused 21 0 0)
   -- "22 with the first such pair's place from 1 as line"
-  pair : {n m k column : ℕ} → BreaksNone s n → InPairs licence m → k < m → PairWrong licence k column → ((i : ℕ) → i < k → PairSound licence i)
+  pair : {n m k column : ℕ} → BreaksNone s n → InPairs licence m → k < m → PairWrong licence k column
+      → ((i : ℕ) → i < k → PairSound licence i)
       → after ≡ before → ReleaseOutcome s licence before after (Refused 22 (k + 1) column)
   -- "last 23, 0, 0 when the table is shorter than eight numbers a pair"
   table : {n m : ℕ} → BreaksNone s n → InPairs licence m → ((i : ℕ) → i < m → PairSound licence i) → length before < 8 * m

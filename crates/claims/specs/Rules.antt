@@ -1,6 +1,5 @@
--- The rules of a sheet in document 01's words, of its text: what holds of a sheet that breaks none, and what each refusal says. Columns count from 1;
--- value lines count from 0, so that value line i is line i + 2 of the sheet.
--- Assumes nothing.
+-- The rules of a sheet in document 01's words, of its text: what holds of a sheet that breaks none, and what each refusal says. Columns
+-- count from 1; value lines count from 0, so that value line i is line i + 2 of the sheet.
 use Prim.Native.Nat.{ℕ, _+_, _-_, _≤_, _<_}
 use Prim.Native.String.{String}
 use mathlib.Core.Path.{_≡_}
@@ -30,8 +29,8 @@ fieldsAt s i = fieldsOf (getD (valueLines s) i [])
 
 -- ---- a case and the text of its line
 
--- "Its first line holds names, and each later line holds values in that order": a column of the first line holds this name, and value line i this
--- number in the same column
+-- "Its first line holds names, and each later line holds values in that order": a column of the first line holds this name, and value line
+-- i this number in the same column
 pub record Under (s : List ℕ) (i : ℕ) (name : String) (value : ℕ) : Type 0 where
   pub column : ℕ
   pub named : StandsAt (names s) (bytes name) column
@@ -87,12 +86,14 @@ pub record RulesKept (s : List ℕ) (n : ℕ) : Type 0 where
   pub few-lines : n ≤ 256
   -- 3: "each later line holds values in that order"
   pub own-line : (i : ℕ) → i < n → OwnLine s i (caseAt s i)
-  -- 5 and 6: every value in its range, "layer and thick are both 0 (bare soil) or both not 0. rods, rodlen and place are all 0 or all not 0."
+  -- 5 and 6: every value in its range, "layer and thick are both 0 (bare soil) or both not 0. rods, rodlen and place are all 0 or all not
+  -- 0."
   pub bounds : (i : ℕ) → i < n → Bounds (caseAt s i)
   -- 7: no line whose "station and season both equal those of an earlier line"
   pub keys-once : (i j : ℕ) → i < j → j < n → SameKey (caseAt s j) (caseAt s i) → ⊥
 
--- document 01's sample sheet; document 02: "document 01's sheet and cases give each new column the value of the one it replaces", and hz is 60
+-- document 01's sample sheet; document 02: "document 01's sheet and cases give each new column the value of the one it replaces", and hz is
+-- 60
 pub record SampleSheet : Type 0 where
   pub breaks-none : BreaksNone sample 2
   -- "7,1,400,2500,102,500,70,3180,600,10,11,7000,500,100,0,0,0,1"

@@ -1,5 +1,4 @@
 -- Request (k) of document 02: the fewest lines for a given side, over sides, counts and spacings.
--- Assumes nothing.
 use Prim.Native.Nat.{ℕ, zero, suc, _+_, _*_, _-_, _≤_, _<_}
 use mathlib.Core.Path.{_≡_}
 use mathlib.Core.Logic.{_⊎_}
@@ -46,14 +45,15 @@ withYard across along space rods rodlen place c =
 
 -- ---- the yards tried
 
--- "try line counts 2 to 25 rising, .. skipping a count where the side is not a whole multiple of count minus 1 or the spacing is out of range"
+-- "try line counts 2 to 25 rising, .. skipping a count where the side is not a whole multiple of count minus 1 or the spacing is out of
+-- range"
 pub record Fits (side lines space : ℕ) : Type 0 where
   pub counts : Between 2 lines 25
   pub multiple : space * (lines - 1) ≡ side
   pub spacing : Between 2500 space 30000
 
--- y is the yard with so many lines, "the same across and along", and four times k rods: "For each count try 0, 4, 8 up to 40 rods of the case's rod length
--- at the perimeter"; "A yard without rods has rod length and place 0."
+-- y is the yard with so many lines, "the same across and along", and four times k rods: "For each count try 0, 4, 8 up to 40 rods of the
+-- case's rod length at the perimeter"; "A yard without rods has rod length and place 0."
 pub record YardTried (c : Case) (side lines k : ℕ) (y : Case) : Type 0 where
   pub space : ℕ
   pub fits : Fits side lines space
@@ -88,7 +88,8 @@ pub record FoundYard (c : Case) (side lines rods tried : ℕ) : Type 0 where
   pub is-tried : YardTried c side lines fours yard
   pub safe : SafeYard yard
   pub first : (l j : ℕ) (y : Case) → YardTried c side l j y → Before l j lines fours → NotSafe y
-  -- "The number of yards tried is reported, at most 264, and is the place of the found yard in that order": eleven for each count that fits before it
+  -- "The number of yards tried is reported, at most 264, and is the place of the found yard in that order": eleven for each count that fits
+  -- before it
   pub most : tried ≤ 264
   pub place : tried ≡ 11 * fitting side 2 (lines - 2) + fours + 1
 
@@ -99,7 +100,8 @@ pub record NoYard (c : Case) (side tried : ℕ) : Type 0 where
   -- "or the whole list's length"
   pub whole : tried ≡ 11 * fitting side 2 24
 
--- "The case's own counts, spacing, rods and place are not read, nor compared with rodlen": y has others in their stead, which no check refuses
+-- "The case's own counts, spacing, rods and place are not read, nor compared with rodlen": y has others in their stead, which no check
+-- refuses
 pub record StandsIn (c y : Case) : Type 0 where
   pub is : y ≡ withYard (y .across) (y .along) (y .space) (y .rods) (c .rodlen) (y .place) c
   pub across : Between 2 (y .across) 25
@@ -118,7 +120,8 @@ pub record Askable (c : Case) : Type 0 where
 -- every answer, each with its condition; the conditions exclude one another
 pub data FewestOutcome (c : Case) (side : ℕ) : FewestLines → Type 0 where
   -- "its other values follow document 01's checks for one case, which come first"
-  checks : {number line column : ℕ} (y : Case) → StandsIn c y → RecordRefused y number line column → FewestOutcome c side (Refused number line column)
+  checks : {number line column : ℕ} (y : Case) → StandsIn c y → RecordRefused y number line column
+      → FewestOutcome c side (Refused number line column)
   -- "15 when the side is out of range": "a square side in mm (2,500..720,000)"
   side-outside : Askable c → ¬ Between 2500 side 720000 → FewestOutcome c side (Refused 15 0 0)
   -- "16 when the rod length is 0"

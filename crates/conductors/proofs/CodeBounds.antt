@@ -1,5 +1,4 @@
 -- What keeps the code of nb within 64 bits: the ratio Lp/(4·√area) and its root.
--- Assumes nothing.
 use Prim.Native.Nat.{ℕ, zero, suc, _*_, _^_, _≤_, _<_}
 use native.Mathlib.Omega.{arith}
 use native.Mathlib.Nat.{mul-le-mul, div-le-self}

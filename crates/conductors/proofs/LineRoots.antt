@@ -1,5 +1,4 @@
 -- The n-th root of 4n² for n from 2 to 25: one test computed over the table.
--- Assumes nothing.
 use Prim.Native.Nat.{ℕ, _+_, _*_, _^_, _≤_, _<_}
 use mathlib.Core.List.{List, [], _∷_}
 use native.Mathlib.Omega.{arith}

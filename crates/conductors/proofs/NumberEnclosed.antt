@@ -1,7 +1,6 @@
 -- The ends of n and Ki include the exact values' ends. The spacing D stands in Lp and in √area and cancels in their quotient.
--- Assumes nothing.
-use Prim.Native.Nat.{ℕ, _+_, _-_, _*_, _/_, _^_, _≤_, _<_}
-use mathlib.Core.Path.{_≡_, refl, sym, ap}
+use Prim.Native.Nat.{ℕ, _+_, _*_, _/_, _^_, _≤_, _<_}
+use mathlib.Core.Path.{_≡_, refl, ap}
 use native.Mathlib.Omega.{arith}
 use native.Mathlib.Nat.{mul-div-mul-left, mul-le-mul-right, mul-lt-mul-of-pos-right, mul-pos as nat-pos}
 use Rattle.interval.specs.Root.{IsRoot}
@@ -135,7 +134,13 @@ module _ {c : Case} (b : Bounds c) where
       = rw (widened (10 ^ 17), divisor-widened (r + 1)) (mul-div-mul-left (half * 10 ^ 17) (2 * (r + 1)) m) in
       let high : ceilDiv (2 * half * s * 10 ^ 17) (s * r * 4) ≡ ratioHigh half r
       = rw (widened (10 ^ 17), divisor-widened r) (ceilDiv-cancel (half * 10 ^ 17) (2 * r) m (omega (arith, r-pos))) in
-      rw (point-natural (2 * half * s), natural-quotient (2 * half * s) (2 * half * s) {c = s * r * 4} {d = s * (r + 1) * 4} (10 ^ 17) low-pos (omega arith), low, high)
+      rw (
+        point-natural (2 * half * s),
+        natural-quotient (2 * half * s) (2 * half * s) {c = s * r * 4} {d = s * (r + 1) * 4} (10 ^ 17)
+            low-pos (omega arith),
+        low,
+        high,
+      )
 
   ratio-encloses : Encloses (exactly (Lp c) ÷x (exactly (whole 4) ·x √area c)) (ten 9) (natural (ratioLow half r) (ratioHigh half r))
   ratio-encloses = rw ratio-is at quotient-encloses
@@ -170,7 +175,8 @@ module _ {c : Case} (b : Bounds c) where
   unfolding na
   na-is =
       let double = over (pos (2 * s)) (ten 3) in
-      let top : whole 2 ·f Lc c ≈f whole (spacings a l) ·f double = trans≈ (cong· (refl≈ (whole 2)) conductors-is) (doubled (spacings a l)) in
+      let top : whole 2 ·f Lc c ≈f whole (spacings a l) ·f double =
+      trans≈ (cong· (refl≈ (whole 2)) conductors-is) (doubled (spacings a l)) in
       let bottom : Lp c ≈f whole (halfPerimeter a l) ·f double = trans≈ perimeter-is (halved (halfPerimeter a l)) in
       let pd : whole 0 <f double = double-pos in
       let ph : whole 0 <f whole (halfPerimeter a l) = whole-pos half-pos in
@@ -192,7 +198,8 @@ module _ {c : Case} (b : Bounds c) where
   pub n-encloses : Encloses (n c) (ten 7) (nEnds (c .across) (c .along))
   unfolding n nEnds ten
   n-encloses =
-      by-both (λ x i. Encloses x (ten 7) i) (eqb (c .across) (c .along)) (λ e. encloses-whole (c .across) (ten 7) refl) (λ e. product-encloses)
+      by-both (λ x i. Encloses x (ten 7) i) (eqb (c .across) (c .along)) (λ e. encloses-whole (c .across) (ten 7) refl)
+      (λ e. product-encloses)
 
   -- ---- Ki
 
@@ -200,5 +207,6 @@ module _ {c : Case} (b : Bounds c) where
   unfolding Ki KiEnds ten
   Ki-encloses =
       let q = quantity-n b in
-      encloses-sum (consistent-exactly _) (consistent-product (consistent-exactly _) (q .consistent)) (encloses-decimal 644 3 10000000 (ten 10) refl refl)
+      encloses-sum (consistent-exactly _) (consistent-product (consistent-exactly _) (q .consistent))
+      (encloses-decimal 644 3 10000000 (ten 10) refl refl)
       (encloses-multiple 148 (ten 3) (ten 10) refl (decimal-over 148 3) (q .consistent) n-encloses)

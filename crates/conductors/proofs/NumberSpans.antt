@@ -1,5 +1,4 @@
 -- Sizes and widths of n and Ki, from the test.
--- Assumes nothing.
 use Prim.Native.Nat.{ℕ, _+_, _-_, _*_, _/_, _^_, _≤_, _<_}
 use mathlib.Core.Path.{_≡_}
 use mathlib.Core.Bool.{Bool, true, false, cond}
@@ -61,7 +60,8 @@ module _ {a b : ℕ} (h : Counts a b) where
 
   pub scaled-span : Span (scaledOf (nbEnds a b) (spacings a b)) 0 2040000000000 2040000000000
   scaled-span =
-      span-wider (span-scaled (spacings a b) nb-span) (omega arith) (omega (arith, spacings-bounds .high)) (omega (arith, spacings-bounds .high))
+      span-wider (span-scaled (spacings a b) nb-span) (omega arith) (omega (arith, spacings-bounds .high))
+      (omega (arith, spacings-bounds .high))
 
   -- ---- n
 

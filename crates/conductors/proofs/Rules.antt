@@ -1,5 +1,4 @@
 -- Rules a ≤ b and a test that computes them, at every count from 2 to 25, and at every two counts.
--- Assumes nothing.
 use Prim.Native.Nat.{ℕ, zero, suc, _+_, _-_, _≤_, _<_}
 use mathlib.Core.Path.{_≡_}
 use mathlib.Core.Bool.{Bool, true, _&&_}

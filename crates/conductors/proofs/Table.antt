@@ -1,5 +1,5 @@
--- What depends on the two counts alone, at all 576 pairs of counts: one computed test of n, Ki, ln(8/(π(2n−1))) and the exponent of the inner weight.
--- Assumes nothing.
+-- What depends on the two counts alone, at all 576 pairs of counts: one computed test of n, Ki, ln(8/(π(2n−1))) and the exponent of the
+-- inner weight.
 use Prim.Native.Nat.{ℕ, zero, suc, _+_, _-_, _*_, _/_, _^_, min, _≤_, _<_}
 use mathlib.Core.Path.{_≡_}
 use mathlib.Core.Bool.{false, cond}

@@ -1,11 +1,10 @@
 -- Sizes of what depends on n, for any pair n in 10^−7 from 2 to 25.
--- Assumes nothing.
-use Prim.Native.Nat.{ℕ, _*_, _≤_, _<_}
+use Prim.Native.Nat.{ℕ, _*_, _≤_}
 use native.Mathlib.Nat.{le-trans}
 use lib.Dec.{lit≤, lit<}
 use lib.IntN.{pos}
 use Rattle.interval.specs.declared.Interval.{Interval}
-use Rattle.interval.specs.Operations.{point, natural, differenceOf, scaledOf, quotientOf}
+use Rattle.interval.specs.Operations.{point, differenceOf, scaledOf, quotientOf}
 use Rattle.interval.specs.Span.{Span}
 use Rattle.interval.proofs.Span.{span-natural, span-point, span-scaled, span-product, span-quotient}
 use Rattle.interval.proofs.Negated.{span-less}
@@ -15,7 +14,8 @@ use Rattle.logarithm.proofs.Pairs.{pair-span}
 use Rattle.conductors.specs.Weights.{eight, oddEnds, innerExponent, ln2Ends, halfExponent}
 
 -- the logarithm of a pair over q, for ratios up to 64
-log-span : {i : Interval} {q l h w : ℕ} → Inside q → q ≤ l → h ≤ 64 * q → h ≤ most → Span i l h w → Span (lnPair i q) 0 4158883100 4158883100
+log-span : {i : Interval} {q l h w : ℕ} → Inside q → q ≤ l → h ≤ 64 * q → h ≤ most → Span i l h w
+    → Span (lnPair i q) 0 4158883100 4158883100
 log-span {q = q} hq low high inside s =
     let from : q ≤ s .a = le-trans low (s .from) in
     let to : s .b ≤ most = le-trans (s .to) inside in

@@ -1,5 +1,4 @@
 -- Widths of what depends on n, at all pairs of counts: the test's numbers are those of the named ends.
--- Assumes nothing.
 use Prim.Native.Nat.{ℕ, _+_, _-_, _*_, _^_, _≤_, _<_}
 use mathlib.Core.Path.{_≡_, _∙_}
 use mathlib.Core.Bool.{false}
@@ -7,7 +6,6 @@ use native.Mathlib.Omega.{arith}
 use native.Mathlib.Nat.{mul-le-mul-left, le-trans, le-of-mul-le-mul-right}
 use lib.Pow.{pow-pos}
 use lib.Dec.{eqb, lit≤, lit<}
-use lib.IntN.{pos}
 use Rattle.interval.specs.declared.Interval.{Interval}
 use Rattle.interval.specs.Operations.{natural}
 use Rattle.interval.specs.Span.{Span}
@@ -25,7 +23,8 @@ use Rattle.formulas.proofs.Conductors.{by-place}
 use Rattle.conductors.specs.Counts.{Counts}
 use Rattle.conductors.specs.Number.{nEnds}
 use Rattle.conductors.specs.Weights.{eight, oddEnds, innerExponent, innerEnds, halfExponent, halfPowerEnds}
-use Rattle.conductors.proofs.Table.{halved, Halved, nLow, nHigh, oddLow, oddHigh, lnLow, lnHigh, exponentLow, exponentHigh, number-known, spread-known, exponent-known}
+use Rattle.conductors.proofs.Table.{halved, Halved, nLow, nHigh, oddLow, oddHigh, lnLow, lnHigh, exponentLow, exponentHigh}
+use Rattle.conductors.proofs.Table.{number-known, spread-known, exponent-known}
 use Rattle.conductors.proofs.NumberSpans.{n-least, n-is, n-more}
 use Rattle.conductors.proofs.WeightSpans.{ln2-span}
 use Rattle.conductors.proofs.LineRoots.{line-root-span}
@@ -42,7 +41,8 @@ known-log {p} {q} {s} h hp hq =
     λ i. record { lower = lower i .lower; upper = upper i .upper }
 
 -- the width of e^−q from that of q: 2^j is at most 1 and 4q
-power-span : {i : Interval} {l h w : ℕ} (width : ℕ) → Span i l h w → 65536 ≤ l → h ≤ most → 5 * w * billion + 20 * (4 * h + billion) ≤ width * billion
+power-span : {i : Interval} {l h w : ℕ} (width : ℕ) → Span i l h w → 65536 ≤ l → h ≤ most
+    → 5 * w * billion + 20 * (4 * h + billion) ≤ width * billion
     → Span (expPair i) 0 billion width
 unfolding expPair natural
 power-span {w = w} width s low high k =
@@ -72,7 +72,13 @@ module _ {a b : ℕ} (h : Counts a b) where
   odd-is : oddEnds (nEnds a b) ≡ natural (oddLow l) (oddHigh u)
   unfolding oddEnds πEnds l u
   odd-is =
-      rw (n-is h, natural-scaled l u 2, point-natural 10000000, natural-difference (l * 2) (u * 2) 10000000 10000000 (omega (arith, from)) (omega (arith, from, order)))
+      rw (
+        n-is h,
+        natural-scaled l u 2,
+        point-natural 10000000,
+        natural-difference (l * 2) (u * 2) 10000000 10000000 (omega (arith, from))
+            (omega (arith, from, order)),
+      )
       (natural-product {a = πBelow} {b = πAbove} (lit≤ tt) (omega (arith, order)) (lit< tt))
 
   log-is : lnPair (oddEnds (nEnds a b)) eight ≡ natural (lnLow (oddLow l) eight) (lnHigh (oddHigh u) eight)
@@ -95,8 +101,15 @@ module _ {a b : ℕ} (h : Counts a b) where
   exponent-is e =
       let k = exponent-known h e in
       let p : 0 < l = omega (arith, from) in
-      rw (n-is h, natural-scaled l u 2, point-natural 20000000, natural-quotient 20000000 20000000 {c = l} {d = u} 1000000000 p order, known-log {p = l * 2} {q = u * 2} {s = 10000000} (lit≤ tt) (k .low) (k .high))
-      (natural-product (le-trans (floorDiv-falls 20000000000000000 p order) (floor≤ceil 20000000000000000 20000000000000000 l p (omega arith))) (k .log-order) (lit< tt))
+      rw (
+        n-is h,
+        natural-scaled l u 2,
+        point-natural 20000000,
+        natural-quotient 20000000 20000000 {c = l} {d = u} 1000000000 p order,
+        known-log {p = l * 2} {q = u * 2} {s = 10000000} (lit≤ tt) (k .low) (k .high),
+      )
+      (natural-product (le-trans (floorDiv-falls 20000000000000000 p order)
+      (floor≤ceil 20000000000000000 20000000000000000 l p (omega arith))) (k .log-order) (lit< tt))
 
   pub exponent-span : eqb a b ≡ false → Span (innerExponent (nEnds a b)) 65536 1400000000 95
   unfolding l u
@@ -110,7 +123,8 @@ module _ {a b : ℕ} (h : Counts a b) where
       let one = span-point 1000000000 {l = 1000000000} {h = 1000000000} (lit≤ tt) (lit≤ tt) in
       by-place (λ i. Span i 0 1000000000 610) (eqb a b)
       (λ e.
-      span-wider (span-quotient 1000000000 0 1000000000 1 (lit< tt) (lit≤ tt) (lit≤ tt) (lit≤ tt) one (line-root-span (h .across))) (lit≤ tt) (lit≤ tt)
+      span-wider (span-quotient 1000000000 0 1000000000 1 (lit< tt) (lit≤ tt) (lit≤ tt) (lit≤ tt) one (line-root-span (h .across)))
+      (lit≤ tt) (lit≤ tt)
       (lit≤ tt))
       (λ e. power-span 610 (exponent-span e) (lit≤ tt) (lit≤ tt) (lit≤ tt))
 
@@ -119,7 +133,8 @@ module _ {a b : ℕ} (h : Counts a b) where
   pub half-exponent-span : eqb a b ≡ false → Span (halfExponent (nEnds a b)) 277258872 15942385163 163
   unfolding halfExponent
   half-exponent-span e =
-      span-product 10000000 277258872 15942385163 162 (lit< tt) (lit≤ tt) (lit≤ tt) (lit≤ tt) (span-less 20000000 (lit≤ tt) (n-more h e)) ln2-span
+      span-product 10000000 277258872 15942385163 162 (lit< tt) (lit≤ tt) (lit≤ tt) (lit≤ tt) (span-less 20000000 (lit≤ tt) (n-more h e))
+      ln2-span
 
   pub half-span : eqb a b ≡ false → Span (halfPowerEnds (nEnds a b)) 0 1000000000 2120
   unfolding halfPowerEnds

@@ -1,5 +1,4 @@
 -- The ends of what depends on n include the exact values' ends. Each line follows its formula's line.
--- Assumes nothing.
 use Prim.Native.Nat.{ℕ, _+_, _*_, _≤_, _<_}
 use mathlib.Core.Path.{_≡_, refl}
 use mathlib.Core.Bool.{false}
@@ -11,12 +10,12 @@ use Rattle.interval.specs.Operations.{natural, scaledOf}
 use Rattle.interval.specs.Span.{Span}
 use Rattle.interval.proofs.Span.{span-divisor}
 use Rattle.exact.specs.Fraction.{whole, _·f_, top}
-use Rattle.exact.specs.Exact.{Exact, exactly, _−x_, _·x_, _÷x_, minus}
+use Rattle.exact.specs.Exact.{exactly, _−x_, _·x_, _÷x_, minus}
 use Rattle.exact.specs.Root.{root}
 use Rattle.exact.specs.Pi.{π}
 use Rattle.exact.specs.Logarithm.{ln}
 use Rattle.exact.specs.Exponential.{exp}
-use Rattle.exact.specs.Depth.{workDepth, Consistent}
+use Rattle.exact.specs.Depth.{workDepth}
 use Rattle.exact.specs.Reported.{ten}
 use Rattle.exact.proofs.Consistency.{consistent-difference}
 use Rattle.exact.proofs.Logarithm.{ln-exactly, consistent-ln}
@@ -39,7 +38,8 @@ use Rattle.formulas.specs.Mesh.{innerWeight}
 use Rattle.formulas.proofs.Conductors.{by-both, quantity-n}
 use Rattle.formulas.proofs.Quantities.{one, two, twice-n, quantity-odd, quantity-line-root, consistent-inner, consistent-half-exponent}
 use Rattle.conductors.specs.Number.{nEnds}
-use Rattle.conductors.specs.Weights.{eight, oddEnds, spreadEnds, innerExponent, rootOf, innerEnds, ln2Ends, halfExponent, halfPowerEnds}
+use Rattle.conductors.specs.Weights.{eight, oddEnds, spreadEnds, innerExponent, rootOf, innerEnds, ln2Ends, halfExponent}
+use Rattle.conductors.specs.Weights.{halfPowerEnds}
 use Rattle.conductors.proofs.NumberSpans.{n-span}
 use Rattle.conductors.proofs.WeightSpans.{twice-span, odd-span}
 use Rattle.conductors.proofs.LineRoots.{root-known, line-root-span}
@@ -82,7 +82,8 @@ module _ {c : Case} (b : Bounds c) where
   unfolding oddEnds ten
   odd-encloses =
       encloses-product (ten 12) 10000 refl (quantity-π .consistent) (quantity-odd b .consistent) π-encloses
-      (encloses-difference (twice-n b .consistent) (one .consistent) (encloses-times 2 (quantity-n b .consistent) number-encloses) (encloses-whole 1 (ten 7) refl))
+      (encloses-difference (twice-n b .consistent) (one .consistent) (encloses-times 2 (quantity-n b .consistent) number-encloses)
+      (encloses-whole 1 (ten 7) refl))
 
   pub spread-encloses : Encloses (ln (exactly (whole 8) ÷x (π ·x (exactly (whole 2) ·x n c −x exactly (whole 1))))) (ten 9) (spreadEnds (nEnds (c .across) (c .along)))
   unfolding spreadEnds N ten
@@ -122,8 +123,10 @@ module _ {c : Case} (b : Bounds c) where
   unfolding innerExponent ten
   exponent-encloses =
       let q = quantity-n b in
-      encloses-product (ten 9) 1000000000 refl (quantity-quotient two q .consistent) (consistent-ln (twice-n b .positive) (twice-n b .consistent))
-      (encloses-quotient (ten 9) 1000000000 refl (span-divisor (lit≤ tt) number .0) (two .consistent) (q .consistent) (encloses-whole 2 (ten 7) refl)
+      encloses-product (ten 9) 1000000000 refl (quantity-quotient two q .consistent)
+      (consistent-ln (twice-n b .positive) (twice-n b .consistent))
+      (encloses-quotient (ten 9) 1000000000 refl (span-divisor (lit≤ tt) number .0) (two .consistent) (q .consistent)
+      (encloses-whole 2 (ten 7) refl)
       number-encloses)
       log-encloses
 
@@ -144,5 +147,6 @@ module _ {c : Case} (b : Bounds c) where
   half-encloses e =
       let q = quantity-n b in
       power-encloses (lit≤ tt) (consistent-half-exponent b) (half-exponent-span (counts b) e)
-      (encloses-product (ten 9) 10000000 refl (consistent-difference (q .consistent) (two .consistent)) (consistent-ln (two .positive) (two .consistent))
+      (encloses-product (ten 9) 10000000 refl (consistent-difference (q .consistent) (two .consistent))
+      (consistent-ln (two .positive) (two .consistent))
       (encloses-difference (q .consistent) (two .consistent) (n-encloses b) (encloses-whole 2 (ten 7) refl)) ln2-encloses)

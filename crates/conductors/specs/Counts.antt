@@ -1,5 +1,4 @@
 -- The two counts of conductors, across and along, and what they give in units of the spacing D.
--- Assumes nothing.
 use Prim.Native.Nat.{ℕ, _+_, _-_, _*_}
 use Rattle.case.specs.Bounds.{Between}
 

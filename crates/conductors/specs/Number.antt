@@ -1,5 +1,4 @@
 -- The ends of n and Ki, from the two counts alone, by whole numbers. Names for the free part: callers use their laws.
--- Assumes nothing.
 use Prim.Native.Nat.{ℕ, _+_, _*_, _/_, _^_}
 use mathlib.Core.Bool.{cond}
 use lib.Dec.{eqb}
@@ -25,7 +24,8 @@ module _ (a b : ℕ) where
   -- nb in 10^−9
   unfoldable pub nbEnds : Interval
   nbEnds =
-      natural (squareRoot (ratioLow (halfPerimeter a b) meshRoot * 10 ^ 9)) (squareRoot (ratioHigh (halfPerimeter a b) meshRoot * 10 ^ 9) + 1)
+      natural (squareRoot (ratioLow (halfPerimeter a b) meshRoot * 10 ^ 9))
+      (squareRoot (ratioHigh (halfPerimeter a b) meshRoot * 10 ^ 9) + 1)
 
   -- na·nb in 10^−7
   unfoldable pub productEnds : Interval

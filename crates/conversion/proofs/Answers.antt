@@ -1,13 +1,12 @@
 -- The claim about a sheet and its buffer, from what was read, found and written.
--- Assumes nothing.
-use Prim.Native.Nat.{ℕ, _≤_, _<_}
-use mathlib.Core.Path.{_≡_, refl, sym, ap, _∙_}
+use Prim.Native.Nat.{ℕ}
+use mathlib.Core.Path.{_≡_, refl, sym, _∙_}
 use mathlib.Core.Bool.{Bool, true, false, cond}
-use mathlib.Core.List.{List, [], _++_, map}
-use native.Mathlib.Omega.{arith}
-use lib.Dec.{leb, ltb}
+use mathlib.Core.List.{List, _++_}
+use lib.Dec.{leb}
 use lib.ListN.{length, drop}
 use borrow.Author.Tests.{lt-ltb, le-ltb, leb-true, leb-false}
+use Rattle.text.proofs.Clash.{clash}
 use Rattle.case.specs.declared.Form.{Form}
 use Rattle.case.specs.Parts.{formOf}
 use Rattle.judgement.specs.declared.Judgement.{Judgement}
@@ -17,8 +16,8 @@ use Rattle.writing.specs.Put.{WrittenFirst}
 use Rattle.writing.specs.declared.Written.{Written}
 use Rattle.writing.specs.declared.Written.the-variants.{Short, Count}
 use Rattle.conversion.specs.declared.Carried.the-variants.{Bytes, Refused}
-use Rattle.conversion.specs.Values.{other, carried}
-use Rattle.conversion.specs.Sheet.{casesIn, sheetOf}
+use Rattle.conversion.specs.Values.{other}
+use Rattle.conversion.specs.Sheet.{casesIn}
 use Rattle.conversion.specs.Answer.{changes, carriedText, roomAnswer, refusedOr, answer, bufferAfter, Answered}
 
 module _ (form : Form) (s before : List ℕ) {j : Judgement} (judged-is : j ≡ judgement (formOf (other form)) s) where
@@ -37,26 +36,35 @@ module _ (form : Form) (s before : List ℕ) {j : Judgement} (judged-is : j ≡ 
       room-answer = rw (← judged-is, lines, ← change-is, kept)
 
       -- what was written, or nothing
-      pub answered-short : {after : List ℕ} {o : Written} → WrittenFirst (carriedText form s) before after o → o ≡ Short → Answered form s before after (Refused 8 0 0)
+      pub answered-short : {after : List ℕ} {o : Written} → WrittenFirst (carriedText form s) before after o → o ≡ Short
+          → Answered form s before after (Refused 8 0 0)
       unfolding roomAnswer bufferAfter
       answered-short w p = go (leb (length (carriedText form s)) (length before)) refl (sym p ∙ w .answer) (w .holds)
         where
-          go : (b : Bool) → leb (length (carriedText form s)) (length before) ≡ b → Short ≡ cond b (Count (length (carriedText form s))) Short
-              → {after : List ℕ} → after ≡ cond b (carriedText form s ++ drop (length (carriedText form s)) before) before → Answered form s before after (Refused 8 0 0)
-          go true q e h = let z : _≡_ {A = ℕ} 0 1 = cc in absurd (omega arith)
+          go : (b : Bool) → leb (length (carriedText form s)) (length before) ≡ b
+              → Short ≡ cond b (Count (length (carriedText form s))) Short
+              → {after : List ℕ} → after ≡ cond b (carriedText form s ++ drop (length (carriedText form s)) before) before
+              → Answered form s before after (Refused 8 0 0)
+          go true q e h = clash cc
           go false q e h =
-              record { answer-is = sym (room-answer ∙ rw (lt-ltb (length before) (length (carriedText form s)) (leb-false _ _ q))); buffer-is = h }
+              record {
+                answer-is = sym (room-answer ∙ rw (lt-ltb (length before) (length (carriedText form s)) (leb-false _ _ q)));
+                buffer-is = h;
+              }
 
-      pub answered-written : {after : List ℕ} {o : Written} {k : ℕ} → WrittenFirst (carriedText form s) before after o → o ≡ Count k → Answered form s before after (Bytes k)
+      pub answered-written : {after : List ℕ} {o : Written} {k : ℕ} → WrittenFirst (carriedText form s) before after o → o ≡ Count k
+          → Answered form s before after (Bytes k)
       unfolding roomAnswer bufferAfter
       answered-written {k = k} w p = go (leb (length (carriedText form s)) (length before)) refl (sym p ∙ w .answer) (w .holds)
         where
-          go : (b : Bool) → leb (length (carriedText form s)) (length before) ≡ b → Count k ≡ cond b (Count (length (carriedText form s))) Short
-              → {after : List ℕ} → after ≡ cond b (carriedText form s ++ drop (length (carriedText form s)) before) before → Answered form s before after (Bytes k)
+          go : (b : Bool) → leb (length (carriedText form s)) (length before) ≡ b
+              → Count k ≡ cond b (Count (length (carriedText form s))) Short
+              → {after : List ℕ} → after ≡ cond b (carriedText form s ++ drop (length (carriedText form s)) before) before
+              → Answered form s before after (Bytes k)
           go true q e h =
               let z : k ≡ length (carriedText form s) = cc in
               record {
                 answer-is = sym (room-answer ∙ rw (le-ltb (length before) (length (carriedText form s)) (leb-true _ _ q), z));
                 buffer-is = h ∙ rw z;
               }
-          go false q e h = let z : _≡_ {A = ℕ} 0 1 = cc in absurd (omega arith)
+          go false q e h = clash cc

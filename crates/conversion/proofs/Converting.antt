@@ -1,5 +1,4 @@
 -- Lines of values carried to a form one after the other: what holds when i of n are.
--- Assumes nothing.
 use Prim.Native.Nat.{ℕ, _+_, _*_, _-_, _≤_, _<_}
 use mathlib.Core.Path.{_≡_, refl, sym, ap, _∙_}
 use mathlib.Core.Logic.{_⊎_, inl, inr}
@@ -43,7 +42,8 @@ pub converting-start : (form : Form) (n : ℕ) (values before : List ℕ) → Co
 converting-start form n values before = record { within = omega arith; size = refl; lines = λ j h. absurd (omega arith) }
 
 pub converting-step : {form : Form} {n : ℕ} {values before u w row : List ℕ} {i : ℕ} → Converting form n values before u i → i < n
-    → Written (length (formOf form)) i row u w → row ≡ carried form (partAt (length (formOf (other form))) values i) → Converting form n values before w (i + 1)
+    → Written (length (formOf form)) i row u w → row ≡ carried form (partAt (length (formOf (other form))) values i)
+    → Converting form n values before w (i + 1)
 converting-step {form} {values = values} {w = w} {i = i} a h r e =
     record { within = omega arith; size = r .size ∙ a .size; lines = λ j l. at j (eq-or-lt-of-le (omega arith)) }
   where
@@ -51,8 +51,10 @@ converting-step {form} {values = values} {w = w} {i = i} a h r e =
     at j (inl q) = rw (q, r .part-is) e
     at j (inr l) = part-kept j r l ∙ a .lines j l
 
-pub converting-end : {form : Form} {n : ℕ} {values before after : List ℕ} {i : ℕ} → Converting form n values before after i → n ≤ i → Converted form n values before after
-converting-end {form} {n} {values} {after = after} a h = record { size = a .size; lines = ap (λ (k : ℕ). partsOf w k after) (sym count) ∙ parts-are w after ls each }
+pub converting-end : {form : Form} {n : ℕ} {values before after : List ℕ} {i : ℕ} → Converting form n values before after i → n ≤ i
+    → Converted form n values before after
+converting-end {form} {n} {values} {after = after} a
+    h = record { size = a .size; lines = ap (λ (k : ℕ). partsOf w k after) (sym count) ∙ parts-are w after ls each }
   where
     w : ℕ
     w = length (formOf form)

@@ -1,23 +1,20 @@
 -- A sheet of sound cases reads back: it is accepted by its own form, and its cases are those written. One law for both forms.
--- Assumes nothing.
 use Prim.Native.Nat.{ℕ, zero, suc, _+_, _*_, _-_, _≤_, _<_}
-use mathlib.Core.Path.{_≡_, refl, sym, ap, _∙_}
-use mathlib.Core.Bool.{true, false, not, cond, _&&_, _||_}
+use mathlib.Core.Path.{_≡_, refl, ap, _∙_}
+use mathlib.Core.Bool.{true, false}
 use mathlib.Core.List.{List, [], _∷_, _++_, map, append-nil}
-use native.Mathlib.Numerals.{add-one}
 use native.Mathlib.Nat.{mul-le-mul}
 use native.Mathlib.Omega.{arith}
-use lib.Dec.{eqb, ltb, leb}
-use lib.ListN.{length, getD, drop, length-append, length-map}
+use lib.Dec.{leb}
+use lib.ListN.{length, getD, length-append, length-map}
 use lib.Seq.{getD-append-add}
 use borrow.Author.Tests.{eq-eqb, ne-eqb, le-leb, lt-leb, le-ltb, leb-true}
 use Rattle.text.specs.Text.{linesOf, fieldsOf, same}
-use Rattle.text.specs.Value.{isValue, valueOf}
 use Rattle.case.specs.declared.Form.{Form as CodeForm}
 use Rattle.case.specs.declared.Form.the-variants.{Present, Former}
 use Rattle.case.specs.declared.Finding.the-variants as found
-use Rattle.case.specs.Columns.{Form, columns, formerColumns, nameCount, name-count, former-name-count, nameIndex}
-use Rattle.case.specs.Check.{countFrom, finding}
+use Rattle.case.specs.Columns.{columns, formerColumns, nameCount, nameIndex}
+use Rattle.case.specs.Check.{countFrom}
 use Rattle.case.specs.Parts.{formOf}
 use Rattle.case.proofs.Findings.{form-most}
 use Rattle.case.proofs.Values.{entries-from}
@@ -98,7 +95,8 @@ module _ (form : CodeForm) (v : List ℕ) (s : Sound (formOf form) v) where
   unfolding lineValues
   line-is = rw (line-numbers v some-values (sound-small form s), ← s .count) (in-order v)
 
-  line-finding : (earlier : List (List ℕ)) → repeats (formOf form) v earlier ≡ false → lineFinding (formOf form) (inOrder form) earlier (fieldsOf (valueLine v)) ≡ line.Sound
+  line-finding : (earlier : List (List ℕ)) → repeats (formOf form) v earlier ≡ false
+      → lineFinding (formOf form) (inOrder form) earlier (fieldsOf (valueLine v)) ≡ line.Sound
   unfolding lineFinding orFinding
   line-finding earlier r = rw (line-sound, line-is, values-sound (inOrder form) s, r)
 
@@ -106,9 +104,11 @@ lines-judged : (form : CodeForm) (earlier vs : List (List ℕ)) (n : ℕ) (sound
     → linesJudgement (formOf form) (inOrder form) earlier n sound (map valueLine vs) ≡ sound
 unfolding linesJudgement lineJudgement
 lines-judged form earlier [] n sound s = refl
-lines-judged form earlier (v ∷ vs) n sound s = rw (line-finding form v (s .0) earlier (s .1 .0), line-is form v (s .0)) (lines-judged form (v ∷ earlier) vs (suc n) sound (s .1 .1))
+lines-judged form earlier (v ∷ vs) n sound s =
+    rw (line-finding form v (s .0) earlier (s .1 .0), line-is form v (s .0)) (lines-judged form (v ∷ earlier) vs (suc n) sound (s .1 .1))
 
-lines-cases : (form : CodeForm) (earlier vs : List (List ℕ)) → SoundCases (formOf form) earlier vs → map (λ l. lineValues (inOrder form) (fieldsOf l)) (map valueLine vs) ≡ vs
+lines-cases : (form : CodeForm) (earlier vs : List (List ℕ)) → SoundCases (formOf form) earlier vs
+    → map (λ l. lineValues (inOrder form) (fieldsOf l)) (map valueLine vs) ≡ vs
 lines-cases form earlier [] s = refl
 lines-cases form earlier (v ∷ vs) s = rw (line-is form v (s .0), lines-cases form (v ∷ earlier) vs (s .1 .1))
 
@@ -126,7 +126,8 @@ last-byte l [] = rw append-nil (rw length-append (ap (λ (k : ℕ). getD (l ++ (
     last = omega arith
 last-byte l (m ∷ ls) =
     rw length-append
-    (ap (λ (k : ℕ). getD ((l ++ (10 ∷ [])) ++ textOf (m ∷ ls)) k 0) last ∙ getD-append-add (l ++ (10 ∷ [])) (textOf (m ∷ ls)) (length (textOf (m ∷ ls)) - 1) 0 ∙ last-byte m ls)
+    (ap (λ (k : ℕ). getD ((l ++ (10 ∷ [])) ++ textOf (m ∷ ls)) k 0) last ∙ getD-append-add (l ++ (10 ∷ [])) (textOf (m ∷ ls))
+    (length (textOf (m ∷ ls)) - 1) 0 ∙ last-byte m ls)
   where
     last : length (l ++ (10 ∷ [])) + length (textOf (m ∷ ls)) - 1 ≡ length (l ++ (10 ∷ [])) + (length (textOf (m ∷ ls)) - 1)
     last = omega (arith, text-some m ls)
@@ -171,5 +172,14 @@ module _ (form : CodeForm) (vs : List (List ℕ)) (s : SoundCases (formOf form) 
   unfolding judgement judgementWithin namesJudgement valuesJudgement
   accepted-back some most =
       let n : length (map valueLine vs) ≡ length vs = length-map vs valueLine in
-      rw (text-right most, names-are, names-sound form, names-columns form, values-are, n, ne-eqb (length vs) 0 (λ e. omega (arith, e)), le-ltb mostLines (length vs) most)
+      rw (
+        text-right most,
+        names-are,
+        names-sound form,
+        names-columns form,
+        values-are,
+        n,
+        ne-eqb (length vs) 0 (λ e. omega (arith, e)),
+        le-ltb mostLines (length vs) most,
+      )
       (lines-judged form [] vs 2 (Lines (length vs)) s)

@@ -1,6 +1,5 @@
--- Every accepted sheet carried over: the carried sheet is accepted by its form with a line for each case, its cases are the carried ones in their order, and
--- carried back it has the cases of the source. Document 02 (e).
--- Assumes nothing.
+-- Every accepted sheet carried over: the carried sheet is accepted by its form with a line for each case, its cases are the carried ones in
+-- their order, and carried back it has the cases of the source. Document 02 (e).
 use Prim.Native.Nat.{ℕ, _≤_}
 use mathlib.Core.Path.{_≡_, refl, ap, _∙_}
 use mathlib.Core.List.{List, [], map}
@@ -51,7 +50,8 @@ module _ (form : Form) (s : List ℕ) (n : ℕ) (e : judgement (formOf (other fo
   pub carried-accepted : judgement (formOf form) (carriedText form s) ≡ Lines n
   unfolding carriedText
   carried-accepted =
-      accepted-back form (map (carried form) (casesIn (formOf (other form)) s)) made (omega (arith, count, source .some)) (omega (arith, count, source .most)) ∙ ap Lines count
+      accepted-back form (map (carried form) (casesIn (formOf (other form)) s)) made (omega (arith, count, source .some))
+      (omega (arith, count, source .most)) ∙ ap Lines count
 
   -- its names are the form's, in the form's order
   pub carried-names : names (carriedText form s) ≡ map (λ c. c .name) (formOf form)
@@ -69,7 +69,8 @@ module _ (form : Form) (s : List ℕ) (n : ℕ) (e : judgement (formOf (other fo
   there-and-back k = ap (map (carried (other form))) carried-over ∙ restored form (casesIn (formOf (other form)) s) cases k
 
 -- both ways, sheet by sheet: the carried sheet is not refused on the way back, and what comes back has the source's cases
-module _ (form : Form) (s : List ℕ) (n : ℕ) (e : judgement (formOf (other form)) s ≡ Lines n) {m : ℕ} (k : changes form (casesIn (formOf (other form)) s) ≡ Lines m) where
+module _ (form : Form) (s : List ℕ) (n : ℕ) (e : judgement (formOf (other form)) s ≡ Lines n) {m : ℕ}
+    (k : changes form (casesIn (formOf (other form)) s) ≡ Lines m) where
   pub back-not-refused : changes (other form) (casesIn (formOf (other (other form))) (carriedText form s)) ≡ Lines 0
   back-not-refused = rw (other-twice form, carried-over form s n e) (nothing-left-out form (casesIn (formOf (other form)) s))
 

@@ -1,13 +1,13 @@
--- The cases of an accepted sheet: each is sound, and none has the station and season of an earlier one. Carried over they are so in the other form.
--- Assumes nothing.
-use Prim.Native.Nat.{ℕ, suc, _≤_, _<_}
-use mathlib.Core.Path.{_≡_, refl, sym, ap, _∙_}
-use mathlib.Core.Bool.{Bool, true, false, cond, _&&_, _||_}
+-- The cases of an accepted sheet: each is sound, and none has the station and season of an earlier one. Carried over they are so in the
+-- other form.
+use Prim.Native.Nat.{ℕ, suc}
+use mathlib.Core.Path.{_≡_, refl, _∙_}
+use mathlib.Core.Bool.{Bool, true, false, cond}
 use mathlib.Core.List.{List, [], _∷_, map}
-use native.Mathlib.Omega.{arith}
 use lib.Dec.{eqb}
 use lib.ListN.{length, length-map}
 use borrow.Author.Tests.{eq-eqb}
+use Rattle.text.proofs.Clash.{clash}
 use Rattle.text.specs.Text.{fieldsOf, same}
 use Rattle.case.specs.declared.Form.{Form as CodeForm}
 use Rattle.case.specs.declared.Form.the-variants.{Present, Former}
@@ -20,13 +20,12 @@ use Rattle.case.specs.Parts.{formOf}
 use Rattle.line.specs.Line.{wrongForm, lineValues}
 use Rattle.judgement.specs.declared.Judgement.{Judgement}
 use Rattle.judgement.specs.declared.Judgement.the-variants.{Lines}
-use Rattle.judgement.specs.declared.LineFinding.{LineFinding}
 use Rattle.judgement.specs.declared.LineFinding.the-variants as line
 use Rattle.judgement.specs.Findings.{orFinding, sameKey, repeats, lineFinding}
-use Rattle.judgement.specs.Sheet.{names, valueLines, linesJudgement}
+use Rattle.judgement.specs.Sheet.{valueLines, linesJudgement}
 use Rattle.judgement.specs.Accepted.{Accepted}
 use Rattle.judgement.proofs.LineJudged.{sound-line}
-use Rattle.writing.specs.Text.{allValues, allLines}
+use Rattle.writing.specs.Text.{allLines}
 use Rattle.conversion.specs.Values.{other, presentValues, formerValues, carried}
 use Rattle.conversion.specs.Sheet.{casesIn}
 use Rattle.conversion.proofs.Soundness.{Sound, sound-values, sound-small, carried-sound}
@@ -39,21 +38,25 @@ SoundCases form earlier (v ∷ vs) = Sound form v × ((repeats form v earlier �
 -- ---- of an accepted sheet
 
 -- what a sound line says of its values
-sound-parts : (b : Bool) (c : ℕ) (f : Finding) (r : Bool) → cond b (orFinding f (cond r line.Repeated line.Sound)) (line.Form c) ≡ line.Sound → (f ≡ found.Sound) × (r ≡ false)
+sound-parts : (b : Bool) (c : ℕ) (f : Finding) (r : Bool)
+    → cond b (orFinding f (cond r line.Repeated line.Sound)) (line.Form c) ≡ line.Sound → (f ≡ found.Sound) × (r ≡ false)
 unfolding orFinding
 sound-parts true c found.Sound false e = (refl, refl)
-sound-parts true c found.Sound true e = let z : _≡_ {A = ℕ} 0 1 = cc in absurd (omega arith)
-sound-parts true c (found.OutOfRange k) r e = let z : _≡_ {A = ℕ} 0 1 = cc in absurd (omega arith)
-sound-parts true c (found.Disagreement k) r e = let z : _≡_ {A = ℕ} 0 1 = cc in absurd (omega arith)
-sound-parts false c f r e = let z : _≡_ {A = ℕ} 0 1 = cc in absurd (omega arith)
+sound-parts true c found.Sound true e = clash cc
+sound-parts true c (found.OutOfRange k) r e = clash cc
+sound-parts true c (found.Disagreement k) r e = clash cc
+sound-parts false c f r e = clash cc
 
-lines-sound : (form : Form) (at : List ℕ) → Placed (length form) at → (earlier : List (List ℕ)) (n m : ℕ) (sound : Judgement) (ls : List (List ℕ))
+lines-sound : (form : Form) (at : List ℕ) → Placed (length form) at
+    → (earlier : List (List ℕ)) (n m : ℕ) (sound : Judgement) (ls : List (List ℕ))
     → linesJudgement form at earlier n sound ls ≡ Lines m → SoundCases form earlier (map (λ l. lineValues at (fieldsOf l)) ls)
 unfolding linesJudgement lineFinding lineValues
 lines-sound form at p earlier n m sound [] e = tt
 lines-sound form at p earlier n m sound (l ∷ ls) e =
     let f = sound-line n _ (lineFinding form at earlier (fieldsOf l)) refl e in
-    let q = sound-parts (eqb (wrongForm (length form) 1 (fieldsOf l)) 0) _ (finding form at (lineValues at (fieldsOf l))) (repeats form (lineValues at (fieldsOf l)) earlier) (f .0) in
+    let q =
+    sound-parts (eqb (wrongForm (length form) 1 (fieldsOf l)) 0) _ (finding form at (lineValues at (fieldsOf l)))
+    (repeats form (lineValues at (fieldsOf l)) earlier) (f .0) in
     (sound-values p (values-count l) (q .0), (q .1, lines-sound form at p (lineValues at (fieldsOf l) ∷ earlier) (suc n) m sound ls (f .1)))
   where
     values-count : (l : List ℕ) → length (lineValues at (fieldsOf l)) ≡ length form
@@ -70,7 +73,8 @@ unfolding sameKey named nameIndex same formOf other carried presentValues former
 carried-key Present v w = refl
 carried-key Former v w = refl
 
-carried-repeats : (form : CodeForm) (v : List ℕ) (earlier : List (List ℕ)) → repeats (formOf form) (carried form v) (map (carried form) earlier) ≡ repeats (formOf (other form)) v earlier
+carried-repeats : (form : CodeForm) (v : List ℕ) (earlier : List (List ℕ))
+    → repeats (formOf form) (carried form v) (map (carried form) earlier) ≡ repeats (formOf (other form)) v earlier
 unfolding repeats
 carried-repeats form v [] = refl
 carried-repeats form v (w ∷ earlier) = rw (carried-key form v w, carried-repeats form v earlier)
@@ -83,7 +87,9 @@ carried-cases form earlier (v ∷ vs) s =
 
 -- ---- cases that can be written
 
-pub all-lines : (form : CodeForm) (earlier vs : List (List ℕ)) → SoundCases (formOf form) earlier vs → allLines (length (formOf form)) vs ≡ true
+pub all-lines : (form : CodeForm) (earlier vs : List (List ℕ)) → SoundCases (formOf form) earlier vs
+    → allLines (length (formOf form)) vs ≡ true
 unfolding allLines
 all-lines form earlier [] s = refl
-all-lines form earlier (v ∷ vs) s = rw (eq-eqb (length v) (length (formOf form)) (s .0 .count), sound-small form (s .0), all-lines form (v ∷ earlier) vs (s .1 .1))
+all-lines form earlier (v ∷ vs) s =
+    rw (eq-eqb (length v) (length (formOf form)) (s .0 .count), sound-small form (s .0), all-lines form (v ∷ earlier) vs (s .1 .1))

@@ -1,21 +1,20 @@
--- Values that the checks of a form find sound: every value in its range, and those that must agree do. The columns of the names do not matter.
--- Assumes nothing.
-use Prim.Native.Nat.{ℕ, zero, suc, _≤_, _<_}
-use Prim.Native.String.{String}
-use mathlib.Core.Path.{_≡_, refl, sym, ap, _∙_}
+-- Values that the checks of a form find sound: every value in its range, and those that must agree do. The columns of the names do not
+-- matter.
+use Prim.Native.Nat.{ℕ, _≤_}
+use mathlib.Core.Path.{_≡_, refl}
 use mathlib.Core.Logic.{_⊎_, inl, inr}
-use mathlib.Core.Bool.{Bool, true, false, cond, _&&_, _||_}
+use mathlib.Core.Bool.{Bool, true, false, cond, _&&_}
 use mathlib.Core.List.{List, [], _∷_}
 use native.Mathlib.Omega.{arith}
 use lib.Dec.{T, leb, eqb, leb→le, eqb→eq}
 use lib.ListN.{length, getD}
 use borrow.Author.Tests.{le-leb, eqb-true}
-use Rattle.text.specs.Text.{bytes, same}
+use Rattle.text.proofs.Clash.{clash}
+use Rattle.text.specs.Text.{same}
 use Rattle.case.specs.declared.Form.{Form as CodeForm}
 use Rattle.case.specs.declared.Form.the-variants.{Present, Former}
-use Rattle.case.specs.declared.Finding.{Finding}
 use Rattle.case.specs.declared.Finding.the-variants as found
-use Rattle.case.specs.Columns.{Range, from, zeroOr, either, Form, inRange, columns, formerColumns, name-count, former-name-count, nameIndex, named}
+use Rattle.case.specs.Columns.{Range, from, zeroOr, either, Form, inRange, columns, formerColumns, nameIndex, named}
 use Rattle.case.specs.Check.{leftOf, outOfRange, agree, disagreement, finding}
 use Rattle.case.specs.Bounds.{Placed}
 use Rattle.case.specs.Parts.{rangeAt, formOf}
@@ -27,7 +26,8 @@ use Rattle.conversion.specs.Values.{other, presentValues, formerValues, 
 -- which values must agree
 unfoldable pub agreeing : Form → List ℕ → Bool
 agreeing form v =
-    agree (named form v "layer") (named form v "thick") && (agree (named form v "rods") (named form v "rodlen") && agree (named form v "rods") (named form v "place"))
+    agree (named form v "layer") (named form v "thick") &&
+    (agree (named form v "rods") (named form v "rodlen") && agree (named form v "rods") (named form v "place"))
 
 pub record Sound (form : Form) (v : List ℕ) : Type 0 where
   pub count : length v ≡ length form
@@ -36,24 +36,29 @@ pub record Sound (form : Form) (v : List ℕ) : Type 0 where
 
 -- ---- from the checks, and to them
 
-pub sound-values : {form : Form} {at v : List ℕ} → Placed (length form) at → length v ≡ length form → finding form at v ≡ found.Sound → Sound form v
+pub sound-values : {form : Form} {at v : List ℕ} → Placed (length form) at → length v ≡ length form → finding form at v ≡ found.Sound
+    → Sound form v
 unfolding finding disagreement agreeing
 sound-values {form} {at} {v} p n e = ranged (eqb (outOfRange form at v) 0) refl e
   where
-    agreed : (a b c : Bool) (x y : ℕ) → cond a (cond (b && c) found.Sound (found.Disagreement x)) (found.Disagreement y) ≡ found.Sound → (a && (b && c)) ≡ true
+    agreed : (a b c : Bool) (x y : ℕ) → cond a (cond (b && c) found.Sound (found.Disagreement x)) (found.Disagreement y) ≡ found.Sound
+        → (a && (b && c)) ≡ true
     agreed true true true x y h = refl
-    agreed true true false x y h = let z : _≡_ {A = ℕ} 0 1 = cc in absurd (omega arith)
-    agreed true false c x y h = let z : _≡_ {A = ℕ} 0 1 = cc in absurd (omega arith)
-    agreed false b c x y h = let z : _≡_ {A = ℕ} 0 1 = cc in absurd (omega arith)
+    agreed true true false x y h = clash cc
+    agreed true false c x y h = clash cc
+    agreed false b c x y h = clash cc
 
-    ranged : (b : Bool) → eqb (outOfRange form at v) 0 ≡ b → cond b (disagreement form at v) (found.OutOfRange (outOfRange form at v)) ≡ found.Sound → Sound form v
+    ranged : (b : Bool) → eqb (outOfRange form at v) 0 ≡ b
+        → cond b (disagreement form at v) (found.OutOfRange (outOfRange form at v)) ≡ found.Sound → Sound form v
     ranged true q h =
         record {
           count = n;
           ranges = in-range form at v (p .count) (some-columns at (length form) (p .count) (p .some)) (eqb-true (outOfRange form at v) 0 q);
-          agrees = agreed (agree (named form v "layer") (named form v "thick")) (agree (named form v "rods") (named form v "rodlen")) (agree (named form v "rods") (named form v "place")) _ _ h;
+          agrees =
+              agreed (agree (named form v "layer") (named form v "thick")) (agree (named form v "rods") (named form v "rodlen"))
+              (agree (named form v "rods") (named form v "place")) _ _ h;
         }
-    ranged false q h = let z : _≡_ {A = ℕ} 0 1 = cc in absurd (omega arith)
+    ranged false q h = clash cc
 
 none-outside : (form : Form) (at v : List ℕ) → InRange form v → outOfRange form at v ≡ 0
 unfolding outOfRange
@@ -70,13 +75,15 @@ pub values-sound : {form : Form} {v : List ℕ} (at : List ℕ) → Sound form v
 unfolding finding disagreement agreeing
 values-sound {form} {v} at s =
     rw (none-outside form at v (s .ranges))
-    (agreed (agree (named form v "layer") (named form v "thick")) (agree (named form v "rods") (named form v "rodlen")) (agree (named form v "rods") (named form v "place")) _ _ (s .agrees))
+    (agreed (agree (named form v "layer") (named form v "thick")) (agree (named form v "rods") (named form v "rodlen"))
+    (agree (named form v "rods") (named form v "place")) _ _ (s .agrees))
   where
-    agreed : (a b c : Bool) (x y : ℕ) → (a && (b && c)) ≡ true → cond a (cond (b && c) found.Sound (found.Disagreement x)) (found.Disagreement y) ≡ found.Sound
+    agreed : (a b c : Bool) (x y : ℕ) → (a && (b && c)) ≡ true
+        → cond a (cond (b && c) found.Sound (found.Disagreement x)) (found.Disagreement y) ≡ found.Sound
     agreed true true true x y h = refl
-    agreed true true false x y h = let z : _≡_ {A = ℕ} 0 1 = cc in absurd (omega arith)
-    agreed true false c x y h = let z : _≡_ {A = ℕ} 0 1 = cc in absurd (omega arith)
-    agreed false b c x y h = let z : _≡_ {A = ℕ} 0 1 = cc in absurd (omega arith)
+    agreed true true false x y h = clash cc
+    agreed true false c x y h = clash cc
+    agreed false b c x y h = clash cc
 
 -- ---- values in range have at most six digits
 
@@ -128,15 +135,61 @@ carried-sound Present v s =
     let at : (i : ℕ) → T (inRange (rangeAt formerColumns i) (getD v i 0)) = in-range-at formerColumns v (s .count) (s .ranges) in
     record {
       count = refl;
-      ranges =
-          (at 0, (at 1, (at 2, (at 3, (at 4, (at 5, (at 5, (at 5, (at 6, (at 7, (at 8, (at 9, (at 10, (at 10, (at 11, (at 12, (at 13, (at 14, (at 15, (at 16, (at 17, (tt, tt))))))))))))))))))))));
+      ranges = (
+        at 0,
+        (
+          at 1,
+          (
+            at 2,
+            (
+              at 3,
+              (
+                at 4,
+                (
+                  at 5,
+                  (
+                    at 5,
+                    (
+                      at 5,
+                      (at 6, (at 7, (at 8, (at 9, (at 10, (at 10, (at 11, (at 12, (at 13, (at 14, (at 15, (at 16, (at 17, (tt, tt)))))))))))))),
+                    ),
+                  ),
+                ),
+              ),
+            ),
+          ),
+        ),
+      );
       agrees = s .agrees;
     }
 carried-sound Former v s =
     let at : (i : ℕ) → T (inRange (rangeAt columns i) (getD v i 0)) = in-range-at columns v (s .count) (s .ranges) in
     record {
       count = refl;
-      ranges =
-          (at 0, (at 1, (at 2, (at 3, (at 4, (at 5, (at 8, (at 9, (at 10, (at 11, (at 12, (at 14, (at 15, (at 16, (at 17, (at 18, (at 19, (at 20, tt))))))))))))))))));
+      ranges = (
+        at 0,
+        (
+          at 1,
+          (
+            at 2,
+            (
+              at 3,
+              (
+                at 4,
+                (
+                  at 5,
+                  (
+                    at 8,
+                    (
+                      at 9,
+                      (at 10, (at 11, (at 12, (at 14, (at 15, (at 16, (at 17, (at 18, (at 19, (at 20, tt)))))))))),
+                    ),
+                  ),
+                ),
+              ),
+            ),
+          ),
+        ),
+      );
       agrees = s .agrees;
     }

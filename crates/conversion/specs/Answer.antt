@@ -1,8 +1,7 @@
 -- What a sheet carried over is, or why it is refused. Document 02 (e).
--- Assumes nothing.
 use Prim.Native.Nat.{ℕ, suc}
 use mathlib.Core.Path.{_≡_}
-use mathlib.Core.Bool.{Bool, cond, _&&_}
+use mathlib.Core.Bool.{cond, _&&_}
 use mathlib.Core.List.{List, [], _∷_, _++_, map}
 use lib.Dec.{eqb, ltb}
 use lib.ListN.{length, drop}
@@ -20,7 +19,8 @@ use Rattle.conversion.specs.Sheet.{casesIn, sheetOf}
 
 -- ---- "On the way back a line is then refused, with its line and column 0"
 
--- "9 when its three times are not equal; 10 when across and along differ; 11 when hz is not 60; in that order on each line", or what follows
+-- "9 when its three times are not equal; 10 when across and along differ; 11 when hz is not 60; in that order on each line", or what
+-- follows
 unfoldable pub lineChange : ℕ → Judgement → List ℕ → Judgement
 lineChange line next v =
     cond (eqb (named columns v "shock") (named columns v "clear") && eqb (named columns v "clear") (named columns v "wire"))
@@ -64,8 +64,8 @@ unfoldable pub bufferAfter : Form → List ℕ → List ℕ → Carried → List
 bufferAfter form s before (Bytes count) = carriedText form s ++ drop count before
 bufferAfter form s before (Refused number line column) = before
 
--- the answer and what it leaves in the buffer. Two wrong programs: one that writes before it refuses breaks `buffer-is`; one that tests the counts before the
--- times breaks `answer-is`.
+-- the answer and what it leaves in the buffer. Two wrong programs: one that writes before it refuses breaks `buffer-is`; one that tests the
+-- counts before the times breaks `answer-is`.
 pub record Answered (form : Form) (s before after : List ℕ) (r : Carried) : Type 0 where
   pub answer-is : r ≡ answer form s (length before)
   pub buffer-is : after ≡ bufferAfter form s before r

@@ -1,11 +1,10 @@
 -- Document 01's sample sheet carried over, and lines that cannot go back. Document 02 (e).
--- Assumes nothing.
 use Prim.Native.Nat.{ℕ}
 use mathlib.Core.Path.{_≡_, refl}
 use mathlib.Core.List.{List, [], _∷_, _++_, map}
 use Rattle.text.specs.Text.{bytes, onFirst, linesOf, fieldsOf, same}
 use Rattle.text.specs.Value.{numberFrom, valueOf}
-use Rattle.case.specs.declared.Form.the-variants.{Present, Former}
+use Rattle.case.specs.declared.Form.the-variants.{Present}
 use Rattle.case.specs.Columns.{columns, formerColumns, nameIndex, named}
 use Rattle.case.specs.Parts.{formOf}
 use Rattle.header.specs.Header.{noColumns, columnsFrom, columnsOf}
@@ -22,12 +21,14 @@ use Rattle.conversion.specs.Answer.{lineChange, changesFrom, carriedText
 former : List ℕ
 former =
     bytes "metal,season,station,soil,layer,thick,ms,body,fault,split,xr,lines,space,depth,dia,rods,rodlen,place\n"
-    ++ bytes "1,1,7,400,2500,102,500,70,3180,600,10,11,7000,500,100,0,0,0\n" ++ bytes "1,2,7,100,2500,102,500,70,3180,600,10,11,7000,500,100,0,0,0\n"
+    ++ bytes "1,1,7,400,2500,102,500,70,3180,600,10,11,7000,500,100,0,0,0\n" ++ bytes
+    "1,2,7,100,2500,102,500,70,3180,600,10,11,7000,500,100,0,0,0\n"
 
 present : List ℕ
 present =
     bytes "station,season,soil,layer,thick,shock,clear,wire,body,fault,split,xr,across,along,space,depth,dia,rods,rodlen,place,metal,hz\n"
-    ++ bytes "7,1,400,2500,102,500,500,500,70,3180,600,10,11,11,7000,500,100,0,0,0,1,60\n" ++ bytes "7,2,100,2500,102,500,500,500,70,3180,600,10,11,11,7000,500,100,0,0,0,1,60\n"
+    ++ bytes "7,1,400,2500,102,500,500,500,70,3180,600,10,11,11,7000,500,100,0,0,0,1,60\n" ++ bytes
+    "7,2,100,2500,102,500,500,500,70,3180,600,10,11,11,7000,500,100,0,0,0,1,60\n"
 
 carried-on : carriedText Present former ≡ present
 unfolding former present onFirst linesOf fieldsOf same numberFrom valueOf columns formerColumns nameIndex named formOf noColumns columnsFrom columnsOf lineValues names valueLines digitsIn digitCount lastDigits decimal moreFields parted ended textOf valueLine sheetText other presentValues formerValues carried casesIn sheetOf carriedText

@@ -1,5 +1,4 @@
 -- What the parts of carrying a sheet over promise.
--- Assumes nothing.
 use Prim.Native.Nat.{ℕ}
 use mathlib.Core.Path.{_≡_}
 use mathlib.Core.List.{List, map}

@@ -1,5 +1,4 @@
 -- A sheet of cases, each as its values in the order of a form.
--- Assumes nothing.
 use Prim.Native.Nat.{ℕ}
 use mathlib.Core.List.{List, map}
 use Rattle.text.specs.Text.{fieldsOf}

@@ -1,6 +1,5 @@
--- The values of a case in either form. Document 02 (e): "with ms copied to the three times, lines to both counts, and hz 60, columns in document 01's
--- order with new ones in place of the old and hz last. It must also go back, to document 01's own names and order".
--- Assumes nothing.
+-- The values of a case in either form. Document 02 (e): "with ms copied to the three times, lines to both counts, and hz 60, columns in
+-- document 01's order with new ones in place of the old and hz last. It must also go back, to document 01's own names and order".
 use Prim.Native.Nat.{ℕ}
 use Prim.Native.String.{String}
 use mathlib.Core.List.{List, [], _∷_}
@@ -17,14 +16,16 @@ other Former = Present
 unfoldable pub presentValues : List ℕ → List ℕ
 presentValues v =
     let the : String → ℕ = named formerColumns v in
-    the "station" ∷ the "season" ∷ the "soil" ∷ the "layer" ∷ the "thick" ∷ the "ms" ∷ the "ms" ∷ the "ms" ∷ the "body" ∷ the "fault" ∷ the "split" ∷ the "xr"
+    the "station" ∷ the "season" ∷ the "soil" ∷ the "layer" ∷ the "thick" ∷ the "ms" ∷ the "ms" ∷ the "ms" ∷ the "body" ∷ the "fault" ∷ the
+    "split" ∷ the "xr"
     ∷ the "lines" ∷ the "lines" ∷ the "space" ∷ the "depth" ∷ the "dia" ∷ the "rods" ∷ the "rodlen" ∷ the "place" ∷ the "metal" ∷ 60 ∷ []
 
 -- document 01's own values of a case, from today's
 unfoldable pub formerValues : List ℕ → List ℕ
 formerValues v =
     let the : String → ℕ = named columns v in
-    the "station" ∷ the "season" ∷ the "soil" ∷ the "layer" ∷ the "thick" ∷ the "shock" ∷ the "body" ∷ the "fault" ∷ the "split" ∷ the "xr" ∷ the "across"
+    the "station" ∷ the "season" ∷ the "soil" ∷ the "layer" ∷ the "thick" ∷ the "shock" ∷ the "body" ∷ the "fault" ∷ the "split" ∷ the "xr"
+    ∷ the "across"
     ∷ the "space" ∷ the "depth" ∷ the "dia" ∷ the "rods" ∷ the "rodlen" ∷ the "place" ∷ the "metal" ∷ []
 
 -- the values of a case in a form, from those in the other

@@ -1,5 +1,4 @@
 -- The grid current: where its ends lie, how far they are apart, and what they enclose.
--- Assumes nothing.
 use Prim.Native.Nat.{ℕ, _+_, _*_, _/_, _^_, _≤_, _<_}
 use mathlib.Core.Path.{refl}
 use native.Mathlib.Omega.{arith}
@@ -35,7 +34,8 @@ near : (k a b L U : ℕ) → b ≤ a + 500 → 1000000000 ≤ a → U * 10 ^ 6 <
 near k a b L U h p u l = omega (arith, mul-le-mul-right k h, mul-le-mul-right k p, u, l)
 
 -- 1/2,000,000 and 2 are within 1/500,000 and 2
-within-allowed : (a b : ℕ) → 2000000 * b ≤ 2000001 * a + 2000000 * 2 → AtMost (currentWidth (reported μA (natural a b))) (reported μA (natural a b))
+within-allowed : (a b : ℕ) → 2000000 * b ≤ 2000001 * a + 2000000 * 2
+    → AtMost (currentWidth (reported μA (natural a b))) (reported μA (natural a b))
 unfolding currentWidth reported μA ten over natural decimal _·f_ _+f_ _−f_ neg
 within-allowed a b h = record { apart = record { le = omega arith } }
 
@@ -58,7 +58,8 @@ module _ {c : Case} (b : Bounds c) where
   pub entering-span : Span (scaledOf (factorEnds c) (c .fault * c .split)) 100000000000 178885440000000000 40000000000
   entering-span =
       let k = entering-bounds in
-      span-wider (span-scaled (c .fault * c .split) (factor-span b)) (omega (arith, k .low)) (omega (arith, k .high)) (omega (arith, k .high))
+      span-wider (span-scaled (c .fault * c .split) (factor-span b)) (omega (arith, k .low)) (omega (arith, k .high))
+      (omega (arith, k .high))
 
   pub current-encloses : Encloses (IG c) μA (currentEnds c)
   unfolding IG currentEnds μA billionths ten

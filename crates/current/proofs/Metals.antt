@@ -1,9 +1,8 @@
 -- Every metal of a case has its Kf.
--- Assumes nothing.
 use Prim.Native.Nat.{ℕ}
 use mathlib.Core.Path.{_≡_}
-use native.Mathlib.Omega.{arith}
 use borrow.Author.Tests.{le-leb}
+use Rattle.text.proofs.Clash.{clash}
 use Rattle.case.specs.Bounds.{Between}
 use Rattle.formulas.specs.Size as Size
 use Rattle.current.specs.Metal.{constantOf}
@@ -21,4 +20,4 @@ module _ {m : ℕ} (b : Between 1 m 11) where
 
   -- and something is found
   pub kf-missing : {r : Constant} → r ≡ constantOf m → r ≡ Unknown → ⊥
-  kf-missing e f = let k = known in let z : _≡_ {A = ℕ} 0 1 = cc in omega arith
+  kf-missing e f = let k = known in clash cc

@@ -1,6 +1,5 @@
 -- No more of the fault current enters the grid, all else equal but shock time and body: the factor stays, and the grid current's ends
 -- fall or stay.
--- Assumes nothing.
 use Prim.Native.Nat.{ℕ, _*_, _≤_}
 use mathlib.Core.Path.{_≡_, refl}
 use lib.Dec.{lit<}

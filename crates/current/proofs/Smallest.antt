@@ -1,5 +1,4 @@
 -- The smallest number for the rounded square is the conductor size.
--- Assumes nothing.
 use Prim.Native.Nat.{ℕ, _*_, _<_}
 use mathlib.Core.Path.{_≡_, ap}
 use native.Mathlib.Omega.{arith}

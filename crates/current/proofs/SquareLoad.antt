@@ -1,5 +1,4 @@
 -- The square of I·Kf times t by three parts: it fits 64 bits, and rounding up four times rounds up once.
--- Assumes nothing.
 use Prim.Native.Nat.{ℕ, _+_, _*_, _/_, _%_, _^_, _≤_, _<_}
 use mathlib.Core.Path.{_≡_}
 use native.Mathlib.Omega.{arith}
@@ -31,11 +30,13 @@ part-small {p} {q} {ms} hp hq hm =
 
 -- ---- the value: p is a part, l what is carried from it
 
-sum-low : (p0 p1 p2 p3 p4 l1 l2 l3 l4 : ℕ) → p0 + 0 ≤ l1 * 1000000 → p1 + l1 ≤ l2 * 1000000 → p2 + l2 ≤ l3 * 1000000 → p3 + l3 ≤ l4 * 1000000
+sum-low : (p0 p1 p2 p3 p4 l1 l2 l3 l4 : ℕ) → p0 + 0 ≤ l1 * 1000000 → p1 + l1 ≤ l2 * 1000000 → p2 + l2 ≤ l3 * 1000000
+    → p3 + l3 ≤ l4 * 1000000
     → p4 * 10 ^ 24 + p3 * 10 ^ 18 + p2 * 10 ^ 12 + p1 * 10 ^ 6 + p0 ≤ (p4 + l4) * 10 ^ 24
 sum-low p0 p1 p2 p3 p4 l1 l2 l3 l4 a b c d = omega arith
 
-sum-high : (p0 p1 p2 p3 p4 l1 l2 l3 l4 : ℕ) → l1 * 1000000 < p0 + 0 + 1000000 → l2 * 1000000 < p1 + l1 + 1000000 → l3 * 1000000 < p2 + l2 + 1000000
+sum-high : (p0 p1 p2 p3 p4 l1 l2 l3 l4 : ℕ) → l1 * 1000000 < p0 + 0 + 1000000 → l2 * 1000000 < p1 + l1 + 1000000
+    → l3 * 1000000 < p2 + l2 + 1000000
     → l4 * 1000000 < p3 + l3 + 1000000
     → (p4 + l4) * 10 ^ 24 < p4 * 10 ^ 24 + p3 * 10 ^ 18 + p2 * 10 ^ 12 + p1 * 10 ^ 6 + p0 + 10 ^ 24
 sum-high p0 p1 p2 p3 p4 l1 l2 l3 l4 a b c d = omega arith
@@ -89,7 +90,14 @@ module _ (u v w ms : ℕ) where
     pub middle-small : middle ≤ 24000000000000000
     unfolding middle
     middle-small =
-        omega (arith, carried-small (2 * u * w * ms + v * v * ms) low, part-small (twice (h .upper)) (h .lower) (h .time), part-small {p = v} (omega arith) (h .middle) (h .time), low-small)
+        omega (
+          arith,
+          carried-small (2 * u * w * ms + v * v * ms) low,
+          part-small (twice (h .upper)) (h .lower) (h .time),
+          part-small
+              {p = v} (omega arith) (h .middle) (h .time),
+          low-small,
+        )
 
     pub high-small : high ≤ 30000000000000000
     unfolding high

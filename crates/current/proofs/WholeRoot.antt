@@ -1,5 +1,4 @@
 -- The whole root of t / 10^7, or the next number, is the smallest whose square times 10^7 is at least t.
--- Assumes nothing.
 use Prim.Native.Nat.{ℕ, _+_, _*_, _/_, _≤_, _<_, _^_}
 use native.Mathlib.Omega.{arith}
 use native.Mathlib.Nat.{mul-le-mul}

@@ -1,5 +1,4 @@
 -- What the table of metals has for a number.
--- Assumes nothing.
 use Prim.Native.Nat.{ℕ}
 use mathlib.Core.Bool.{cond, _&&_}
 use lib.Dec.{leb}

@@ -1,5 +1,4 @@
 -- How the conductor size is worked within 64 bits: the square of I·Kf times t, in units that lose nothing by rounding up.
--- Assumes nothing.
 use Prim.Native.Nat.{ℕ, _+_, _*_, _/_, _%_, _≤_, _<_}
 use Rattle.interval.specs.Whole.{ceilDiv}
 

@@ -1,6 +1,5 @@
 -- The ends of the decrement factor include the exact value's ends. Each line follows its formula's line; of 2tf/Ta and Ta/tf first the two
 -- divisions are made one.
--- Assumes nothing.
 use Prim.Native.Nat.{ℕ, _+_, _*_, _/_, _^_, _≤_, _<_}
 use mathlib.Core.Path.{refl, ap}
 use native.Mathlib.Omega.{arith}
@@ -46,7 +45,8 @@ use Rattle.exponential.proofs.Encloses.{power-encloses}
 use Rattle.case.specs.declared.Case.{Case}
 use Rattle.case.specs.Bounds.{Bounds}
 use Rattle.formulas.specs.Decrement.{Ta, tf, Df}
-use Rattle.formulas.proofs.Decrement.{exponent, ratio, rest, offset, underRoot, two-pos, xr-pos, tf-pos, twice-pos, quantity-turns, quantity-Ta, quantity-ratio, quantity-exponent, consistent-power, consistent-rest, consistent-offset}
+use Rattle.formulas.proofs.Decrement.{exponent, ratio, rest, offset, underRoot, two-pos, xr-pos, tf-pos, twice-pos, quantity-turns}
+use Rattle.formulas.proofs.Decrement.{quantity-Ta, quantity-ratio, quantity-exponent, consistent-power, consistent-rest, consistent-offset}
 use Rattle.formulas.proofs.Quantities.{one}
 use Rattle.decrement.specs.Ends.{exponentEnds, ratioEnds, restEnds, squareEnds, factorEnds}
 
@@ -192,7 +192,8 @@ module _ {c : Case} (b : Bounds c) where
     unfolding ratioEnds ten
     ratio-encloses =
         encloses-same ratio-same
-        (encloses-quotient {u = ten 0} (ten 9) (10 ^ 18) refl (span-divisor p s .0) (consistent-exactly (whole 2)) (quantity-exponent b .consistent)
+        (encloses-quotient {u = ten 0} (ten 9) (10 ^ 18) refl (span-divisor p s .0) (consistent-exactly (whole 2))
+        (quantity-exponent b .consistent)
         (encloses-whole 2 (ten 0) refl) exponent-encloses)
 
     pub rest-encloses : Encloses (rest c) (ten 9) (restEnds c)

@@ -1,5 +1,4 @@
 -- The ends of the decrement factor are right: they hold it and are at most 1,000 billionths apart.
--- Assumes nothing.
 use Prim.Native.Nat.{ℕ, _+_, _≤_}
 use native.Mathlib.Omega.{arith}
 use lib.Dec.{lit≤}

@@ -1,5 +1,4 @@
 -- Sizes and widths of the exponent 2tf/Ta, of 2 over it, and of 1 − e^(−2tf/Ta).
--- Assumes nothing.
 use Prim.Native.Nat.{ℕ, _+_, _-_, _*_, _/_, _^_, _≤_, _<_}
 use mathlib.Core.Path.{_≡_, sym, ap, _∙_}
 use native.Mathlib.Omega.{arith}
@@ -55,7 +54,8 @@ ratio-near a b h k =
     let w : 3 * billion * (b - a) ≤ 6 * billion + a = omega arith in
     apart (b - a) a w h (mul-le-mul-right a h)
   where
-    apart : (w a : ℕ) → 3 * billion * w ≤ 6 * billion + a → 141371669 ≤ a → 141371669 * a ≤ a * a → (2 * w + b * 0) * 10 ^ 18 ≤ 206 * (a * a)
+    apart : (w a : ℕ) → 3 * billion * w ≤ 6 * billion + a → 141371669 ≤ a → 141371669 * a ≤ a * a
+        → (2 * w + b * 0) * 10 ^ 18 ≤ 206 * (a * a)
     apart w a h k l = omega arith
 
 -- the width of e^−q, 5(b − a) + 20·2^j, by a: p is 2^j
@@ -131,7 +131,8 @@ module _ {c : Case} (h : Bounds c) where
   pub ratio-span : Span (ratioEnds c) 0 ratioHigh 207
   unfolding ratioEnds ratioHigh
   ratio-span =
-      span-quotient (10 ^ 18) 0 ratioHigh 206 low-pos (omega arith) (ceilDiv-above (2 * 10 ^ 18) low-pos) (ratio-near exponentLow exponentHigh low-from ends-near)
+      span-quotient (10 ^ 18) 0 ratioHigh 206 low-pos (omega arith) (ceilDiv-above (2 * 10 ^ 18) low-pos)
+      (ratio-near exponentLow exponentHigh low-from ends-near)
       (span-point 2 {l = 2} {h = 2} (lit≤ tt) (lit≤ tt)) ends-span
 
   -- ---- 1 − e^−q
@@ -153,7 +154,8 @@ module _ {c : Case} (h : Bounds c) where
   pub rest-span : Span (restEnds c) 0 billion powerWidth
   unfolding restEnds
   rest-span =
-      span-wider (span-difference (lit≤ tt) (span-point billion {l = billion} {h = billion} (lit≤ tt) (lit≤ tt)) power-span) (omega arith) (omega arith)
+      span-wider (span-difference (lit≤ tt) (span-point billion {l = billion} {h = billion} (lit≤ tt) (lit≤ tt)) power-span) (omega arith)
+      (omega arith)
       (omega arith)
 
   -- its upper end is 1 less the lower end of e^−q
@@ -179,7 +181,8 @@ module _ {c : Case} (h : Bounds c) where
 
   pub rest-high-span : Span (restEnds c) 0 restHigh powerWidth
   unfolding restHigh
-  rest-high-span = let s = rest-span in record { a = s .a; b = s .b; is = s .is; from = s .from; order = s .order; to = omega arith; near = s .near }
+  rest-high-span =
+      let s = rest-span in record { a = s .a; b = s .b; is = s .is; from = s .from; order = s .order; to = omega arith; near = s .near }
 
   pub rest-most : restHigh ≤ billion
   unfolding restHigh

@@ -1,5 +1,4 @@
 -- Sizes and widths of the decrement factor and of its square.
--- Assumes nothing.
 use Prim.Native.Nat.{ℕ, zero, suc, _+_, _-_, _*_, _/_, _^_, _≤_, _<_}
 use mathlib.Core.Path.{_≡_, refl}
 use native.Mathlib.Omega.{arith}
@@ -18,7 +17,8 @@ use Rattle.exponential.proofs.Sizes.{halvings-reach, halvings-least, nested-siz
 use Rattle.case.specs.declared.Case.{Case}
 use Rattle.case.specs.Bounds.{Bounds}
 use Rattle.decrement.specs.Ends.{ratioEnds, restEnds, squareEnds, factorEnds}
-use Rattle.decrement.proofs.Spans.{exponentLow, exponentHigh, ratioHigh, powerWidth, restHigh, low-to, low-high, ends-near, ratio-high, ratio-most, ratio-span, power-width, rest-high-is, rest-high-span, rest-most}
+use Rattle.decrement.proofs.Spans.{exponentLow, exponentHigh, ratioHigh, powerWidth, restHigh, low-to, low-high, ends-near}
+use Rattle.decrement.proofs.Spans.{ratio-high, ratio-most, ratio-span, power-width, rest-high-is, rest-high-span, rest-most}
 
 -- ---- the product of 1 − e^−q and 2/q: r is 2/q at the exponent's lower end a
 
@@ -127,12 +127,18 @@ module _ {c : Case} (h : Bounds c) where
   pub product-span : Span (productOf (restEnds c) (ratioEnds c) billion) 0 4000000009 811
   product-span =
       span-product billion 0 4000000009 810 (lit< tt) (omega arith) product-most
-      (omega (arith, rest-most h, share-near (exponentLow h) (ratioHigh h) (powerWidth h) (low-to h) (ratio-high h) (ratio-most h) (power-width h)))
+      (omega (
+        arith,
+        rest-most h,
+        share-near (exponentLow h) (ratioHigh h) (powerWidth h) (low-to h) (ratio-high h) (ratio-most h)
+            (power-width h),
+      ))
       (rest-high-span h) (ratio-span h)
 
   pub square-span : Span (squareEnds c) billion 5000000009 811
   unfolding squareEnds
-  square-span = span-wider (span-sum (span-point billion {l = billion} {h = billion} (lit≤ tt) (lit≤ tt)) product-span) (lit≤ tt) (lit≤ tt) (lit≤ tt)
+  square-span =
+      span-wider (span-sum (span-point billion {l = billion} {h = billion} (lit≤ tt) (lit≤ tt)) product-span) (lit≤ tt) (lit≤ tt) (lit≤ tt)
 
   -- from 1 to √5, and at most 500 billionths wide
   pub factor-span : Span (factorEnds c) billion 2236068000 500

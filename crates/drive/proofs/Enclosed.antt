@@ -1,5 +1,4 @@
 -- The ends of ρ·Ki·IG include the exact value's ends. Code works Ki·(ρ·IG).
--- Assumes nothing.
 use Prim.Native.Nat.{_^_}
 use mathlib.Core.Path.{refl}
 use lib.Dec.{lit≤}
@@ -40,7 +39,8 @@ module _ {c : Case} (b : Bounds c) where
       let R = proper-at (quantity-ρ b .consistent) (lit≤ tt) in
       let K = proper-at (quantity-Ki b .consistent) (lit≤ tt) in
       let I = proper-at (quantity-IG b .consistent) (lit≤ tt) in
-      same-trans (product-same (product-turned (exactly (ρ c) workDepth) (Ki c workDepth)) (same-refl (IG c workDepth))) (product-grouped K R I)
+      same-trans (product-same (product-turned (exactly (ρ c) workDepth) (Ki c workDepth)) (same-refl (IG c workDepth)))
+      (product-grouped K R I)
 
   pub drive-encloses : Encloses (exactly (ρ c) ·x Ki c ·x IG c) (ten 9) (driveEnds c)
   unfolding driveEnds ten

@@ -1,5 +1,4 @@
 -- No more of the fault current enters the grid, all else equal but shock time and body: the ends of ρ·Ki·IG fall or stay.
--- Assumes nothing.
 use Prim.Native.Nat.{ℕ, _*_, _≤_}
 use lib.Dec.{lit<}
 use Rattle.interval.proofs.Below.{Below, below-scaled, below-product}

@@ -1,6 +1,5 @@
--- What the widths of mesh and step voltage refer to, ρ·Ki·IG with Ki worked with na and the current's upper end: the lower end of ρ·Ki·IG is at
--- most 1.24 of it.
--- Assumes nothing.
+-- What the widths of mesh and step voltage refer to, ρ·Ki·IG with Ki worked with na and the current's upper end: the lower end of ρ·Ki·IG
+-- is at most 1.24 of it.
 use Prim.Native.Nat.{ℕ, _+_, _*_, _^_, _≤_, _<_}
 use mathlib.Core.Path.{_≡_, ap}
 use native.Mathlib.Omega.{arith}
@@ -62,7 +61,12 @@ module _ {c : Case} (b : Bounds c) where
       let i = currentLow b * c .soil in
       let lower : low b * (100 * half) ≤ 124 * (644 * half + 148 * spacings (c .across) (c .along)) * i
       = le-of-mul-le-mul-right {k = 10 ^ 7}
-      (omega (arith, mul-le-mul-right (100 * halfPerimeter (c .across) (c .along)) (low-below b), mul-le-mul-right i (number-known (counts b) .by-na)))
+      (omega (
+        arith,
+        mul-le-mul-right (100 * halfPerimeter (c .across) (c .along)) (low-below b),
+        mul-le-mul-right i
+            (number-known (counts b) .by-na),
+      ))
       (lit< tt) in
       le-trans lower (mul-le-mul-left _ (mul-le-mul-right (c .soil) (current-order b)))
 
@@ -74,7 +78,8 @@ module _ {c : Case} (b : Bounds c) where
       let same : ratio p half h ≈f na c = sym≈ (trans≈ (na-is b) (ratio-is p half h)) in
       rw upper-is
       (trans≤ (by-counts (low b) (c .soil) (currentHigh b) p half h within-na)
-      (cong· (refl≈ (decimal 124 2)) (cong· (cong· (refl≈ (whole (c .soil))) (cong+ (refl≈ (decimal 644 3)) (cong· (refl≈ (decimal 148 3)) same))) (refl≈ _)) .to))
+      (cong· (refl≈ (decimal 124 2)) (cong· (cong· (refl≈ (whole (c .soil)))
+      (cong+ (refl≈ (decimal 644 3)) (cong· (refl≈ (decimal 148 3)) same))) (refl≈ _)) .to))
 
   -- over a length
   module _ (len : Fraction) where
@@ -93,7 +98,8 @@ module _ {c : Case} (b : Bounds c) where
         trans≤ h (trans≤ (div≤ len reference-above) (mul-assoc (decimal 124 2) (ρ c ·f referenceKi c ·f upperCurrent) (inv len) .to))
 
     -- the width that document 02 allows, from a share of the lower end over the length and an extra
-    pub reference-width : {q share extra : Fraction} {A : Ends} → whole 0 ≤f share → share ·f decimal 124 2 ≤f decimal 1 5 → extra ≤f decimal 10 3
+    pub reference-width : {q share extra : Fraction} {A : Ends} → whole 0 ≤f share → share ·f decimal 124 2 ≤f decimal 1 5
+        → extra ≤f decimal 10 3
         → q ≤f over (pos (low b)) (ten 9) ÷f len → AtMost (share ·f q +f extra) A
         → AtMost (decimal 1 5 ·f (ρ c ·f referenceKi c ·f reported μA (currentEnds c) .upper ÷f len) +f decimal 10 3) A
     unfolding reference
@@ -101,5 +107,6 @@ module _ {c : Case} (b : Bounds c) where
         record {
           apart =
               trans≤ (w .apart)
-              (mono+ (trans≤ (mul-left≤ n (reference-over h)) (trans≤ (mul-assoc share (decimal 124 2) reference .fro) (mul≤ reference-nonneg s))) e);
+              (mono+ (trans≤ (mul-left≤ n (reference-over h))
+              (trans≤ (mul-assoc share (decimal 124 2) reference .fro) (mul≤ reference-nonneg s))) e);
         }

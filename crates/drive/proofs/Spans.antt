@@ -1,5 +1,4 @@
 -- Sizes and width of ρ·Ki·IG.
--- Assumes nothing.
 use Prim.Native.Nat.{ℕ, _+_, _*_, _/_, _^_, _≤_, _<_}
 use mathlib.Core.Path.{_≡_}
 use native.Mathlib.Omega.{arith}
@@ -26,11 +25,12 @@ use Rattle.conductors.proofs.NumberEnclosed.{counts}
 use Rattle.current.specs.Ends.{currentEnds}
 use Rattle.drive.specs.Ends.{numberOf, soilCurrent, driveEnds}
 
--- Ki times ρ·IG, rounded to A and B: k x and l y, with Ki's ends k to l at most 1/31,000,000 apart and the current's at most 1/2,000,000 and 2;
--- s is the soil's share of those 2, m the length of the conductors
+-- Ki times ρ·IG, rounded to A and B: k x and l y, with Ki's ends k to l at most 1/31,000,000 apart and the current's at most 1/2,000,000
+-- and 2; s is the soil's share of those 2, m the length of the conductors
 near : (k l x y s A B m : ℕ) → 31000000 * l ≤ 31000001 * k → 2000000 * y ≤ 2000001 * x + 4000000 * s → l * s ≤ 4700000000 * m
     → B * 10 ^ 7 < l * y + 10 ^ 7 → k * x < A * 10 ^ 7 + 10 ^ 7 → 1870000 * B ≤ 1870001 * A + 1870000 * (3 + 940 * m)
-near k l x y s A B m p q t u v = apart (k * x) (l * x) (l * y) (l * s) (omega (arith, mul-le-mul-right x p)) (omega (arith, mul-le-mul-left l q)) t u v
+near k l x y s A B m p q t u v =
+    apart (k * x) (l * x) (l * y) (l * s) (omega (arith, mul-le-mul-right x p)) (omega (arith, mul-le-mul-left l q)) t u v
   where
     apart : (kx lx ly ls : ℕ) → 31000000 * lx ≤ 31000001 * kx → 2000000 * ly ≤ 2000001 * lx + 4000000 * ls → ls ≤ 4700000000 * m
         → B * 10 ^ 7 < ly + 10 ^ 7 → kx < A * 10 ^ 7 + 10 ^ 7 → 1870000 * B ≤ 1870001 * A + 1870000 * (3 + 940 * m)
@@ -95,7 +95,9 @@ module _ {c : Case} (b : Bounds c) where
   unfolding k l
   Ki-near =
       let s = Ki-span (counts b) in
-      let e = relative-ends _ _ {per = 31000000} {extra = 0} (Ki-is (counts b)) (record { a = s .a; b = s .b; is = s .is; near = omega (arith, s .near, s .from) }) in
+      let e =
+      relative-ends _ _ {per = 31000000} {extra = 0} (Ki-is (counts b))
+      (record { a = s .a; b = s .b; is = s .is; near = omega (arith, s .near, s .from) }) in
       omega (arith, e)
 
   -- the ends of Ki times ρ·IG

@@ -1,5 +1,4 @@
 -- The ends of ρ·Ki·IG, which mesh and step voltage share, by whole-number intervals. Names for the free part: callers use their laws.
--- Assumes nothing.
 use Prim.Native.Nat.{_^_}
 use Rattle.interval.specs.declared.Interval.{Interval}
 use Rattle.interval.specs.Operations.{scaledOf, productOf}

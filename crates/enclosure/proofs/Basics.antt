@@ -1,11 +1,10 @@
 -- What an interval encloses by itself: fractions, a wider interval, another scale.
--- Assumes nothing.
 use Prim.Native.Nat.{ℕ, _*_}
 use mathlib.Core.Path.{_≡_}
 use lib.IntN.{ℤ, pos}
 use lib.Dec.{lit≤}
 use lib.Signed.{_≤ℤ_}
-use Rattle.interval.specs.Operations.{point, scaledOf, outwardOf}
+use Rattle.interval.specs.Operations.{point, outwardOf}
 use Rattle.interval.specs.declared.Interval.{Interval}
 use Rattle.exact.specs.Fraction.{Fraction, _≤f_, _≈f_, whole, decimal}
 use Rattle.exact.specs.Exact.{Exact, exactly, Holds}
@@ -14,9 +13,8 @@ use Rattle.exact.specs.Reported.{Scale, ten, over, reported}
 use Rattle.exact.proofs.Consistency.{proper-at}
 use Rattle.exact.proofs.Holding.{holds-depth}
 use Rattle.exact.proofs.Inclusion.{within-exactly, within-same, within-trans, proper-within}
-use Rattle.exact.proofs.Reported.{reported-within}
 use Rattle.enclosure.specs.Enclosure.{Encloses}
-use Rattle.enclosure.proofs.Counts.{over-le, over-scaled, over-floor, over-ceil, whole-count, decimal-count}
+use Rattle.enclosure.proofs.Counts.{over-le, over-floor, over-ceil, whole-count, decimal-count}
 
 -- "A reported pair holds the exact value": at every depth
 pub holds : {x : Exact} {u : Scale} {i : Interval} → Consistent x → Encloses x u i → Holds (reported u i) x
@@ -37,7 +35,8 @@ encloses-same s e = record { within = within-trans (within-same s) (e .within) }
 
 -- ---- fractions
 
-pub encloses-exactly : {q : Fraction} {u : Scale} {i : Interval} → over (i .lower) u ≤f q → q ≤f over (i .upper) u → Encloses (exactly q) u i
+pub encloses-exactly : {q : Fraction} {u : Scale} {i : Interval} → over (i .lower) u ≤f q → q ≤f over (i .upper) u
+    → Encloses (exactly q) u i
 unfolding reported
 encloses-exactly l h = record { within = within-exactly workDepth (record { low = l; high = h }) }
 
@@ -49,7 +48,8 @@ pub encloses-whole : (n : ℕ) {m : ℕ} (u : Scale) → m ≡ n * u .count → 
 encloses-whole n u e = encloses-count _ u (whole-count n u e)
 
 -- n · 10^−e in a unit k times as fine
-pub encloses-decimal : (n e k : ℕ) {m : ℕ} (u : Scale) → (ten e) .count * k ≡ u .count → m ≡ n * k → Encloses (exactly (decimal n e)) u (point (pos m))
+pub encloses-decimal : (n e k : ℕ) {m : ℕ} (u : Scale) → (ten e) .count * k ≡ u .count → m ≡ n * k
+    → Encloses (exactly (decimal n e)) u (point (pos m))
 encloses-decimal n e k u f g = encloses-count _ u (decimal-count n e k u f g)
 
 -- ---- wider, finer, coarser
@@ -57,16 +57,7 @@ encloses-decimal n e k u f g = encloses-count _ u (decimal-count n e k u f g)
 encloses-within : {x : Exact} {u w : Scale} {i j : Interval} → Within (reported u i) (reported w j) → Encloses x u i → Encloses x w j
 encloses-within h e = record { within = within-trans (e .within) h }
 
-pub encloses-wider : {x : Exact} {u : Scale} {i j : Interval} → j .lower ≤ℤ i .lower → i .upper ≤ℤ j .upper → Encloses x u i → Encloses x u j
-encloses-wider {u = u} l h e = encloses-within (reported-within u l h) e
-
 module _ {x : Exact} {u : Scale} {i : Interval} (w : Scale) where
-  -- in a unit k times as fine
-  pub encloses-scaled : (k : ℕ) → u .count * k ≡ w .count → Encloses x u i → Encloses x w (scaledOf i k)
-  unfolding reported scaledOf
-  encloses-scaled k s e =
-      encloses-within (record { low = over-scaled (i .lower) u w k s .to; high = over-scaled (i .upper) u w k s .fro }) e
-
   -- in a unit den times as coarse
   pub encloses-outward : (den : ℕ) → w .count * den ≡ u .count → Encloses x u i → Encloses x w (outwardOf i den)
   unfolding reported outwardOf

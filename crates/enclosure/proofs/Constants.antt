@@ -1,5 +1,4 @@
 -- π and √20, computed.
--- Assumes nothing.
 use mathlib.Core.Path.{refl}
 use lib.Dec.{lit<, lit≤}
 use Rattle.interval.specs.Operations.{natural}

@@ -1,6 +1,5 @@
 -- Counts of one unit against counts of another: scaled, rounded down and rounded up.
--- Assumes nothing.
-use Prim.Native.Nat.{ℕ, zero, suc, _+_, _*_, _<_}
+use Prim.Native.Nat.{ℕ, zero, suc, _*_, _<_}
 use mathlib.Core.Path.{_≡_, ap, sym, _∙_}
 use native.Mathlib.Omega.{arith}
 use native.Mathlib.Nat.{mul-le-mul-right, le-of-mul-le-mul-right}
@@ -10,12 +9,11 @@ use Rattle.interval.specs.Signed.{plus, minus}
 use Rattle.interval.specs.Whole.{floorZ, ceilZ}
 use Rattle.interval.proofs.Signed.{scale-plus, scale-minus, halves-le}
 use Rattle.interval.proofs.Rounding.{ceil-above}
-use Rattle.exact.specs.Fraction.{Fraction, _≤f_, _≈f_, whole, decimal, _+f_, _·f_}
+use Rattle.exact.specs.Fraction.{Fraction, _≤f_, _≈f_, whole, decimal, _·f_}
 use Rattle.exact.specs.Reported.{Scale, ten, over}
 use Rattle.exact.proofs.Order.{sym≈, trans≈}
-use Rattle.exact.proofs.Sums.{cong+}
 use Rattle.exact.proofs.Products.{cong·}
-use Rattle.exact.proofs.Reported.{scaleProduct, over-down, over-sum, over-mul}
+use Rattle.exact.proofs.Reported.{scaleProduct, over-down, over-mul}
 
 -- the order of counts is that of their values
 pub over-le : {a b : ℤ} (u : Scale) → over a u ≤f over b u → a ≤ℤ b
@@ -74,21 +72,6 @@ pub decimal-count : (n e k : ℕ) {m : ℕ} (u : Scale) → (ten e) .count * k �
 unfolding decimal over ten
 decimal-count n e k {m} u f g = omega (arith, ap (λ t. n * t) f, ap (λ t. t * (ten e) .count) g)
 
-pub count-sum : {p q : Fraction} (a b : ℕ) (u : Scale) → p ≈f over (pos a) u → q ≈f over (pos b) u → p +f q ≈f over (pos (a + b)) u
-count-sum a b u h k = trans≈ (cong+ h k) (sym≈ (over-sum (pos a) (pos b) u))
-
 pub count-product : {p q : Fraction} (a b : ℕ) (u v : Scale) → p ≈f over (pos a) u → q ≈f over (pos b) v
     → p ·f q ≈f over (pos (a * b)) (scaleProduct u v)
 count-product a b u v h k = trans≈ (cong· h k) (sym≈ (over-mul (pos a) (pos b) u v))
-
--- in a unit k times as fine
-pub count-scaled : {p : Fraction} (a : ℕ) (u w : Scale) (k : ℕ) → u .count * k ≡ w .count → p ≈f over (pos a) u → p ≈f over (pos (a * k)) w
-count-scaled a u w k e h = trans≈ h (sym≈ (over-scaled (pos a) u w k e))
-
--- two scales of one count
-pub count-same : {p : Fraction} (z : ℤ) (u w : Scale) → u .count ≡ w .count → p ≈f over z u → p ≈f over z w
-unfolding over
-count-same z u w e h = trans≈ h same
-  where
-    same : over z u ≈f over z w
-    same = omega (arith, ap (λ t. plus z * t) e, ap (λ t. minus z * t) e)

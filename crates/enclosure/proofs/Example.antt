@@ -1,5 +1,4 @@
 -- How a formula's enclosure follows its line: n / √t, with t in milliseconds and the result in thousandths.
--- Assumes nothing.
 use Prim.Native.Nat.{ℕ, _*_, _≤_}
 use mathlib.Core.Path.{refl}
 use native.Mathlib.Omega.{arith}

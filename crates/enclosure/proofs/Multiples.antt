@@ -1,5 +1,4 @@
 -- A fraction times a value: the ends times the fraction's count.
--- Assumes nothing.
 use Prim.Native.Nat.{ℕ, _*_}
 use mathlib.Core.Path.{_≡_, ap}
 use native.Mathlib.Omega.{arith}
@@ -36,7 +35,8 @@ unfolding over whole
 over-nonneg k v = record { le = omega arith }
 
 -- the ends times a fraction, rounded outward
-pub encloses-rounded : {x : Exact} {u w : Scale} {a b : Interval} (q : Fraction) → whole 0 ≤f q → over (b .lower) w ≤f q ·f over (a .lower) u
+pub encloses-rounded : {x : Exact} {u w : Scale} {a b : Interval} (q : Fraction) → whole 0 ≤f q
+    → over (b .lower) w ≤f q ·f over (a .lower) u
     → q ·f over (a .upper) u ≤f over (b .upper) w → Consistent x → Encloses x u a → Encloses (exactly q ·x x) w b
 unfolding reported _·x_
 encloses-rounded q n low high c e =

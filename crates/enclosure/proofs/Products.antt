@@ -1,5 +1,4 @@
 -- Products: each product of ends is between the least and the greatest, and rounding outward keeps that.
--- Assumes nothing.
 use Prim.Native.Nat.{ℕ, _*_}
 use mathlib.Core.Path.{_≡_}
 use lib.Dec.{lit≤}

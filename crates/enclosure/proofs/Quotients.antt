@@ -1,5 +1,4 @@
 -- Quotients by an interval above 0: each quotient of ends is between the least and the greatest, rounded outward.
--- Assumes nothing.
 use Prim.Native.Nat.{ℕ, _*_, _<_}
 use mathlib.Core.Path.{_≡_, sym, ap, _∙_, subst}
 use native.Mathlib.Omega.{arith}
@@ -37,8 +36,10 @@ module _ (z : ℤ) (k : ℕ) {c : ℕ} (hc : 0 < c) (u v w : Scale) (s : k * u .
   dividend : (plus ((z *ℤ pos (v .count)) *ℤ pos (w .count)) ≡ plus (z *ℤ pos k) * u .count)
       × (minus ((z *ℤ pos (v .count)) *ℤ pos (w .count)) ≡ minus (z *ℤ pos k) * u .count)
   dividend = (
-    scale-plus (z *ℤ pos (v .count)) (w .count) ∙ crossed (plus z) _ (scale-plus z (v .count)) ∙ ap (λ t. t * u .count) (sym (scale-plus z k)),
-    scale-minus (z *ℤ pos (v .count)) (w .count) ∙ crossed (minus z) _ (scale-minus z (v .count)) ∙ ap (λ t. t * u .count) (sym (scale-minus z k)),
+    scale-plus (z *ℤ pos (v .count)) (w .count) ∙ crossed (plus z) _ (scale-plus z (v .count)) ∙ ap (λ t. t * u .count)
+        (sym (scale-plus z k)),
+    scale-minus (z *ℤ pos (v .count)) (w .count) ∙ crossed (minus z) _ (scale-minus z (v .count)) ∙ ap (λ t. t * u .count)
+        (sym (scale-minus z k)),
   )
 
   rounded-low : over (floorZ (z *ℤ pos k) c) w ≤f over z u ÷f over (pos c) v

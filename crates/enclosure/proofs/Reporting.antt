@@ -1,5 +1,4 @@
 -- A pair that encloses a consistent value, and is no wider than allowed, is a right report of it.
--- Assumes nothing.
 use Rattle.interval.specs.declared.Interval.{Interval}
 use Rattle.exact.specs.Fraction.{Fraction}
 use Rattle.exact.specs.Ends.{Ends}

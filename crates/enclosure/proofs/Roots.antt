@@ -1,5 +1,4 @@
 -- Roots: by powers of the ends, and square roots by what `root_ends` gives.
--- Assumes nothing.
 use Prim.Native.Nat.{ℕ, _+_, _*_, _^_, _≤_, _<_}
 use mathlib.Core.Path.{_≡_}
 use native.Mathlib.Omega.{arith}

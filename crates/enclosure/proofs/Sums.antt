@@ -1,18 +1,17 @@
 -- Sums, differences and whole multiples.
--- Assumes nothing.
 use Prim.Native.Nat.{ℕ}
 use lib.Dec.{lit≤}
 use Rattle.interval.specs.Operations.{sumOf, differenceOf, minusOf, scaledOf}
 use Rattle.interval.specs.declared.Interval.{Interval}
-use Rattle.exact.specs.Fraction.{_≤f_, whole}
+use Rattle.exact.specs.Fraction.{whole}
 use Rattle.exact.specs.Ends.{minusEnds}
-use Rattle.exact.specs.Exact.{Exact, exactly, _+x_, _−x_, _·x_, minus}
+use Rattle.exact.specs.Exact.{Exact, exactly, _+x_, _−x_, _·x_}
 use Rattle.exact.specs.Depth.{workDepth, Consistent, Within}
 use Rattle.exact.specs.Reported.{Scale, reported}
 use Rattle.exact.proofs.Order.{trans≤, nonneg}
 use Rattle.exact.proofs.Products.{mul-left≤}
 use Rattle.exact.proofs.Consistency.{proper-at}
-use Rattle.exact.proofs.Inclusion.{within-sum, within-difference, within-minus, within-trans, within-same}
+use Rattle.exact.proofs.Inclusion.{within-sum, within-difference, within-trans, within-same}
 use Rattle.exact.proofs.KnownEnds.{sumEnds, differenceEnds, sum-ends, difference-ends, scaled-ends}
 use Rattle.exact.proofs.Reported.{over-neg, over-sum, over-difference}
 use Rattle.enclosure.specs.Enclosure.{Encloses}
@@ -29,7 +28,8 @@ module _ (u : Scale) (a b : Interval) where
   difference-within =
       record { low = over-difference (a .lower) (b .upper) u .to; high = over-difference (a .upper) (b .lower) u .fro }
 
-module _ {x y : Exact} {u : Scale} {a b : Interval} (cx : Consistent x) (cy : Consistent y) (ex : Encloses x u a) (ey : Encloses y u b) where
+module _ {x y : Exact} {u : Scale} {a b : Interval} (cx : Consistent x) (cy : Consistent y) (ex : Encloses x u a)
+    (ey : Encloses y u b) where
   pub encloses-sum : Encloses (x +x y) u (sumOf a b)
   encloses-sum =
       record {
@@ -47,7 +47,8 @@ module _ {x y : Exact} {u : Scale} {a b : Interval} (cx : Consistent x) (cy : Co
       }
 
 -- k times a value, in the same unit
-pub encloses-times : {x : Exact} {u : Scale} {a : Interval} (k : ℕ) → Consistent x → Encloses x u a → Encloses (exactly (whole k) ·x x) u (scaledOf a k)
+pub encloses-times : {x : Exact} {u : Scale} {a : Interval} (k : ℕ) → Consistent x → Encloses x u a
+    → Encloses (exactly (whole k) ·x x) u (scaledOf a k)
 unfolding reported scaledOf _·x_
 encloses-times {x} {u} {a} k c e =
     let s = scaled-ends workDepth (nonneg k) (proper-at c (lit≤ tt)) in
@@ -64,6 +65,3 @@ encloses-times {x} {u} {a} k c e =
 pub minus-within : (u : Scale) (a : Interval) → Within (minusEnds (reported u a)) (reported u (minusOf a))
 unfolding minusEnds reported minusOf
 minus-within u a = record { low = over-neg (a .upper) u .to; high = over-neg (a .lower) u .fro }
-
-pub encloses-minus : {x : Exact} {u : Scale} {a : Interval} → Encloses x u a → Encloses (minus x) u (minusOf a)
-encloses-minus {x} {u} {a} e = record { within = within-trans (within-minus x workDepth (e .within)) (minus-within u a) }

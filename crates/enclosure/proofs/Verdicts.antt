@@ -1,17 +1,10 @@
 -- Which of two values is above, by two intervals of one unit; and how far apart the reported ends are.
--- Assumes nothing.
-use Prim.Native.Nat.{ℕ}
-use native.Mathlib.Omega.{arith}
-use native.Mathlib.Nat.{mul-le-mul-right}
 use lib.Dec.{lit≤}
-use lib.IntN.{pos}
 use lib.Signed.{_≤ℤ_, _<ℤ_}
-use Rattle.interval.specs.Operations.{Narrow}
 use Rattle.interval.specs.declared.Interval.{Interval}
-use Rattle.exact.specs.Fraction.{_≤f_, _+f_, neg, _−f_}
 use Rattle.exact.specs.Exact.{Exact, Above, AtOrBelow}
 use Rattle.exact.specs.Depth.{Consistent}
-use Rattle.exact.specs.Reported.{Scale, over, reported}
+use Rattle.exact.specs.Reported.{Scale, reported}
 use Rattle.exact.proofs.Reported.{over≤, over<}
 use Rattle.exact.proofs.Verdict.{at-or-below, above}
 use Rattle.enclosure.specs.Enclosure.{Encloses}
@@ -27,8 +20,3 @@ encloses-at-or-below {u = u} cx cy ex ey h = at-or-below (holds cx ex) (holds cy
 pub encloses-above : {x y : Exact} {u : Scale} {i j : Interval} → Encloses x u i → Encloses y u j → j .upper <ℤ i .lower → Above x y
 unfolding reported
 encloses-above {u = u} ex ey h = above (lit≤ tt) (ex .within) (ey .within) (over< u h)
-
--- at most n units apart
-pub narrow-reported : (u : Scale) {i : Interval} {n : ℕ} → Narrow i n → (reported u i) .upper −f (reported u i) .lower ≤f over (pos n) u
-unfolding reported over _−f_ _+f_ neg
-narrow-reported u h = omega (arith, mul-le-mul-right (u .count) (mul-le-mul-right (u .count) (h .narrow)))

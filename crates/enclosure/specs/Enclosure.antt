@@ -1,6 +1,5 @@
 -- A reported pair that includes an exact value's ends at one depth: all that code shows of its ends. With consistency it holds the value at
 -- every depth.
--- Assumes nothing.
 use Rattle.interval.specs.declared.Interval.{Interval}
 use Rattle.exact.specs.Exact.{Exact}
 use Rattle.exact.specs.Reported.{Scale, reported}

@@ -1,5 +1,4 @@
 -- The ends of π in 10^−9.
--- Assumes nothing.
 use Prim.Native.Nat.{ℕ}
 use Rattle.interval.specs.declared.Interval.{Interval}
 use Rattle.interval.specs.Operations.{natural}

@@ -1,5 +1,4 @@
 -- The whole part of a square root, and the pair of it and the next number.
--- Assumes nothing.
 use Prim.Native.Nat.{ℕ, _+_, _*_}
 use Rattle.interval.specs.declared.Interval.{Interval}
 use Rattle.interval.specs.Operations.{natural}

@@ -1,8 +1,8 @@
 -- A root against a fraction, and a multiple of it: above exactly where its powers are.
--- Assumes nothing.
 use Prim.Native.Nat.{ℕ, zero, suc, _+_, _*_, _^_, _≤_, _<_}
 use native.Mathlib.Omega.{arith}
-use native.Mathlib.Nat.{mul-le-mul-right, mul-le-mul-left, mul-lt-mul-of-pos-right, le-of-mul-le-mul-right, lt-of-mul-lt-mul-right, one-le-pow, pow-suc, pow-zero}
+use native.Mathlib.Nat.{mul-le-mul-right, mul-le-mul-left, mul-lt-mul-of-pos-right, le-of-mul-le-mul-right, lt-of-mul-lt-mul-right}
+use native.Mathlib.Nat.{one-le-pow, pow-suc, pow-zero}
 use lib.IntN.{pos}
 use Rattle.exact.specs.Fraction.{Fraction, _≤f_, _<f_, _≈f_, whole, decimal, _·f_, top}
 use Rattle.exact.specs.Exact.{Exact, exactly, _·x_, Above, AtOrBelow}

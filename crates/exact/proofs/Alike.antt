@@ -1,12 +1,11 @@
--- Operations on pairs with the same ends have the same ends; a quotient is a product by the inverse pair. All rests on one test: a pair that
--- has each outcome among its points includes the combination.
--- Assumes nothing.
-use Rattle.exact.specs.Fraction.{Fraction, _≤f_, _≈f_, _+f_, _−f_, _·f_, inv, _÷f_}
-use Rattle.exact.specs.Ends.{Ends, combine, _+e_, _−e_, _·e_, _÷e_}
+-- Operations on pairs with the same ends have the same ends; a quotient is a product by the inverse pair. All rests on one test: a pair
+-- that has each outcome among its points includes the combination.
+use Rattle.exact.specs.Fraction.{Fraction, _≤f_, _≈f_, _+f_, _·f_, inv, _÷f_}
+use Rattle.exact.specs.Ends.{Ends, combine, _+e_, _·e_, _÷e_}
 use Rattle.exact.specs.Depth.{Within, Proper, Positive, SameEnds}
 use Rattle.exact.proofs.Order.{lt-of-lt-of-le}
 use Rattle.exact.proofs.Outcomes.{Outcomes, lower≤, ≤upper, lower-of, upper-of}
-use Rattle.exact.proofs.Sums.{cong+, cong−}
+use Rattle.exact.proofs.Sums.{cong+}
 use Rattle.exact.proofs.Products.{cong·}
 use Rattle.exact.proofs.Quotients.{inv≤}
 use Rattle.exact.proofs.Divisors.{inv-cong}
@@ -62,10 +61,6 @@ module _ {A A′ B B′ : Ends} (s : SameEnds A A′) (t : SameEnds B B′) wher
   pub sum-same : SameEnds (A +e B) (A′ +e B′)
   unfolding _+e_
   sum-same = combine-same _+f_ (λ a b c d e f. cong+ e f) s t
-
-  pub difference-same : SameEnds (A −e B) (A′ −e B′)
-  unfolding _−e_
-  difference-same = combine-same _−f_ (λ a b c d e f. cong− e f) s t
 
   pub product-same : SameEnds (A ·e B) (A′ ·e B′)
   unfolding _·e_

@@ -1,5 +1,4 @@
 -- A series of falling terms with changing signs: an even number of them is not above an odd number of them.
--- Assumes nothing.
 use Prim.Native.Nat.{ℕ, zero, suc, _+_, _*_}
 use mathlib.Core.Path.{_≡_, refl}
 use native.Mathlib.Omega.{arith}

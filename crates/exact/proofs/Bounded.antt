@@ -1,5 +1,5 @@
--- Bounds on the ends of a value at every depth: lower ends not below a fraction, upper ends not above one, of roots, products and quotients.
--- Assumes nothing.
+-- Bounds on the ends of a value at every depth: lower ends not below a fraction, upper ends not above one, of roots, products and
+-- quotients.
 use Prim.Native.Nat.{ℕ, suc, _-_, _*_, _^_, _≤_, _<_}
 use mathlib.Core.Path.{_≡_, ap, _∙_}
 use native.Mathlib.Omega.{arith}
@@ -25,12 +25,14 @@ pub record NotAbove (a : Fraction) (x : Exact) : Type 0 where
 
 -- ---- products with a fraction and quotients
 
-pub not-above-times : {a : Fraction} {x : Exact} (q : Fraction) → whole 0 ≤f q → Consistent x → NotAbove a x → NotAbove (q ·f a) (exactly q ·x x)
+pub not-above-times : {a : Fraction} {x : Exact} (q : Fraction) → whole 0 ≤f q → Consistent x → NotAbove a x
+    → NotAbove (q ·f a) (exactly q ·x x)
 unfolding _·x_
 not-above-times q n c l =
     record { most = λ k d. trans≤ (scaled-ends k n (proper-at c d) .uppers .to) (mul-left≤ n (l .most k d)) }
 
-pub at-least-quotient : {a b : Fraction} {x y : Exact} → whole 0 ≤f a → Consistent x → Consistent y → PositiveAt y → AtLeast a x → NotAbove b y
+pub at-least-quotient : {a b : Fraction} {x y : Exact} → whole 0 ≤f a → Consistent x → Consistent y → PositiveAt y → AtLeast a x
+    → NotAbove b y
     → AtLeast (a ÷f b) (x ÷x y)
 unfolding _÷x_
 at-least-quotient n cx cy p l m =

@@ -1,5 +1,4 @@
 -- Values at small depths and at depth 12, computed.
--- Assumes nothing.
 use Prim.Native.Nat.{ℕ}
 use mathlib.Core.Path.{refl}
 use native.Mathlib.Decide.{decLe}

@@ -1,6 +1,5 @@
 -- The depths of a value do not contradict each other: kept by each operation, since two pairs with a common point combine to
 -- pairs with a common point (Points.antt).
--- Assumes nothing.
 use Prim.Native.Nat.{ℕ, _≤_}
 use Rattle.exact.specs.Fraction.{Fraction, _≤f_, _+f_, _−f_, _·f_, _÷f_, maxf}
 use Rattle.exact.specs.Ends.{Ends, combine, _+e_, _−e_, _·e_, _÷e_, minusEnds}

@@ -1,6 +1,5 @@
 -- Quotients brought to one divisor.
--- Assumes nothing.
-use Rattle.exact.specs.Fraction.{Fraction, _≤f_, _<f_, _≈f_, whole, _+f_, neg, _−f_, _·f_, inv, _÷f_}
+use Rattle.exact.specs.Fraction.{Fraction, _<f_, _≈f_, whole, _+f_, neg, _−f_, _·f_, inv, _÷f_}
 use Rattle.exact.proofs.Order.{lt-of-lt-of-le, refl≈, sym≈, trans≈}
 use Rattle.exact.proofs.Sums.{cong+, neg≤}
 use Rattle.exact.proofs.Products.{mul-comm, mul-assoc, mul-neg, add-mul, cong·, mul-pos}

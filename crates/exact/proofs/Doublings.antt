@@ -1,5 +1,4 @@
 -- The count j of e^q, the least for which q / 2^j is at most 1/2: it grows with q. And a power that grows from halving to halving.
--- Assumes nothing.
 use Prim.Native.Nat.{ℕ, suc, _+_, _*_, _^_, _≤_}
 use mathlib.Core.Path.{_≡_, ap}
 use native.Mathlib.Omega.{arith}

@@ -1,9 +1,8 @@
 -- Fractions as exact values: an operation on two fractions is the operation on the values that are exactly these.
--- Assumes nothing.
 use Prim.Native.Nat.{ℕ}
-use Rattle.exact.specs.Fraction.{Fraction, _≈f_, _+f_, _−f_, _·f_, _÷f_}
-use Rattle.exact.specs.Ends.{Ends, combine, _+e_, _−e_, _·e_, _÷e_}
-use Rattle.exact.specs.Exact.{exactly, _+x_, _−x_, _·x_, _÷x_}
+use Rattle.exact.specs.Fraction.{Fraction, _≈f_, _−f_, _·f_, _÷f_}
+use Rattle.exact.specs.Ends.{Ends, combine, _−e_, _·e_, _÷e_}
+use Rattle.exact.specs.Exact.{exactly, _−x_, _·x_, _÷x_}
 use Rattle.exact.specs.Depth.{SameEnds}
 use Rattle.exact.proofs.Order.{refl≈}
 use Rattle.exact.proofs.Outcomes.{lower-of, upper-of}
@@ -23,10 +22,6 @@ module _ (p q : Fraction) (k : ℕ) where
         lowers = lower-of op P Q (λ o. o ≈f op p q) (record { first = e; second = e; third = e; fourth = e });
         uppers = upper-of op P Q (λ o. o ≈f op p q) (record { first = e; second = e; third = e; fourth = e });
       }
-
-  pub exactly-sum : SameEnds ((exactly p +x exactly q) k) (exactly (p +f q) k)
-  unfolding _+x_ _+e_
-  exactly-sum = one-outcome _+f_
 
   pub exactly-difference : SameEnds ((exactly p −x exactly q) k) (exactly (p −f q) k)
   unfolding _−x_ _−e_

@@ -1,5 +1,4 @@
 -- The greatest number at which a function is not above a limit: it is such a number, and the next one is not.
--- Assumes nothing.
 use Prim.Native.Nat.{ℕ, zero, suc, _≤_, _<_}
 use mathlib.Core.Path.{_≡_}
 use native.Mathlib.Omega.{arith}

@@ -1,6 +1,5 @@
 -- Functions of one argument, as roots and the logarithm: "of a pair runs from the lower end's lower to the upper end's upper".
 -- Where the ends at a fraction grow with the fraction, the function keeps consistency, inclusion and what is held.
--- Assumes nothing.
 use Prim.Native.Nat.{ℕ, _≤_}
 use Rattle.exact.specs.Fraction.{Fraction, _≤f_, whole}
 use Rattle.exact.specs.Ends.{Ends, minusEnds}

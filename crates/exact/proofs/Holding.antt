@@ -1,13 +1,12 @@
 -- Pairs that hold a value: what holds the parts of a formula, combined, holds the whole.
--- Assumes nothing.
 use Prim.Native.Nat.{ℕ, _≤_}
-use Rattle.exact.specs.Fraction.{Fraction, _+f_, _−f_, _·f_, _÷f_}
-use Rattle.exact.specs.Ends.{Ends, combine, _+e_, _−e_, _·e_, _÷e_, minusEnds}
-use Rattle.exact.specs.Exact.{Exact, exactly, _+x_, _−x_, _·x_, _÷x_, minus, Holds}
+use Rattle.exact.specs.Fraction.{Fraction, _+f_, _÷f_}
+use Rattle.exact.specs.Ends.{Ends, combine, _+e_, _÷e_, minusEnds}
+use Rattle.exact.specs.Exact.{Exact, exactly, _+x_, _÷x_, minus, Holds}
 use Rattle.exact.specs.Depth.{Consistent, Within, Proper, Positive, PositiveAt}
 use Rattle.exact.proofs.Order.{trans≤}
 use Rattle.exact.proofs.Sums.{neg≤}
-use Rattle.exact.proofs.Points.{Point, Pointwise, sum-point, difference-point, product-point, quotient-point}
+use Rattle.exact.proofs.Points.{Point, Pointwise, sum-point, quotient-point}
 use Rattle.exact.proofs.Consistency.{Common, common, common-left, common-right, common-combine, proper-at}
 
 pub holds-wider : {A B : Ends} {x : Exact} → Within A B → Holds A x → Holds B x
@@ -27,26 +26,20 @@ pub holds-minus : {A : Ends} {x : Exact} → Holds A x → Holds (minusEnds A) (
 unfolding minus minusEnds
 holds-minus h = record { left = λ k d. neg≤ (h .right k d); right = λ k d. neg≤ (h .left k d) }
 
-module _ {A B : Ends} {x y : Exact} (pa : Proper A) (pb : Proper B) (cx : Consistent x) (cy : Consistent y) (hx : Holds A x) (hy : Holds B y) where
+module _ {A B : Ends} {x y : Exact} (pa : Proper A) (pb : Proper B) (cx : Consistent x) (cy : Consistent y) (hx : Holds A x)
+    (hy : Holds B y) where
   pub holds-combine : (op : Fraction → Fraction → Fraction) → Pointwise op A B → ((k : ℕ) → 3 ≤ k → Pointwise op (x k) (y k))
       → Holds (combine op A B) (λ k. combine op (x k) (y k))
   holds-combine op h hk = record { left = λ k d. common-left (at k d); right = λ k d. common-right (at k d) }
     where
       at : (k : ℕ) → 3 ≤ k → Common (combine op A B) (combine op (x k) (y k))
       at k d =
-          common-combine op h (hk k d) (common pa (proper-at cx d) (hx .left k d) (hx .right k d)) (common pb (proper-at cy d) (hy .left k d) (hy .right k d))
+          common-combine op h (hk k d) (common pa (proper-at cx d) (hx .left k d) (hx .right k d))
+          (common pb (proper-at cy d) (hy .left k d) (hy .right k d))
 
   pub holds-sum : Holds (A +e B) (x +x y)
   unfolding _+x_ _+e_
   holds-sum = holds-combine _+f_ (sum-point A B) (λ k d. sum-point (x k) (y k))
-
-  pub holds-difference : Holds (A −e B) (x −x y)
-  unfolding _−x_ _−e_
-  holds-difference = holds-combine _−f_ (difference-point A B) (λ k d. difference-point (x k) (y k))
-
-  pub holds-product : Holds (A ·e B) (x ·x y)
-  unfolding _·x_ _·e_
-  holds-product = holds-combine _·f_ (product-point A B) (λ k d. product-point (x k) (y k))
 
   pub holds-quotient : Positive B → PositiveAt y → Holds (A ÷e B) (x ÷x y)
   unfolding _÷x_ _÷e_

@@ -1,5 +1,4 @@
 -- Narrower pairs give narrower results, for each operation at one depth.
--- Assumes nothing.
 use Prim.Native.Nat.{ℕ, _≤_}
 use Rattle.exact.specs.Fraction.{Fraction, _≤f_, _+f_, _−f_, _·f_, _÷f_}
 use Rattle.exact.specs.Ends.{Ends, combine, _+e_, _−e_, _·e_, _÷e_, minusEnds}
@@ -8,7 +7,8 @@ use Rattle.exact.specs.Depth.{Consistent, Within, Proper, Positive, Same
 use Rattle.exact.proofs.Order.{refl≤, trans≤}
 use Rattle.exact.proofs.Outcomes.{lower-of, upper-of}
 use Rattle.exact.proofs.Sums.{neg≤}
-use Rattle.exact.proofs.Points.{Point, Pointwise, lower-point, upper-point, point-within, sum-point, difference-point, product-point, quotient-point}
+use Rattle.exact.proofs.Points.{Point, Pointwise, lower-point, upper-point, point-within, sum-point, difference-point}
+use Rattle.exact.proofs.Points.{product-point, quotient-point}
 use Rattle.exact.proofs.Consistency.{proper-at}
 
 pub within-refl : (A : Ends) → Within A A
@@ -44,11 +44,16 @@ within-combine op {A} {A′} {B} {B′} h pa pb wa wb =
     let ul = h _ _ au bl in
     let uu = h _ _ au bu in
     record {
-      low = lower-of op A B (λ o. combine op A′ B′ .lower ≤f o) (record { first = ll .low; second = lu .low; third = ul .low; fourth = uu .low });
-      high = upper-of op A B (λ o. o ≤f combine op A′ B′ .upper) (record { first = ll .high; second = lu .high; third = ul .high; fourth = uu .high });
+      low =
+          lower-of op A B (λ o. combine op A′ B′ .lower ≤f o)
+          (record { first = ll .low; second = lu .low; third = ul .low; fourth = uu .low });
+      high =
+          upper-of op A B (λ o. o ≤f combine op A′ B′ .upper)
+          (record { first = ll .high; second = lu .high; third = ul .high; fourth = uu .high });
     }
 
-module _ {x y : Exact} {k : ℕ} {A B : Ends} (cx : Consistent x) (cy : Consistent y) (d : 3 ≤ k) (wx : Within (x k) A) (wy : Within (y k) B) where
+module _ {x y : Exact} {k : ℕ} {A B : Ends} (cx : Consistent x) (cy : Consistent y) (d : 3 ≤ k) (wx : Within (x k) A)
+    (wy : Within (y k) B) where
   pub within-sum : Within ((x +x y) k) (A +e B)
   unfolding _+x_ _+e_
   within-sum = within-combine _+f_ (sum-point A B) (proper-at cx d) (proper-at cy d) wx wy

@@ -1,5 +1,4 @@
 -- Which outcomes the least and the greatest are, where the order of the ends or their signs are known.
--- Assumes nothing.
 use Prim.Native.Nat.{ℕ}
 use Rattle.exact.specs.Fraction.{Fraction, _≤f_, whole, _+f_, _−f_, _·f_, inv, _÷f_}
 use Rattle.exact.specs.Ends.{Ends, combine, _+e_, _−e_, _·e_, _÷e_}

@@ -1,5 +1,4 @@
 -- ln q for q ≥ 1, which is m ln 2 + ln (q / 2^m): not negative, growing with q across the halvings, and consistent.
--- Assumes nothing.
 use Prim.Native.Nat.{ℕ, _^_, _<_}
 use mathlib.Core.Path.{_≡_}
 use mathlib.Core.Logic.{_⊎_, inl, inr}
@@ -65,7 +64,8 @@ pub up-ends : {q : Fraction} → whole 1 ≤f q → (k : ℕ)
     → SameEnds (lnUp q k) (sumEnds (scaledEnds (whole (halvings q)) (lnNear (whole 2) k)) (lnNear (q ÷f whole (2 ^ halvings q)) k))
 unfolding lnUp _+x_ _·x_
 up-ends {q} h k =
-    same-trans (sum-ends proper (near-proper (reduced-low h) k)) (same-sum (scaled-ends k (nonneg (halvings q)) (near-proper one≤two k)) (same-refl _))
+    same-trans (sum-ends proper (near-proper (reduced-low h) k))
+    (same-sum (scaled-ends k (nonneg (halvings q)) (near-proper one≤two k)) (same-refl _))
   where
     proper : Proper (exactly (whole (halvings q)) k ·e lnNear (whole 2) k)
     proper = scaled-proper k (nonneg (halvings q)) (near-proper one≤two k)
@@ -80,7 +80,11 @@ module _ {q : Fraction} (h : whole 1 ≤f q) (k : ℕ) where
   pub up-nonneg : Rises nought (lnUp q k)
   up-nonneg =
       let e = up-ends h k in
-      record { lowers = trans≤ (reduced-nonneg (lower-end k) h) (e .lowers .fro); uppers = trans≤ (reduced-nonneg (upper-end k) h) (e .uppers .fro) }
+      record {
+        lowers = trans≤ (reduced-nonneg (lower-end k) h) (e .lowers .fro);
+        uppers = trans≤ (reduced-nonneg (upper-end k) h)
+            (e .uppers .fro);
+      }
 
   pub up-rises : {q′ : Fraction} → q ≤f q′ → Rises (lnUp q k) (lnUp q′ k)
   up-rises l =
@@ -94,4 +98,5 @@ module _ {q : Fraction} (h : whole 1 ≤f q) (k : ℕ) where
 pub consistent-up : {q : Fraction} → whole 1 ≤f q → Consistent (lnUp q)
 unfolding lnUp
 consistent-up {q} h =
-    consistent-sum (consistent-product (consistent-exactly (whole (halvings q))) (consistent-near one≤two)) (consistent-near (reduced-low h))
+    consistent-sum (consistent-product (consistent-exactly (whole (halvings q))) (consistent-near one≤two))
+    (consistent-near (reduced-low h))

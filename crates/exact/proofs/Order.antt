@@ -1,5 +1,4 @@
 -- The order of fractions, and the lesser and the greater of two and of four.
--- Assumes nothing.
 use Prim.Native.Nat.{ℕ, _≤_, _<_}
 use mathlib.Core.Logic.{_⊎_, inl, inr}
 use native.Mathlib.Omega.{arith}
@@ -16,11 +15,17 @@ trans≤ {a} {b} {c} h k =
 
 pub lt-of-lt-of-le : {a b c : Fraction} → a <f b → b ≤f c → a <f c
 lt-of-lt-of-le {a} {b} {c} h k =
-    record { lt = lt-of-mul-lt-mul-right (b .den) (omega (arith, mul-lt-mul-of-pos-right (h .lt) (c .pos), mul-le-mul-right (a .den) (k .le))) }
+    record {
+      lt = lt-of-mul-lt-mul-right (b .den)
+          (omega (arith, mul-lt-mul-of-pos-right (h .lt) (c .pos), mul-le-mul-right (a .den) (k .le)));
+    }
 
 pub lt-of-le-of-lt : {a b c : Fraction} → a ≤f b → b <f c → a <f c
 lt-of-le-of-lt {a} {b} {c} h k =
-    record { lt = lt-of-mul-lt-mul-right (b .den) (omega (arith, mul-le-mul-right (c .den) (h .le), mul-lt-mul-of-pos-right (k .lt) (a .pos))) }
+    record {
+      lt = lt-of-mul-lt-mul-right (b .den)
+          (omega (arith, mul-le-mul-right (c .den) (h .le), mul-lt-mul-of-pos-right (k .lt) (a .pos)));
+    }
 
 pub le-of-lt : {a b : Fraction} → a <f b → a ≤f b
 le-of-lt h = omega arith

@@ -1,5 +1,4 @@
 -- The four outcomes of an operation on the ends of two pairs, of which a combination's ends are the least and the greatest.
--- Assumes nothing.
 use Rattle.exact.specs.Fraction.{Fraction, _≤f_}
 use Rattle.exact.specs.Ends.{Ends, combine}
 use Rattle.exact.proofs.Order.{Each, least≤, ≤greatest, least-of, greatest-of}

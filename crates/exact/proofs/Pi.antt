@@ -1,5 +1,4 @@
 -- π: consistent, and positive at every depth.
--- Assumes nothing.
 use Prim.Native.Nat.{ℕ, zero, suc, _+_, _*_, _^_, _≤_, _<_}
 use native.Mathlib.Omega.{arith}
 use native.Mathlib.Nat.{mul-le-mul, pow-le-pow-right, one-le-pow, mul-pos}
@@ -20,7 +19,10 @@ use Rattle.exact.proofs.Alternating.{Falls, alternating-cross, alternat
 arctan-falls : (n : ℕ) → 0 < n → Falls (arctanTerm n)
 unfolding arctanTerm
 arctan-falls n h =
-    record { falls = λ i. inv≤ (whole-pos (positive i)) (whole≤ (larger i)); stays = λ i. inv-nonneg (whole ((2 * i + 1) * n ^ (2 * i + 1))) }
+    record {
+      falls = λ i. inv≤ (whole-pos (positive i)) (whole≤ (larger i));
+      stays = λ i. inv-nonneg (whole ((2 * i + 1) * n ^ (2 * i + 1)));
+    }
   where
     positive : (i : ℕ) → 0 < (2 * i + 1) * n ^ (2 * i + 1)
     positive i = mul-pos (omega arith) (one-le-pow (2 * i + 1) n h)
@@ -69,4 +71,5 @@ positive-π = record { at = λ k d. record { positive = lt-of-lt-of-le start (tr
         → whole 16 ·f (arctanTerm 5 0 −f arctanTerm 5 1) −f whole 4 ·f arctanTerm 239 0
         ≤f whole 16 ·f arctanOver 5 k .lower −f whole 4 ·f arctanOver 239 k .upper
     parts k d =
-        mono− (mul-left≤ (nonneg 16) (low k d)) (mul-left≤ (nonneg 4) (alternating-high (arctanTerm 239) (arctan-falls 239 (omega arith)) k))
+        mono− (mul-left≤ (nonneg 16) (low k d)) (mul-left≤ (nonneg 4)
+        (alternating-high (arctanTerm 239) (arctan-falls 239 (omega arith)) k))

@@ -1,6 +1,5 @@
 -- A point of a pair is a fraction between its ends. A point of A and a point of B give a point of their combination, for each
 -- operation: all further laws of pairs rest on that.
--- Assumes nothing.
 use mathlib.Core.Logic.{⊎-elim}
 use Rattle.exact.specs.Fraction.{Fraction, _≤f_, _<f_, _≈f_, whole, _+f_, _−f_, _·f_, inv, _÷f_, minf, maxf}
 use Rattle.exact.specs.Ends.{Ends, combine}
@@ -102,7 +101,8 @@ by-factor-left a h k = by-sign a (λ n. (mul-left≥ n k, mul-left≥ n h)) (λ 
 
 pub product-point : (A B : Ends) → Pointwise _·f_ A B
 product-point A B x y h k =
-    combine-point _·f_ A B x y (by-factor y (h .low) (h .high)) (by-factor-left (A .lower) (k .low) (k .high)) (by-factor-left (A .upper) (k .low) (k .high))
+    combine-point _·f_ A B x y (by-factor y (h .low) (h .high)) (by-factor-left (A .lower) (k .low) (k .high))
+    (by-factor-left (A .upper) (k .low) (k .high))
 
 -- along a positive divisor
 by-divisor : (a : Fraction) {c y d : Fraction} → whole 0 <f c → c ≤f y → y ≤f d → Between (a ÷f c) (a ÷f d) (a ÷f y)

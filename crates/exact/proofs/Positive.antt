@@ -1,5 +1,4 @@
 -- Which values have positive lower ends at every depth, so that one may divide by them and take their logarithm.
--- Assumes nothing.
 use Prim.Native.Nat.{ℕ, zero, suc, _*_, _^_, _≤_, _<_}
 use mathlib.Core.Path.{_≡_, refl, ap}
 use native.Mathlib.Omega.{arith}
@@ -8,7 +7,7 @@ use Rattle.exact.specs.Fraction.{Fraction, _≤f_, _<f_, whole, decimal,
 use Rattle.exact.specs.Ends.{Ends, combine, _+e_, _·e_, _÷e_}
 use Rattle.exact.specs.Exact.{Exact, exactly, _+x_, _−x_, _·x_, _÷x_}
 use Rattle.exact.specs.Root.{rootDigits, rootOf, root}
-use Rattle.exact.specs.Depth.{Consistent, Within, Proper, Positive, PositiveAt}
+use Rattle.exact.specs.Depth.{Consistent, Proper, Positive, PositiveAt}
 use Rattle.exact.proofs.Order.{trans≤, lt-of-lt-of-le, le-of-lt}
 use Rattle.exact.proofs.Outcomes.{lower-of}
 use Rattle.exact.proofs.Sums.{le+, sub-pos}
@@ -21,9 +20,6 @@ use Rattle.exact.proofs.RootDigits.{root-above}
 
 pub positive-upper : {A : Ends} → Proper A → Positive A → whole 0 <f A .upper
 positive-upper h p = lt-of-lt-of-le (p .positive) (h .proper)
-
-pub positive-within : {A B : Ends} → Within A B → Positive B → Positive A
-positive-within w p = record { positive = lt-of-lt-of-le (p .positive) (w .low) }
 
 pub positive-exactly : {q : Fraction} → whole 0 <f q → PositiveAt (exactly q)
 unfolding exactly
@@ -73,7 +69,8 @@ pub positive-at-least : {a : Fraction} {x : Exact} → whole 0 <f a → AtLeast 
 positive-at-least h l = record { at = λ k d. record { positive = lt-of-lt-of-le h (l .least k d) } }
 
 -- q times what is at least a
-pub at-least-times : {a : Fraction} {x : Exact} (q : Fraction) → whole 0 ≤f q → Consistent x → AtLeast a x → AtLeast (q ·f a) (exactly q ·x x)
+pub at-least-times : {a : Fraction} {x : Exact} (q : Fraction) → whole 0 ≤f q → Consistent x → AtLeast a x
+    → AtLeast (q ·f a) (exactly q ·x x)
 unfolding _·x_
 at-least-times q n c l =
     record { least = λ k d. trans≤ (mul-left≤ n (l .least k d)) (scaled-ends k n (proper-at c d) .lowers .fro) }

@@ -1,5 +1,5 @@
--- A multiple of a value against a quotient: where the dividend falls no faster than the multiple does, being above is kept by the greater multiple.
--- Assumes nothing.
+-- A multiple of a value against a quotient: where the dividend falls no faster than the multiple does, being above is kept by the greater
+-- multiple.
 use Prim.Native.Nat.{ℕ, _≤_}
 use Rattle.exact.specs.Fraction.{Fraction, _≤f_, _<f_, _≈f_, whole, _·f_, inv, _÷f_}
 use Rattle.exact.specs.Ends.{Ends, _·e_, _÷e_}
@@ -48,7 +48,8 @@ module _ {p s q t : Fraction} (o : Proportion p s q t) where
       let a′ = quotient-ends (point t) pr (o .high) r in
       let b′ = scaled-ends k (le-of-lt (o .second)) pm in
       lt-of-le-of-lt (a′ .uppers .to)
-      (lt-of-lt-of-le (multiple-above (M .lower) (R .lower) (lt-of-le-of-lt (a .uppers .fro) (lt-of-lt-of-le h (b .lowers .to)))) (b′ .lowers .fro))
+      (lt-of-lt-of-le (multiple-above (M .lower) (R .lower) (lt-of-le-of-lt (a .uppers .fro) (lt-of-lt-of-le h (b .lowers .to))))
+      (b′ .lowers .fro))
 
   -- of exact values that have the ends of multiples of m at each depth
   pub proportion-above : {m r x y : Exact} → Consistent m → Consistent r → PositiveAt r

@@ -1,5 +1,4 @@
 -- Quotients of fractions by positive ones: the inverse, and how quotients keep the order.
--- Assumes nothing.
 use Prim.Native.Nat.{ℕ, _+_, _-_, _*_, _≤_, max}
 use mathlib.Core.Path.{_≡_, ap}
 use native.Mathlib.Omega.{arith}

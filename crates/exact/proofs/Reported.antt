@@ -1,6 +1,5 @@
 -- Signed whole numbers of a unit, as the program reports them, against fractions. A number is read by its halves, so that its facts
 -- are ℕ's.
--- Assumes nothing.
 use Prim.Native.Nat.{ℕ, _*_, _<_}
 use mathlib.Core.Path.{_≡_, ap, _∙_}
 use native.Mathlib.Omega.{arith}
@@ -10,10 +9,11 @@ use lib.Signed.{_≤ℤ_, _<ℤ_}
 use Rattle.interval.specs.Signed.{plus, minus}
 use Rattle.interval.specs.Whole.{floorZ}
 use Rattle.interval.specs.declared.Interval.{Interval}
-use Rattle.interval.proofs.Signed.{neg-plus, neg-minus, sum-is, difference-is, mul-plus, mul-minus, scale-plus, scale-minus, le-halves, lt-halves, floor-below, floor-above}
+use Rattle.interval.proofs.Signed.{neg-plus, neg-minus, sum-is, difference-is, mul-plus, mul-minus, scale-plus, scale-minus, le-halves}
+use Rattle.interval.proofs.Signed.{lt-halves, floor-below, floor-above}
 use Rattle.exact.specs.Fraction.{_≤f_, _<f_, _≈f_, whole, decimal, _+f_, neg, _−f_, _·f_, inv, _÷f_}
 use Rattle.exact.specs.Reported.{Scale, ten, over, reported}
-use Rattle.exact.specs.Depth.{Within, Proper, Positive}
+use Rattle.exact.specs.Depth.{Within, Positive}
 use Rattle.exact.proofs.Order.{trans≤, refl≈}
 use Rattle.exact.proofs.Products.{cong·}
 
@@ -42,10 +42,6 @@ over-sum a b u = omega (arith, ap (λ t. t * (u .count * u .count)) (sum-is a b)
 pub over-difference : (a b : ℤ) (u : Scale) → over (a -ℤ b) u ≈f over a u −f over b u
 unfolding over _−f_ _+f_ neg
 over-difference a b u = omega (arith, ap (λ t. t * (u .count * u .count)) (difference-is a b))
-
-pub whole-over : (n : ℕ) (u : Scale) → whole n ≈f over (pos (n * u .count)) u
-unfolding over whole
-whole-over n u = omega arith
 
 pub decimal-over : (n e : ℕ) → decimal n e ≈f over (pos n) (ten e)
 unfolding over decimal ten
@@ -90,10 +86,6 @@ module _ (a b : ℤ) (u v : Scale) where
   unfolding over
   over-compare h = omega (arith, le-halves h, halves-scaled a (v .count), halves-scaled b (u .count))
 
-  pub over-compare< : (a *ℤ pos (v .count)) <ℤ (b *ℤ pos (u .count)) → over a u <f over b v
-  unfolding over
-  over-compare< h = omega (arith, lt-halves h, halves-scaled a (v .count), halves-scaled b (u .count))
-
 -- z of unit w against the product of a of u and b of v
 module _ (a b z : ℤ) (u v w : Scale) where
   pub product-low : (z *ℤ pos (u .count * v .count)) ≤ℤ ((a *ℤ b) *ℤ pos (w .count)) → over z w ≤f over a u ·f over b v
@@ -130,10 +122,6 @@ module _ (a z : ℤ) {c : ℕ} (hc : 0 < c) (u v w : Scale) where
 pub reported-within : {i j : Interval} (u : Scale) → j .lower ≤ℤ i .lower → i .upper ≤ℤ j .upper → Within (reported u i) (reported u j)
 unfolding reported
 reported-within u l h = record { low = over≤ u l; high = over≤ u h }
-
-pub reported-proper : {i : Interval} (u : Scale) → i .lower ≤ℤ i .upper → Proper (reported u i)
-unfolding reported
-reported-proper u h = record { proper = over≤ u h }
 
 pub reported-positive : (i : Interval) (u : Scale) → pos 0 <ℤ i .lower → Positive (reported u i)
 unfolding reported whole over

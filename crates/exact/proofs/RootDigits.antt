@@ -1,7 +1,6 @@
 -- The digits of a root: known by their powers, and so compared with counts of any unit.
--- Assumes nothing.
 use Prim.Native.Nat.{ℕ, suc, _*_, _^_, _≤_, _<_}
-use mathlib.Core.Path.{_≡_, refl, ap}
+use mathlib.Core.Path.{_≡_, ap}
 use native.Mathlib.Omega.{arith}
 use native.Mathlib.Nat.{mul-le-mul-right, mul-le-mul-left, lt-of-mul-lt-mul-right}
 use lib.IntN.{pos}
@@ -44,7 +43,8 @@ module _ (n : ℕ) (hn : 1 ≤ n) (q : Fraction) (k : ℕ) where
 module _ (n : ℕ) (hn : 1 ≤ n) (q : Fraction) (u : Scale) (r : ℕ) (k : ℕ) where
   pub not-above-upper : r ^ n * q .den ≤ u .count ^ n * top q → over (pos r) u ≤f rootOf n q k .upper
   unfolding rootOf decimal over
-  not-above-upper h = omega (arith, powers-cross n r (u .count) (suc (rootDigits n q k)) (10 ^ k) (u .pos) (refl≤ q) h (root-above n hn q k))
+  not-above-upper h =
+      omega (arith, powers-cross n r (u .count) (suc (rootDigits n q k)) (10 ^ k) (u .pos) (refl≤ q) h (root-above n hn q k))
 
   pub lower-not-above : u .count ^ n * top q ≤ r ^ n * q .den → rootOf n q k .lower ≤f over (pos r) u
   unfolding rootOf decimal over
@@ -77,7 +77,8 @@ module _ (n : ℕ) (hn : 1 ≤ n) (q : Fraction) (u : Scale) (r : ℕ) (k m : �
 module _ (n : ℕ) (hn : 1 ≤ n) {q q′ : Fraction} (l : q ≤f q′) where
   pub digits-cross : (j k : ℕ) → rootDigits n q j * 10 ^ k < suc (rootDigits n q′ k) * 10 ^ j
   digits-cross j k =
-      powers-cross n (rootDigits n q j) (10 ^ j) (suc (rootDigits n q′ k)) (10 ^ k) (ten-pos j) l (root-below n hn q j) (root-above n hn q′ k)
+      powers-cross n (rootDigits n q j) (10 ^ j) (suc (rootDigits n q′ k)) (10 ^ k) (ten-pos j) l (root-below n hn q j)
+      (root-above n hn q′ k)
 
   pub digits≤ : (k : ℕ) → rootDigits n q k ≤ rootDigits n q′ k
   digits≤ k =

@@ -1,7 +1,6 @@
 -- Roots as values: they grow with their argument, so they keep consistency, inclusion and what is held.
--- Assumes nothing.
 use Prim.Native.Nat.{ℕ, _*_, _^_, _≤_, _<_, suc-le-suc}
-use mathlib.Core.Path.{_≡_, refl}
+use mathlib.Core.Path.{_≡_}
 use native.Mathlib.Omega.{arith}
 use native.Mathlib.Nat.{mul-le-mul-right}
 use lib.IntN.{pos}
@@ -12,8 +11,7 @@ use Rattle.exact.specs.Root.{rootOf, root}
 use Rattle.exact.specs.Reported.{Scale, reported}
 use Rattle.exact.specs.Depth.{Consistent, Within, SameEnds}
 use Rattle.exact.proofs.Order.{refl≤, trans≤}
-use Rattle.exact.proofs.Growing.{Growing, consistent-extended, within-extended, holds-extended}
-use Rattle.exact.proofs.Consistency.{proper-at}
+use Rattle.exact.proofs.Growing.{Growing, consistent-extended, holds-extended}
 use Rattle.exact.proofs.RootDigits.{digits-cross, digits≤, not-above-upper, lower-not-above, not-above-lower, upper-not-above}
 
 decimal≤ : {a c : ℕ} (k : ℕ) → a ≤ c → decimal a k ≤f decimal c k
@@ -40,10 +38,6 @@ pub consistent-root : (n : ℕ) {x : Exact} → 1 ≤ n → Consistent x → Con
 unfolding root
 consistent-root n hn c = consistent-extended (growing-root n hn) (λ k d. tt) c
 
-pub root-exactly : (n : ℕ) (q : Fraction) (k : ℕ) → root n (exactly q) k ≡ rootOf n q k
-unfolding root exactly
-root-exactly n q k = refl
-
 -- the ends depend on the value alone
 pub root-value : (n : ℕ) {q q′ : Fraction} → 1 ≤ n → q ≈f q′ → (k : ℕ) → SameEnds (root n (exactly q) k) (root n (exactly q′) k)
 unfolding root exactly
@@ -52,11 +46,6 @@ root-value n hn e k =
     let there = g .rises tt (e .to) k in
     let back = g .rises tt (e .fro) k in
     record { lowers = record { to = there .lowers; fro = back .lowers }; uppers = record { to = there .uppers; fro = back .uppers } }
-
-pub within-root : (n : ℕ) {x : Exact} {k : ℕ} {A : Ends} → 1 ≤ n → Consistent x → 3 ≤ k → Within (x k) A
-    → Within (root n x k) (root n (λ _. A) k)
-unfolding root
-within-root n {x} {k} hn c d w = within-extended (growing-root n hn) x k tt (proper-at c d) w
 
 module _ (n : ℕ) (u : Scale) (lo hi : ℕ) {A : Ends} (hn : 1 ≤ n) (low : lo ^ n * A .lower .den ≤ u .count ^ n * top (A .lower)) where
   -- a pair of counts of any unit, by what holds the argument

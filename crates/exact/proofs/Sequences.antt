@@ -1,5 +1,4 @@
 -- Sequences of fractions that never fall, or never rise, from step to step.
--- Assumes nothing.
 use Prim.Native.Nat.{ℕ, zero, suc, _+_, _≤_}
 use mathlib.Core.Path.{_≡_}
 use native.Mathlib.Omega.{arith}

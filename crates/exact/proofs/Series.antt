@@ -1,6 +1,5 @@
 -- The logarithm's series at one argument z, 0 ≤ z and z² < 1: k terms are below j terms with their tail, at any k and j; and both
 -- grow with z.
--- Assumes nothing.
 use Prim.Native.Nat.{ℕ, zero, suc, _+_, _*_, _<_}
 use mathlib.Core.Path.{_≡_}
 use native.Mathlib.Omega.{arith}

@@ -1,5 +1,4 @@
 -- What a calculation with rounded powers gives of the logarithm's series: P i stands for z^(2i+1), w for z², T i for a term.
--- Assumes nothing.
 use Prim.Native.Nat.{ℕ, zero, suc, _+_, _*_}
 use Rattle.exact.specs.Fraction.{Fraction, _≤f_, _<f_, _≈f_, whole, _−f_, _·f_, _÷f_, powf, sumOf}
 use Rattle.exact.specs.Logarithm.{term, terms, tail}
@@ -18,13 +17,6 @@ terms-are : (z : Fraction) (k : ℕ) → terms z k ≈f sumOf (term z) k
 unfolding terms sumOf
 terms-are z zero = refl≈ (whole 0)
 terms-are z (suc k) = cong+ (terms-are z k) (refl≈ (term z k))
-
-module _ (z : Fraction) (T : ℕ → Fraction) where
-  pub sum≤terms : ((i : ℕ) → T i ≤f term z i) → (k : ℕ) → sumOf T k ≤f terms z k
-  sum≤terms h k = trans≤ (sum-of≤ T (term z) h k) (terms-are z k .fro)
-
-  pub terms≤sum : ((i : ℕ) → term z i ≤f T i) → (k : ℕ) → terms z k ≤f sumOf T k
-  terms≤sum h k = trans≤ (terms-are z k .to) (sum-of≤ (term z) T h k)
 
 module _ {z : Fraction} (nz : whole 0 ≤f z) (w : Fraction) (P : ℕ → Fraction) where
   pub powers-below : whole 0 ≤f w → w ≤f z ·f z → P 0 ≤f z → ((i : ℕ) → P (suc i) ≤f P i ·f w) → (i : ℕ) → P i ≤f powf z (2 * i + 1)

@@ -1,5 +1,4 @@
 -- Sums and differences of fractions: their laws, and how they keep the order.
--- Assumes nothing.
 use Prim.Native.Nat.{ℕ, suc, _*_, _≤_, _<_}
 use native.Mathlib.Omega.{arith}
 use native.Mathlib.Nat.{mul-le-mul-right, mul-lt-mul-of-pos-right, le-of-mul-le-mul-right, lt-of-mul-lt-mul-right, mul-pos}
@@ -17,10 +16,6 @@ add-assoc a b c = omega arith
 pub add-zero : (a : Fraction) → a +f whole 0 ≈f a
 unfolding _+f_ whole
 add-zero a = omega arith
-
-pub add-neg : (a : Fraction) → a −f a ≈f whole 0
-unfolding _+f_ _−f_ neg whole
-add-neg a = omega arith
 
 pub neg-neg : (a : Fraction) → neg (neg a) ≈f a
 unfolding neg

@@ -1,6 +1,5 @@
 -- Two sequences as the terms of e^a and of e^b: k terms of e^(a + b) are at most the product of k terms of each, which is at most 2 k terms
 -- of e^(a + b). The products of degree below k lie in the square of k by k, which lies in those of degree below 2 k.
--- Assumes nothing.
 use Prim.Native.Nat.{ℕ, zero, suc, _+_, _≤_}
 use native.Mathlib.Omega.{arith}
 use native.Mathlib.Nat.{add-suc, suc-add, add-zero as nat-add-zero, zero-add as nat-zero-add}
@@ -84,6 +83,7 @@ module _ (t s : ℕ → Fraction) where
         → sumOf t n ·f sumOf s k ≤f sumOf r (n + k)
     unfolding sumOf
     product-sum {r = r} ht hs hr n k =
-        let high : sumOf (λ n. degree 0 (suc n)) (n + k) ≤f sumOf r (n + k) = sum-of≤ _ r (λ i. rated-unique hr (mixed-rated t s ht hs) i .fro) (n + k) in
+        let high : sumOf (λ n. degree 0 (suc n)) (n + k) ≤f sumOf r (n + k) =
+        sum-of≤ _ r (λ i. rated-unique hr (mixed-rated t s ht hs) i .fro) (n + k) in
         trans≤ (rw nat-zero-add at (square≤ 0 n k))
         (trans≤ (trans≤ (mono+ (zero-mul _ .to) (refl≤ _)) (zero-add _ .to)) (trans≤ (triangle-is (n + k) .fro) high))

@@ -1,5 +1,4 @@
 -- Which of two exact values is above, by pairs: these two laws need nothing of any grid.
--- Assumes nothing.
 use Prim.Native.Nat.{ℕ, _≤_}
 use Rattle.exact.specs.Fraction.{_≤f_, _<f_}
 use Rattle.exact.specs.Ends.{Ends}

@@ -1,5 +1,4 @@
 -- The answer to a question for two ends, and what holds of it.
--- Assumes nothing.
 use Rattle.interval.specs.declared.Pair.{Pair}
 use Rattle.interval.specs.declared.Pair.the-variants.{Ends as Told, Refused}
 use Rattle.exact.specs.Fraction.{Fraction}

@@ -1,5 +1,4 @@
 -- What the laws say of ends and depths.
--- Assumes nothing.
 use Prim.Native.Nat.{ℕ, _≤_}
 use Rattle.exact.specs.Fraction.{_≤f_, _<f_, _≈f_, whole}
 use Rattle.exact.specs.Ends.{Ends}

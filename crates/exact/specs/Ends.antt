@@ -1,6 +1,5 @@
 -- The two ends of a value at one depth, and how ends combine.
 -- Document 01, 'What exact means': "Sums, products and quotients combine the two ends by the least and greatest outcome".
--- Assumes nothing.
 use Rattle.exact.specs.Fraction.{Fraction, _+f_, neg, _−f_, _·f_, _÷f_, minf, maxf}
 
 pub record Ends : Type 0 where

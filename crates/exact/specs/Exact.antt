@@ -1,5 +1,4 @@
 -- Exact values. Document 01, 'What exact means': "At each depth k from 3 up, every formula has two ends that are fractions."
--- Assumes nothing.
 use Prim.Native.Nat.{ℕ, _≤_}
 use Rattle.exact.specs.Fraction.{Fraction, _≤f_, _<f_}
 use Rattle.exact.specs.Ends.{Ends, _+e_, _−e_, _·e_, _÷e_, minusEnds}

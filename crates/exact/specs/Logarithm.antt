@@ -1,8 +1,6 @@
 -- The natural logarithm. Document 01, 'What exact means'.
--- Assumes nothing.
 use Prim.Native.Nat.{ℕ, zero, suc, _+_, _*_, _^_}
 use Rattle.exact.specs.Fraction.{Fraction, whole, _+f_, _−f_, _·f_, inv, _÷f_, top, powf, decLef, choose}
-use Rattle.exact.specs.Ends.{Ends}
 use Rattle.exact.specs.Exact.{Exact, exactly, _+x_, _·x_, minus}
 use Rattle.exact.specs.Root.{greatestBelow}
 

@@ -1,5 +1,4 @@
 -- Pairs of whole numbers in a unit, as the program reports them.
--- Assumes nothing.
 use Prim.Native.Nat.{ℕ, _^_, _<_}
 use native.Mathlib.Nat.{zero-lt-suc, one-le-pow}
 use lib.IntN.{ℤ}

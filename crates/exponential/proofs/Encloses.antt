@@ -1,5 +1,4 @@
 -- The ends of e^−q enclose the exact ones at the depth at which code works.
--- Assumes nothing.
 use Prim.Native.Nat.{ℕ, _+_, _/_, _^_, _≤_, _<_}
 use mathlib.Core.Path.{refl}
 use native.Mathlib.Omega.{arith}
@@ -72,7 +71,8 @@ module _ (j q : ℕ) where
       let n = nestedOf 1 y 0 levels in
       let m : n + 1 ≤ seriesOf 1 y = omega arith in
       trans≤ (slack-unit nx l)
-      (trans≤ (mono+ (terms-toward nx y (argument-toward 1 q j) .upward (lit< tt)) (refl≤ _)) (trans≤ (units-sum (ten 9) n 1 .fro) (parts≤ m)))
+      (trans≤ (mono+ (terms-toward nx y (argument-toward 1 q j) .upward (lit< tt)) (refl≤ _))
+      (trans≤ (units-sum (ten 9) n 1 .fro) (parts≤ m)))
 
   series-low : parts (seriesOf 0 (argumentOf 0 j q)) ≤f expTerms x workDepth
   unfolding seriesOf argumentOf
@@ -88,7 +88,9 @@ module _ (j q : ℕ) where
   unfolding endOf
   end-above =
       let s = series-pos 0 (argumentOf 0 j q) in
-      let v = trans≤ (inverse-unit (exp-terms-least nx (lit≤ tt))) (trans≤ (mono+ (inv≤ (parts-pos s) series-low) (refl≤ _)) (inverse-above _ s)) in
+      let v =
+      trans≤ (inverse-unit (exp-terms-least nx (lit≤ tt)))
+      (trans≤ (mono+ (inv≤ (parts-pos s) series-low) (refl≤ _)) (inverse-above _ s)) in
       squared-toward _ (mul-nonneg (le-of-lt (slack-positive workDepth)) (inv-nonneg _)) (from-above v) j .upward (lit< tt)
 
 -- e^−x for x from a to b
@@ -105,6 +107,7 @@ exp-encloses {x} a b h c e =
     }
 
 -- the same by a pair of exponents
-pub power-encloses : {x : Exact} {i : Interval} {l h w : ℕ} → 1 ≤ l → Consistent x → Span i l h w → Encloses x (ten 9) i → Encloses (exp (minus x)) (ten 9) (expPair i)
+pub power-encloses : {x : Exact} {i : Interval} {l h w : ℕ} → 1 ≤ l → Consistent x → Span i l h w → Encloses x (ten 9) i
+    → Encloses (exp (minus x)) (ten 9) (expPair i)
 unfolding expPair natural
 power-encloses p c s e = rw (s .is) (exp-encloses (s .a) (s .b) (le-trans p (s .from)) c (rw (s .is) at e))

@@ -1,5 +1,4 @@
 -- The whole numbers of the calculation against the fractions that they stand for, each rounded down or up.
--- Assumes nothing.
 use Prim.Native.Nat.{ℕ, zero, suc, _+_, _*_, _/_, _^_, _≤_, _<_}
 use mathlib.Core.Path.{_≡_, refl, ap}
 use native.Mathlib.Omega.{arith}
@@ -17,7 +16,8 @@ use Rattle.exact.proofs.Series.{pow-nonneg}
 use Rattle.exact.proofs.Squarings.{pow-square}
 use Rattle.exact.proofs.Doublings.{halved}
 use Rattle.exact.proofs.Horner.{nested, nested-terms}
-use Rattle.exact.proofs.Rounding.{units, Toward, toward-trans, toward-sum, toward-product, toward-same, units-nonneg, units-sum, Is, rounded, product-is}
+use Rattle.exact.proofs.Rounding.{units, Toward, toward-trans, toward-sum, toward-product, toward-same, units-nonneg, units-sum, Is}
+use Rattle.exact.proofs.Rounding.{rounded, product-is}
 use Rattle.exponential.specs.Ends.{billion, levels, nestedOf, inverseOf, squaredOf}
 
 -- n billionths

@@ -1,9 +1,9 @@
 -- The halvings of q billionths, and how large the numbers of the calculation get: all products stay within 64 bits.
--- Assumes nothing.
 use Prim.Native.Nat.{ℕ, zero, suc, _+_, _-_, _*_, _/_, _^_, _≤_, _<_}
 use mathlib.Core.Path.{_≡_, refl}
 use native.Mathlib.Omega.{arith}
-use native.Mathlib.Nat.{lt-of-not-le, div-mul-le-self, le-of-mul-le-mul-right, lt-of-mul-lt-mul-right, mul-le-mul, pow-suc, pow-le-pow-right}
+use native.Mathlib.Nat.{lt-of-not-le, div-mul-le-self, le-of-mul-le-mul-right, lt-of-mul-lt-mul-right, mul-le-mul, pow-suc}
+use native.Mathlib.Nat.{pow-le-pow-right}
 use lib.Pow.{pow-pos}
 use Rattle.exact.specs.Fraction.{top}
 use Rattle.exact.specs.Reported.{ten, over}
@@ -69,7 +69,8 @@ nested-size {up} {y} hu hy i (suc n) = omega (arith, level-size i hy (nested-siz
 pub inverse-size : {up s : ℕ} → up ≤ 1 → billion ≤ s → inverseOf up s ≤ 1000000002
 unfolding inverseOf
 inverse-size {up} {s} hu hs =
-    let l : billion * billion / s ≤ billion = le-of-mul-le-mul-right {k = s} (omega (arith, div-mul-le-self (billion * billion) s)) (omega arith) in
+    let l : billion * billion / s ≤ billion =
+    le-of-mul-le-mul-right {k = s} (omega (arith, div-mul-le-self (billion * billion) s)) (omega arith) in
     omega arith
 
 pub squared-size : {up v : ℕ} → up ≤ 1 → v ≤ 1000000002 → (m : ℕ) → m ≤ 14 → squaredOf up v m < billion + 3 * 2 ^ m

@@ -1,5 +1,4 @@
 -- The ends of e^−q for q from a to b as callers use them: natural, in order, at most 1, and close.
--- Assumes nothing.
 use Prim.Native.Nat.{ℕ, _+_, _-_, _*_, _^_, _≤_}
 use mathlib.Core.Path.{refl}
 use native.Mathlib.Omega.{arith}

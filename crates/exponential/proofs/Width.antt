@@ -1,9 +1,9 @@
 -- How far apart the ends of e^−q are for q from a to b: the numbers of the two calculations stay close from step to step.
--- Assumes nothing.
 use Prim.Native.Nat.{ℕ, zero, suc, _+_, _-_, _*_, _/_, _^_, _≤_, _<_}
 use mathlib.Core.Path.{_≡_, ap}
 use native.Mathlib.Omega.{arith}
-use native.Mathlib.Nat.{le-refl, add-zero, div-mul-le-self, lt-div-mul-add, lt-of-mul-lt-mul-right, mul-le-mul, mul-le-mul-left, mul-le-mul-right, pow-suc, pow-le-pow-right}
+use native.Mathlib.Nat.{le-refl, add-zero, div-mul-le-self, lt-div-mul-add, lt-of-mul-lt-mul-right, mul-le-mul, mul-le-mul-left}
+use native.Mathlib.Nat.{mul-le-mul-right, pow-suc, pow-le-pow-right}
 use lib.Pow.{pow-pos}
 use Rattle.exponential.specs.Ends.{billion, most, levels, halvingsOf, argumentOf, nestedOf, seriesOf, inverseOf, squaredOf, endOf}
 use Rattle.exponential.proofs.Sizes.{halvings-few, argument-size, nested-size, nested-least, series-least}
@@ -24,7 +24,12 @@ module _ {y z : ℕ} (d : ℕ) (hy : y ≤ 500000000) (hz : z ≤ 500000001) (l 
       let t = nestedOf 1 z (suc i) n in
       let m : billion ≤ billion * suc i = omega arith in
       let c = divided-close (y * s) (z * t) (5 * d + 3) (billion * suc i) (omega arith)
-      (omega (arith, products s t (nested-close (suc i) n) (nested-size {up = 1} (omega arith) hz (suc i) n), mul-le-mul-left (5 * d + 3) m)) in
+      (omega (
+        arith,
+        products s t (nested-close (suc i) n) (nested-size {up = 1} (omega arith) hz (suc i) n),
+        mul-le-mul-left (5 * d + 3)
+            m,
+      )) in
       omega (arith, c)
     where
       products : (s t : ℕ) → t ≤ s + (5 * d + 5) → t ≤ 2100000000 → z * t ≤ y * s + (5 * d + 3) * billion
@@ -79,7 +84,11 @@ module _ {u v : ℕ} (d : ℕ) (hu : u < billion) (hv : v ≤ billion) (l : u �
       step : (k k₂ : ℕ) → squaredOf 1 u m + 2 ≤ squaredOf 0 v m + k → 2 ≤ k → k₂ ≡ 2 * k
           → squaredOf 1 u m * squaredOf 1 u m / billion + 1 + 2 ≤ squaredOf 0 v m * squaredOf 0 v m / billion + 0 + k₂
       step k k₂ h p e =
-          omega (arith, square-close (squaredOf 1 u m) (squaredOf 0 v m) (k - 2) (omega arith) (omega (arith, squared-less hu m)) (squared-below hv m))
+          omega (
+            arith,
+            square-close (squaredOf 1 u m) (squaredOf 0 v m) (k - 2) (omega arith) (omega (arith, squared-less hu m))
+                (squared-below hv m),
+          )
 
 -- ---- the ends
 

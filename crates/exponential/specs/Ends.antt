@@ -1,6 +1,5 @@
 -- The ends of e^−q in billionths, for q in billionths, by whole numbers alone: one over twelve terms of e^(q/2^j), squared j times.
 -- `up` is 0 where a step is rounded down, and 1 where it is rounded up.
--- Assumes nothing.
 use Prim.Native.Nat.{ℕ, zero, suc, _+_, _*_, _/_, _^_}
 use lib.IntN.{pos, natAbs}
 use Rattle.interval.specs.declared.Interval.{Interval}

@@ -1,5 +1,4 @@
 -- Every formula of a case within its bounds is consistent: its depths never contradict each other. Each proof follows its formula.
--- Assumes nothing.
 use native.Mathlib.Omega.{arith}
 use Rattle.exact.specs.Fraction.{whole}
 use Rattle.exact.specs.Exact.{Exact, exactly, _−x_, _·x_, _÷x_}
@@ -18,7 +17,8 @@ use Rattle.formulas.specs.Mesh.{Km, mesh}
 use Rattle.formulas.specs.Step.{halfPower, Ks, step}
 use Rattle.formulas.specs.Resistance.{√20, resistance, potentialRise}
 use Rattle.formulas.proofs.MeshArgument.{G-pos}
-use Rattle.formulas.proofs.Quantities.{one, quantity-turn, quantity-ρ, quantity-Ki, quantity-IG, quantity-Kh, quantity-Kii, quantity-spread, consistent-halfPower, quantity-LM}
+use Rattle.formulas.proofs.Quantities.{one, quantity-turn, quantity-ρ, quantity-Ki, quantity-IG, quantity-Kh, quantity-Kii}
+use Rattle.formulas.proofs.Quantities.{quantity-spread, consistent-halfPower, quantity-LM}
 use Rattle.formulas.proofs.Conductors.{quantity-s}
 use Rattle.formulas.proofs.Positive.{one-thousandth, millisecond, D-pos, h-pos, LT-pos, LS-pos}
 
@@ -57,7 +57,8 @@ module _ {c : Case} (b : Bounds c) where
   consistent-voltage : {x l : Exact} → Consistent x → Quantity l → Consistent (exactly (ρ c) ·x x ·x Ki c ·x IG c ÷x l)
   consistent-voltage k l =
       consistent-quotient (l .positive)
-      (consistent-product (consistent-product (consistent-product (quantity-ρ b .consistent) k) (quantity-Ki b .consistent)) (quantity-IG b .consistent))
+      (consistent-product (consistent-product (consistent-product (quantity-ρ b .consistent) k) (quantity-Ki b .consistent))
+      (quantity-IG b .consistent))
       (l .consistent)
 
   -- ---- the step voltage
@@ -70,7 +71,8 @@ module _ {c : Case} (b : Bounds c) where
 
   pub consistent-Ks : Consistent (Ks c)
   unfolding Ks
-  consistent-Ks = consistent-quotient (quantity-π .positive) (consistent-sum (consistent-exactly _) consistent-share) (quantity-π .consistent)
+  consistent-Ks =
+      consistent-quotient (quantity-π .positive) (consistent-sum (consistent-exactly _) consistent-share) (quantity-π .consistent)
 
   pub consistent-step : Consistent (step c)
   unfolding step
@@ -83,7 +85,8 @@ module _ {c : Case} (b : Bounds c) where
   consistent-Km =
       consistent-quotient (quantity-turn .positive)
       (consistent-sum (consistent-ln (positive-exactly (G-pos b)) (consistent-exactly _))
-      (consistent-product (quantity-quotient (quantity-Kii b) (quantity-Kh b) .consistent) (consistent-ln (quantity-spread b .positive) (quantity-spread b .consistent))))
+      (consistent-product (quantity-quotient (quantity-Kii b) (quantity-Kh b) .consistent)
+      (consistent-ln (quantity-spread b .positive) (quantity-spread b .consistent))))
       (quantity-turn .consistent)
 
   pub consistent-mesh : Consistent (mesh c)

@@ -1,6 +1,5 @@
 -- Formulas at numbers: pairs of a few digits that the ends at the depth of the code lie within, kept by every operation. Each step is one
 -- computed test, so that no fraction grows, and the steps for a formula follow its line.
--- Assumes nothing.
 use Prim.Native.Nat.{ℕ, suc, _+_, _*_, _≤_}
 use mathlib.Core.Bool.{Bool, _&&_}
 use native.Mathlib.Omega.{arith}

@@ -1,12 +1,12 @@
 -- Roots, logarithms and exponentials at numbers, and π.
--- Assumes nothing.
 use Prim.Native.Nat.{ℕ, suc, _*_, _^_, _≤_}
 use mathlib.Core.Path.{refl}
 use mathlib.Core.Bool.{Bool, _&&_}
 use native.Mathlib.Decide.{decLe}
 use lib.Dec.{T, leb, leb→le, lit≤}
 use Rattle.interval.specs.Operations.{natural}
-use Rattle.exact.specs.Fraction.{Fraction, _≤f_, _<f_, whole, decimal, _+f_, neg, _−f_, _·f_, inv, _÷f_, top, powf, sumOf, decLef, choose, minf, maxf}
+use Rattle.exact.specs.Fraction.{Fraction, _≤f_, _<f_, whole, decimal, _+f_, neg, _−f_, _·f_, inv, _÷f_, top, powf, sumOf, decLef, choose}
+use Rattle.exact.specs.Fraction.{minf, maxf}
 use Rattle.exact.specs.Ends.{Ends, least, greatest, combine, _+e_, _−e_, _·e_, _÷e_, minusEnds}
 use Rattle.exact.specs.Exact.{Exact, exactly, _+x_, _·x_, minus}
 use Rattle.exact.specs.Root.{root}
@@ -34,18 +34,21 @@ use Rattle.formulas.proofs.Known.{Known, digits, atMost, lessThan, insi
 
 -- ---- roots and logarithms, which grow with their argument
 
-proper-extended : {may : Fraction → Type 0} {f : Fraction → Exact} → Growing may f → (x : Exact) → may (x workDepth .lower) → Proper (x workDepth)
+proper-extended : {may : Fraction → Type 0} {f : Fraction → Exact} → Growing may f → (x : Exact) → may (x workDepth .lower)
+    → Proper (x workDepth)
     → Proper (extended f x workDepth)
 proper-extended g x m p =
     record {
       proper =
-          trans≤ (g .rises m (p .proper) workDepth .lowers) (g .agree (g .onward m (p .proper)) .agree workDepth workDepth (lit≤ tt) (lit≤ tt));
+          trans≤ (g .rises m (p .proper) workDepth .lowers)
+          (g .agree (g .onward m (p .proper)) .agree workDepth workDepth (lit≤ tt) (lit≤ tt));
     }
 
 -- the root's digits are given: a count down to them would take too long
 unfoldable pub rootTest : ℕ → Ends → ℕ → ℕ → Bool
 rootTest n A lo hi =
-    leb 1 n && (leb (lo ^ n * A .lower .den) ((10 ^ 12) ^ n * top (A .lower)) && leb (suc ((10 ^ 12) ^ n * top (A .upper))) (hi ^ n * A .upper .den))
+    leb 1 n && (leb (lo ^ n * A .lower .den) ((10 ^ 12) ^ n * top (A .lower)) && leb (suc ((10 ^ 12) ^ n * top (A .upper)))
+    (hi ^ n * A .upper .den))
 
 pub known-root : (n : ℕ) (lo hi : ℕ) {x : Exact} {A : Ends} → Known x A → T (rootTest n A lo hi) → Known (root n x) (digits 12 lo hi)
 unfolding rootTest root ten natural
@@ -79,7 +82,8 @@ module _ (m : ℕ) (q : Fraction) (t : T (halvedBy m q)) where
       let k = both (leb (2 ^ m * q .den) (top q)) _ (both (atMost (whole 1) q) _ t .1) in
       within-ln-up m workDepth from-one (leb→le _ _ (k .0)) (leb→le _ _ (k .1)) (within-refl (lnBy m q))
 
-known-ln : {x : Exact} {A B C : Ends} (D : Ends) → Known x A → Positive A → Within (lnOf (A .lower) workDepth) B → Within (lnOf (A .upper) workDepth) C
+known-ln : {x : Exact} {A B C : Ends} (D : Ends) → Known x A → Positive A → Within (lnOf (A .lower) workDepth) B
+    → Within (lnOf (A .upper) workDepth) C
     → T (inside (record { lower = B .lower; upper = C .upper }) D) → Known (ln x) D
 unfolding ln
 known-ln {x} {B = B} {C} D a p b c t =
@@ -91,7 +95,8 @@ known-ln {x} {B = B} {C} D a p b c t =
 -- of a pair from 1 up
 unfoldable pub lnTest : ℕ → Ends → Ends → Bool
 lnTest m A D =
-    halvedBy m (A .lower) && (halvedBy m (A .upper) && inside (record { lower = lnBy m (A .lower) .lower; upper = lnBy m (A .upper) .upper }) D)
+    halvedBy m (A .lower) && (halvedBy m (A .upper) && inside
+    (record { lower = lnBy m (A .lower) .lower; upper = lnBy m (A .upper) .upper }) D)
 
 pub known-ln-up : {x : Exact} {A : Ends} (m : ℕ) (D : Ends) → Known x A → T (lnTest m A D) → Known (ln x) D
 unfolding lnTest

@@ -1,5 +1,4 @@
 -- What the grids of the worked yards have in common, at numbers: they differ in season, soil, counts and rods alone.
--- Assumes nothing.
 use Prim.Native.Nat.{ℕ}
 use mathlib.Core.Bool.{_&&_}
 use lib.Dec.{T}
@@ -19,7 +18,8 @@ use Rattle.formulas.proofs.KnownFunctions.{known-root, known-ln-up, kno
 use Rattle.formulas.proofs.KnownFactor.{factor-500-10}
 
 -- q·x·k·i/l by pairs around q·x, q·x·k, q·x·k·i and the whole: a mesh or step voltage, ρ·Km·Ki·IG/LM or ρ·Ks·Ki·IG/LS
-module _ {x k i l : Exact} {X K I L : Ends} (q : Fraction) (A B C D : Ends) (a : Known x X) (b : Known k K) (c : Known i I) (d : Known l L) where
+module _ {x k i l : Exact} {X K I L : Ends} (q : Fraction) (A B C D : Ends) (a : Known x X) (b : Known k K) (c : Known i I)
+    (d : Known l L) where
   pub known-voltage : T (inside (both-ends q ·e X) A) → T (inside (A ·e K) B) → T (inside (B ·e I) C) → T (positive L && inside (C ÷e L) D)
       → Known (exactly q ·x x ·x k ·x i ÷x l) D
   known-voltage t u v w = known-quotient D (known-product C (known-product B (known-product A (known-exactly q) a t) b u) c v) d w

@@ -1,7 +1,6 @@
 -- A lower soil resistivity, all else equal, station and season aside: mesh and step voltage fall in proportion to it, the tolerable
 -- voltages less than that. So where a voltage is above what is tolerable with the lower resistivity, it is with the higher one, at the same
 -- depth.
--- Assumes nothing.
 use Prim.Native.Nat.{ℕ, _≤_}
 use mathlib.Core.Path.{_≡_, refl}
 use mathlib.Core.Logic.{_⊎_, inl, inr}
@@ -79,7 +78,8 @@ module _ {c : Case} (station season s : ℕ) (b : Bounds c) (b′ : Bounds (unde
   Q-cross (inr y) =
       rw (ne-eqb (c .layer) 0 (λ e. omega (arith, y .layer .low)))
       (trans≤ (cong· (effect-is (c .soil) (c .layer) (c .thick)) (refl≈ (whole s)) .to)
-      (trans≤ (effect-cross s (c .soil) (c .layer) (c .thick) l) (cong· (effect-is s (c .layer) (c .thick)) (refl≈ (whole (c .soil))) .fro)))
+      (trans≤ (effect-cross s (c .soil) (c .layer) (c .thick) l)
+      (cong· (effect-is s (c .layer) (c .thick)) (refl≈ (whole (c .soil))) .fro)))
 
   -- (1000 + w·Q)·k goes with the resistivity
   weighed-proportion : {w : Fraction} → whole 0 ≤f w

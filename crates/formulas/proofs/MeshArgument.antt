@@ -1,10 +1,9 @@
 -- The two forms of G in document 01 are equal.
--- Assumes nothing.
 use Prim.Native.Nat.{ℕ, _+_, _*_, _^_, _<_}
 use mathlib.Core.Path.{_≡_, ap}
 use native.Mathlib.Omega.{arith}
 use native.Mathlib.Nat.{mul-pos}
-use Rattle.exact.specs.Fraction.{Fraction, _≤f_, _<f_, _≈f_, whole, decimal, _+f_, neg, _−f_, _·f_, _÷f_}
+use Rattle.exact.specs.Fraction.{Fraction, _<f_, _≈f_, whole, decimal, _+f_, neg, _−f_, _·f_, _÷f_}
 use Rattle.exact.proofs.Order.{lt-of-lt-of-le, refl≈, sym≈, trans≈, whole-pos}
 use Rattle.exact.proofs.Sums.{cong+, cong−}
 use Rattle.exact.proofs.Products.{cong·, mul-pos as mul-posf}
@@ -67,7 +66,8 @@ module _ (m : ℕ) (p : 0 < m) where
       trans≈
       (cong− (cong+ (triple x x x) (trans≈ (cong· (cong· s s) (twice y)) (triple (x + 2 * y) (x + 2 * y) (2 * y)))) (fourfold x y))
       (trans≈
-      (gather (m * m * m) (mul-pos (mul-pos p p) p) (x * x * x) ((x + 2 * y) * (x + 2 * y) * (2 * y)) (4 * (x * y * y)) ((x + 2 * y) * (x * x + 4 * (y * y))) (omega arith))
+      (gather (m * m * m) (mul-pos (mul-pos p p) p) (x * x * x) ((x + 2 * y) * (x + 2 * y) * (2 * y)) (4 * (x * y * y))
+      ((x + 2 * y) * (x * x + 4 * (y * y))) (omega arith))
       (sym≈ (trans≈ (cong· s (squares x y)) (pair (x + 2 * y) (x * x + 4 * (y * y))))))
 
 module _ {c : Case} (b : Bounds c) where
@@ -100,7 +100,8 @@ module _ {c : Case} (b : Bounds c) where
       let pd : whole 0 <f d c = d-pos b in
       let second-term = expand ((D c +f whole 2 ·f h c) ·f (D c +f whole 2 ·f h c)) (mul-posf (mul-posf (whole-pos (omega arith)) pD) pd)
       (mul-posf (whole-pos (omega arith)) ph) second-divisor in
-      let third-term = expand (h c) (mul-posf (whole-pos (omega arith)) pd) (mul-posf (mul-posf (whole-pos (omega arith)) ph) pD) third-divisor in
+      let third-term =
+      expand (h c) (mul-posf (whole-pos (omega arith)) pd) (mul-posf (mul-posf (whole-pos (omega arith)) ph) pD) third-divisor in
       trans≈ (cong− (trans≈ (cong+ first-term second-term) (add-over _ _ _)) third-term)
       (trans≈ (sub-over _ _ _)
       (cong÷ (mul-posf (mul-posf (mul-posf (whole-pos (omega arith)) ph) pd) pD) numerator (refl≈ _)))

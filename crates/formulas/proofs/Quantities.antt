@@ -1,5 +1,4 @@
 -- Ki, IG and the parts of Km, Ks and LM are positive and consistent.
--- Assumes nothing.
 use mathlib.Core.Path.{_≡_}
 use mathlib.Core.Bool.{true}
 use native.Mathlib.Omega.{arith}
@@ -24,7 +23,8 @@ use Rattle.formulas.specs.Lengths.{ρ, equalCounts, n, Ki, Lr}
 use Rattle.formulas.specs.Current.{IG}
 use Rattle.formulas.specs.Mesh.{Kh, innerWeight, Kii, diagonal, LM}
 use Rattle.formulas.specs.Step.{halfPower}
-use Rattle.formulas.proofs.Positive.{decimal-pos, one-thousandth, four-squares, ρ-pos, h-pos, Lc-pos, LT-pos, diagonal-least, rodded, Lr-pos, LR-pos}
+use Rattle.formulas.proofs.Positive.{decimal-pos, one-thousandth, four-squares, ρ-pos, h-pos, Lc-pos, LT-pos, diagonal-least}
+use Rattle.formulas.proofs.Positive.{rodded, Lr-pos, LR-pos}
 use Rattle.formulas.proofs.Decrement.{quantity-Df}
 use Rattle.formulas.proofs.Conductors.{by-place, n-least, quantity-n}
 
@@ -102,7 +102,8 @@ module _ {c : Case} (b : Bounds c) where
   quantity-odd =
       record {
         consistent = consistent-difference (twice-n .consistent) (consistent-exactly (whole 1));
-        positive = positive-less one-below (twice-n .consistent) (at-least-times (whole 2) (nonneg 2) (quantity-n b .consistent) (n-least b));
+        positive =
+            positive-less one-below (twice-n .consistent) (at-least-times (whole 2) (nonneg 2) (quantity-n b .consistent) (n-least b));
       }
 
   pub quantity-spread : Quantity (exactly (whole 8) ÷x (π ·x (exactly (whole 2) ·x n c −x exactly (whole 1))))
@@ -122,7 +123,8 @@ module _ {c : Case} (b : Bounds c) where
   pub consistent-halfPower : Consistent (halfPower c)
   unfolding halfPower
   consistent-halfPower =
-      by-place Consistent (equalCounts c) (λ e. consistent-exactly _) (λ e. consistent-exp (consistent-minus (consistent-halvings _ (whole-pos (omega arith)))))
+      by-place Consistent (equalCounts c) (λ e. consistent-exactly _)
+      (λ e. consistent-exp (consistent-minus (consistent-halvings _ (whole-pos (omega arith)))))
 
   -- ---- LM
 
@@ -147,5 +149,6 @@ module _ {c : Case} (b : Bounds c) where
       by-place Quantity (eqb (c .place) 1)
       (λ e.
       let r = place-rodded e in
-      quantity-sum (quantity-exactly (Lc-pos b)) (quantity-product (weighted (decimal-pos 2 (omega arith)) (decimal-pos 2 (omega arith)) r) (quantity-exactly (LR-pos r))))
+      quantity-sum (quantity-exactly (Lc-pos b))
+      (quantity-product (weighted (decimal-pos 2 (omega arith)) (decimal-pos 2 (omega arith)) r) (quantity-exactly (LR-pos r))))
       (λ e. quantity-exactly (LT-pos b))

@@ -1,5 +1,4 @@
 -- The rectangle of IEEE Std 80-2013, B.3, with its rods and without, at numbers, each part of a formula by its line.
--- Assumes nothing.
 use Prim.Native.Nat.{ℕ}
 use lib.Dec.{lit<}
 use Rattle.exact.specs.Ends.{minusEnds}
@@ -42,15 +41,18 @@ module _ (rods rodlen place : ℕ) where
       known-sum (digits 12 2322917969250 2322917969254) (known-exactly _)
       (known-product (digits 12 1678917969250 1678917969254) (known-exactly _) n-rectangle tt) tt
 
-  half-power-rectangle : Bounds (grid 1 400 10 13 rods rodlen place) → Known (halfPower (grid 1 400 10 13 rods rodlen place)) (digits 12 1538734102 1538734103)
+  half-power-rectangle : Bounds (grid 1 400 10 13 rods rodlen place)
+      → Known (halfPower (grid 1 400 10 13 rods rodlen place)) (digits 12 1538734102 1538734103)
   unfolding tests halfPower
   half-power-rectangle b =
-      known-exp-minus 4 (digits 15 667110419204972 667110419207459) (digits 12 1538734102 1538734103) (consistent-halvings b _ (whole-pos (lit< tt)))
+      known-exp-minus 4 (digits 15 667110419204972 667110419207459) (digits 12 1538734102 1538734103)
+      (consistent-halvings b _ (whole-pos (lit< tt)))
       (known-product (digits 12 6476795211690 6476795211717)
       (known-difference (digits 12 9344040332772 9344040332796) n-rectangle (known-exactly _) tt)
       (known-ln-up 1 (digits 12 693147180559 693147180560) (known-exactly _) tt) tt) tt
 
-  Ks-rectangle : Bounds (grid 1 400 10 13 rods rodlen place) → Known (Ks (grid 1 400 10 13 rods rodlen place)) (digits 12 406154074613 406154074615)
+  Ks-rectangle : Bounds (grid 1 400 10 13 rods rodlen place)
+      → Known (Ks (grid 1 400 10 13 rods rodlen place)) (digits 12 406154074613 406154074615)
   unfolding tests lengths Ks
   Ks-rectangle b =
       known-quotient (digits 12 406154074613 406154074615)
@@ -97,7 +99,8 @@ pub step-rectangle : Bounds rectangle → Known (step rectangle) (digits 3 47146
 unfolding tests lengths step
 step-rectangle b =
     known-voltage _ (digits 9 162461629845 162461629846) (digits 9 377385039280 377385039284) (digits 6 738903775699 738903775709)
-    (digits 3 471465 471466) (Ks-rectangle 38 10000 1 b) (Ki-rectangle 38 10000 1) (current 1 400 10 13 38 10000 1) (rounded (digits 2 156725 156725) (known-exactly _) tt) tt tt tt tt
+    (digits 3 471465 471466) (Ks-rectangle 38 10000 1 b) (Ki-rectangle 38 10000 1) (current 1 400 10 13 38 10000 1)
+    (rounded (digits 2 156725 156725) (known-exactly _) tt) tt tt tt tt
 
 pub resistance-rectangle : Known (resistance rectangle) (digits 6 2618545 2618546)
 unfolding tests lengths resistance s
@@ -117,7 +120,8 @@ resistance-rectangle =
 Kii-rodless : Bounds rodless → Known (Kii rodless) (digits 12 576723163440 576723163446)
 unfolding tests Kii innerWeight
 Kii-rodless b =
-    known-exp-minus 1 (digits 15 759422914745144 759422914748592) (digits 12 576723163440 576723163446) (consistent-logarithm b (whole-pos (lit< tt)) (whole-pos (lit< tt)))
+    known-exp-minus 1 (digits 15 759422914745144 759422914748592) (digits 12 576723163440 576723163446)
+    (consistent-logarithm b (whole-pos (lit< tt)) (whole-pos (lit< tt)))
     (known-product (digits 12 550392913667 550392913672)
     (known-quotient (digits 12 176304027606 176304027607) (known-exactly _) (n-rectangle 0 0 0) tt)
     (known-ln-up 4 (digits 12 3121839705770 3121839705774)
@@ -142,13 +146,15 @@ pub mesh-rodless : Bounds rodless → Known (mesh rodless) (digits 3 970843 9708
 unfolding tests lengths mesh LM
 mesh-rodless b =
     known-voltage _ (digits 9 354126574736 354126574738) (digits 9 822606983843 822606983850) (digits 6 1610629312274 1610629312291)
-    (digits 3 970843 970844) (Km-rodless b) (Ki-rectangle 0 0 0) (current 1 400 10 13 0 0 0) (rounded (digits 0 1659 1659) (known-exactly _) tt) tt tt tt tt
+    (digits 3 970843 970844) (Km-rodless b) (Ki-rectangle 0 0 0) (current 1 400 10 13 0 0 0)
+    (rounded (digits 0 1659 1659) (known-exactly _) tt) tt tt tt tt
 
 pub step-rodless : Bounds rodless → Known (step rodless) (digits 3 593854 593855)
 unfolding tests lengths step
 step-rodless b =
     known-voltage _ (digits 9 162461629845 162461629846) (digits 9 377385039280 377385039284) (digits 6 738903775699 738903775709)
-    (digits 3 593854 593855) (Ks-rectangle 0 0 0 b) (Ki-rectangle 0 0 0) (current 1 400 10 13 0 0 0) (rounded (digits 2 124425 124425) (known-exactly _) tt) tt tt tt tt
+    (digits 3 593854 593855) (Ks-rectangle 0 0 0 b) (Ki-rectangle 0 0 0) (current 1 400 10 13 0 0 0)
+    (rounded (digits 2 124425 124425) (known-exactly _) tt) tt tt tt tt
 
 pub resistance-rodless : Known (resistance rodless) (digits 6 2663480 2663481)
 unfolding tests lengths resistance s

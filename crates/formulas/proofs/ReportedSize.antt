@@ -1,5 +1,5 @@
--- The size by the upper end of any pair that reports the decrement factor: such an end is known but for the width, and the size grows with it.
--- Assumes nothing.
+-- The size by the upper end of any pair that reports the decrement factor: such an end is known but for the width, and the size grows with
+-- it.
 use Prim.Native.Nat.{ℕ, _+_, _*_, _^_, _≤_, _<_}
 use mathlib.Core.Path.{_≡_}
 use native.Mathlib.Omega.{arith}
@@ -50,7 +50,8 @@ upper-between a b l (pos n) A h k w = record { low = omega arith; high = omega a
 upper-between a b l (negsuc n) A h k w = absurd (omega arith)
 
 -- the size at both bounds of the upper end is the size between them
-pub size-reported : (c : Case) (a b : ℕ) {kcmil : ℕ} → Within (Df c workDepth) (reported billionths (natural a b)) → size c a ≡ kcmil → size c (b + 1000) ≡ kcmil
+pub size-reported : (c : Case) (a b : ℕ) {kcmil : ℕ} → Within (Df c workDepth) (reported billionths (natural a b)) → size c a ≡ kcmil
+    → size c (b + 1000) ≡ kcmil
     → (pair : Interval) → Reports (Df c) billionths factorWidth pair → size c (natAbs (pair .upper)) ≡ kcmil
 unfolding billionths reported natural
 size-reported c a b w e e′ pair r =

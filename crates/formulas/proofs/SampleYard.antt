@@ -1,5 +1,4 @@
 -- The two lines of document 01's sample sheet at numbers, each part of a formula by its line.
--- Assumes nothing.
 use Prim.Native.Nat.{ℕ}
 use Rattle.exact.specs.Ends.{minusEnds}
 use Rattle.case.specs.declared.Case.{Case}
@@ -80,13 +79,15 @@ pub mesh-sample : Known (mesh sample) (digits 3 1027839 1027841)
 unfolding tests lengths mesh LM
 mesh-sample =
     known-voltage _ (digits 9 355823436667 355823436670) (digits 9 808430848107 808430848115) (digits 6 1582873044457 1582873044477)
-    (digits 3 1027839 1027841) (Km-sample 1 400) (Ki-sample 1 400) (current 1 400 11 11 0 0 0) (rounded (digits 0 1540 1540) (known-exactly _) tt) tt tt tt tt
+    (digits 3 1027839 1027841) (Km-sample 1 400) (Ki-sample 1 400) (current 1 400 11 11 0 0 0)
+    (rounded (digits 0 1540 1540) (known-exactly _) tt) tt tt tt tt
 
 pub step-sample : Known (step sample) (digits 3 625691 625692)
 unfolding tests lengths step
 step-sample =
     known-voltage _ (digits 9 162454092432 162454092434) (digits 9 369095698005 369095698011) (digits 6 722673599808 722673599822)
-    (digits 3 625691 625692) (Ks-sample 1 400) (Ki-sample 1 400) (current 1 400 11 11 0 0 0) (rounded (digits 0 1155 1155) (known-exactly _) tt) tt tt tt tt
+    (digits 3 625691 625692) (Ks-sample 1 400) (Ki-sample 1 400) (current 1 400 11 11 0 0 0)
+    (rounded (digits 0 1155 1155) (known-exactly _) tt) tt tt tt tt
 
 pub resistance-sample : Known (resistance sample) (digits 6 2775693 2775694)
 unfolding tests lengths resistance s

@@ -1,5 +1,4 @@
 -- The conductor size, defined by squares, is the smallest whole number that I·Kf·√t is not above. f is the factor's reported upper end.
--- Assumes nothing.
 use Prim.Native.Nat.{ℕ, zero, suc, _+_, _*_, _^_, _≤_, _<_}
 use mathlib.Core.Path.{_≡_, refl, ap}
 use mathlib.Core.Bool.{Bool, true, false, cond, not}
@@ -64,7 +63,8 @@ module _ (c : Case) (f : ℕ) where
   pub size-enough : duty c f ^ 2 * c .wire ≤ size c f ^ 2 * 10 ^ 31
   unfolding size enough
   size-enough =
-      leb→le _ _ (smallest-passes (enough c f) 0 (duty c f ^ 2 * c .wire) (rw zero-add (le→leb _ _ (square-grows (duty c f ^ 2 * c .wire)))))
+      leb→le _ _ (smallest-passes (enough c f) 0 (duty c f ^ 2 * c .wire)
+      (rw zero-add (le→leb _ _ (square-grows (duty c f ^ 2 * c .wire)))))
 
   pub size-least : (m : ℕ) → m < size c f → m ^ 2 * 10 ^ 31 < duty c f ^ 2 * c .wire
   unfolding size enough
@@ -96,11 +96,13 @@ module _ (c : Case) (f : ℕ) (d : 0 < duty c f) where
   unfolding top decimal
   top-wire = omega arith
 
-  low : (m : ℕ) → duty c f ^ 2 * c .wire ≤ m ^ 2 * 10 ^ 31 → duty c f ^ 2 * top (decimal (c .wire) 3) ≤ (m * 10 ^ 14) ^ 2 * decimal (c .wire) 3 .den
+  low : (m : ℕ) → duty c f ^ 2 * c .wire ≤ m ^ 2 * 10 ^ 31
+      → duty c f ^ 2 * top (decimal (c .wire) 3) ≤ (m * 10 ^ 14) ^ 2 * decimal (c .wire) 3 .den
   unfolding decimal
   low m h = rw top-wire (omega (arith, squares m))
 
-  high : (m : ℕ) → m ^ 2 * 10 ^ 31 < duty c f ^ 2 * c .wire → (m * 10 ^ 14) ^ 2 * decimal (c .wire) 3 .den < duty c f ^ 2 * top (decimal (c .wire) 3)
+  high : (m : ℕ) → m ^ 2 * 10 ^ 31 < duty c f ^ 2 * c .wire
+      → (m * 10 ^ 14) ^ 2 * decimal (c .wire) 3 .den < duty c f ^ 2 * top (decimal (c .wire) 3)
   unfolding decimal
   high m h = rw top-wire (omega (arith, squares m))
 
@@ -139,7 +141,8 @@ module _ {c : Case} (b : Bounds c) {f : ℕ} (r : Between 1000000000 f 223606800
   pub duty-pos : 0 < duty c f
   unfolding duty
   duty-pos =
-      mul-pos (mul-pos {m = c .fault} {n = f} (omega (arith, b .fault .low)) (omega (arith, r .low))) (omega (arith, kf-bounds (b .metal) .low))
+      mul-pos (mul-pos {m = c .fault} {n = f} (omega (arith, b .fault .low)) (omega (arith, r .low)))
+      (omega (arith, kf-bounds (b .metal) .low))
 
   pub duty-bound : duty c f < 10 ^ 18
   unfolding duty

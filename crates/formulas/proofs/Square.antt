@@ -1,6 +1,5 @@
 -- "Equal counts keep the square's definitions": with n conductors each way and the side s, as document 01 has them.
--- Assumes nothing.
-use Prim.Native.Nat.{ℕ, _+_, _-_, _^_}
+use Prim.Native.Nat.{ℕ, _-_, _^_}
 use mathlib.Core.Path.{_≡_, sym, ap, subst}
 use mathlib.Core.Bool.{true}
 use native.Mathlib.Omega.{arith}
@@ -77,5 +76,6 @@ module _ (c : Case) (e : c .across ≡ c .along) where
   na-whole b =
       let m = whole (c .across) in
       let twice-length : whole 2 ·f Lc c ≈f m ·f Lp c
-      = trans≈ (cong· (refl≈ (whole 2)) conductors) (subst (λ y. whole 2 ·f (whole 2 ·f m ·f Lx c) ≈f m ·f (whole 2 ·f (Lx c +f y))) (sym sides) (fourfold (c .across) (Lx c))) in
+      = trans≈ (cong· (refl≈ (whole 2)) conductors)
+      (subst (λ y. whole 2 ·f (whole 2 ·f m ·f Lx c) ≈f m ·f (whole 2 ·f (Lx c +f y))) (sym sides) (fourfold (c .across) (Lx c))) in
       trans≈ (cong· twice-length (refl≈ _)) (trans≈ (mul-assoc m (Lp c) _) (trans≈ (cong· (refl≈ m) (mul-inv (Lp-pos b))) (mul-one m)))

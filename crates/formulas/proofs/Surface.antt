@@ -1,5 +1,4 @@
 -- Q with a surface layer as one fraction, (2·thick·layer + 90·soil)/(2·thick + 90).
--- Assumes nothing.
 use Prim.Native.Nat.{ℕ, _+_, _*_, _≤_, _<_}
 use native.Mathlib.Omega.{arith}
 use native.Mathlib.Nat.{mul-le-mul-left, mul-le-mul-right}

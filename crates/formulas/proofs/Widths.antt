@@ -1,6 +1,5 @@
--- Every width of document 01, 'What exact means', as changed by requests (j), (c) and (d), worked by hand on its sample yard, on that yard with twenty rods of 7.5 m along the
--- perimeter, and on a rectangle: a width made wider or narrower is refused here.
--- Assumes nothing.
+-- Every width of document 01, 'What exact means', as changed by requests (j), (c) and (d), worked by hand on its sample yard, on that yard
+-- with twenty rods of 7.5 m along the perimeter, and on a rectangle: a width made wider or narrower is refused here.
 use Prim.Native.Nat.{ℕ, _+_}
 use mathlib.Core.List.{List, [], _∷_}
 use lib.IntN.{pos}
@@ -12,7 +11,8 @@ use Rattle.exact.specs.Reported.{ten, over, reported}
 use Rattle.case.specs.declared.Case.{Case}
 use Rattle.formulas.specs.Lengths.{ρ, D, Lr, Lx, Ly, Lc, Lp, LR, LT, na}
 use Rattle.formulas.specs.Step.{LS}
-use Rattle.formulas.specs.Width.{mV, μΩ, μA, billionths, factorWidth, currentWidth, tolerableWidth, resistanceWidth, riseWidth, referenceKi, meshWidth, stepWidth}
+use Rattle.formulas.specs.Width.{mV, μΩ, μA, billionths, factorWidth, currentWidth, tolerableWidth, resistanceWidth, riseWidth}
+use Rattle.formulas.specs.Width.{referenceKi, meshWidth, stepWidth}
 use Rattle.formulas.specs.Yards.{grid, sample, rectangle}
 use Rattle.formulas.proofs.Tables.{Every}
 
@@ -61,4 +61,34 @@ widths =
 
 as-worked : Every (λ w. w .width ≈f w .number) widths
 unfolding widths factorWidth currentWidth tolerableWidth resistanceWidth riseWidth meshWidth stepWidth referenceKi ρ D Lr Lx Ly Lc Lp LR LT na LS mV μΩ μA billionths reported ten over inv whole decimal _+f_ _·f_ _÷f_
-as-worked = (record { to = record { le = lit≤ tt }; fro = record { le = lit≤ tt } }, (record { to = record { le = lit≤ tt }; fro = record { le = lit≤ tt } }, (record { to = record { le = lit≤ tt }; fro = record { le = lit≤ tt } }, (record { to = record { le = lit≤ tt }; fro = record { le = lit≤ tt } }, (record { to = record { le = lit≤ tt }; fro = record { le = lit≤ tt } }, (record { to = record { le = lit≤ tt }; fro = record { le = lit≤ tt } }, (record { to = record { le = lit≤ tt }; fro = record { le = lit≤ tt } }, (record { to = record { le = lit≤ tt }; fro = record { le = lit≤ tt } }, (record { to = record { le = lit≤ tt }; fro = record { le = lit≤ tt } }, (record { to = record { le = lit≤ tt }; fro = record { le = lit≤ tt } }, (record { to = record { le = lit≤ tt }; fro = record { le = lit≤ tt } }, tt)))))))))))
+as-worked = (
+  record { to = record { le = lit≤ tt }; fro = record { le = lit≤ tt } },
+  (
+    record { to = record { le = lit≤ tt }; fro = record { le = lit≤ tt } },
+    (
+      record { to = record { le = lit≤ tt }; fro = record { le = lit≤ tt } },
+      (
+        record { to = record { le = lit≤ tt }; fro = record { le = lit≤ tt } },
+        (
+          record { to = record { le = lit≤ tt }; fro = record { le = lit≤ tt } },
+          (
+            record { to = record { le = lit≤ tt }; fro = record { le = lit≤ tt } },
+            (
+              record { to = record { le = lit≤ tt }; fro = record { le = lit≤ tt } },
+              (
+                record { to = record { le = lit≤ tt }; fro = record { le = lit≤ tt } },
+                (
+                  record { to = record { le = lit≤ tt }; fro = record { le = lit≤ tt } },
+                  (
+                    record { to = record { le = lit≤ tt }; fro = record { le = lit≤ tt } },
+                    (record { to = record { le = lit≤ tt }; fro = record { le = lit≤ tt } }, tt),
+                  ),
+                ),
+              ),
+            ),
+          ),
+        ),
+      ),
+    ),
+  ),
+)

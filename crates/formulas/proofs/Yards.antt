@@ -1,5 +1,4 @@
 -- Every yard of the list of worked yards is right.
--- Assumes nothing.
 use Prim.Native.Nat.{ℕ, _*_, _^_, _≤_, _<_}
 use mathlib.Core.Path.{_≡_, refl, ap}
 use mathlib.Core.Bool.{Bool, _&&_}
@@ -24,7 +23,8 @@ use Rattle.text.specs.Text.{same}
 use Rattle.case.specs.declared.Case.{Case}
 use Rattle.case.specs.declared.Judged.the-variants.{Sound}
 use Rattle.case.specs.Columns.{columns, inRange, nameIndex, named}
-use Rattle.case.specs.Check.{leftOf, outOfRange, agree, disagreement, finding, caseFinding, countFrom, ownPlaces, recordFinding, judgedBy, recordJudged}
+use Rattle.case.specs.Check.{leftOf, outOfRange, agree, disagreement, finding, caseFinding, countFrom, ownPlaces, recordFinding, judgedBy}
+use Rattle.case.specs.Check.{recordJudged}
 use Rattle.case.specs.Bounds.{Bounds}
 use Rattle.case.proofs.Bounds.{record-bounds}
 use Rattle.case.proofs.Tests.{both, _then_}
@@ -41,14 +41,18 @@ use Rattle.formulas.proofs.Positive.{millisecond}
 use Rattle.formulas.proofs.Decrement.{consistent-Df}
 use Rattle.formulas.proofs.Conductors.{quantity-n}
 use Rattle.formulas.proofs.Quantities.{quantity-IG}
-use Rattle.formulas.proofs.Consistent.{consistent-touch, consistent-tolerable-step, quantity-resistance, consistent-step, consistent-mesh}
+use Rattle.formulas.proofs.Consistent.{consistent-touch, consistent-tolerable-step, quantity-resistance, consistent-step}
+use Rattle.formulas.proofs.Consistent.{consistent-mesh}
 use Rattle.formulas.proofs.ReportedSize.{size-reported}
-use Rattle.formulas.proofs.Known.{Known, digits, atMost, inside, rounded, known-exactly, known-product, holds-known, inside-within, at-most}
+use Rattle.formulas.proofs.Known.{Known, digits, atMost, inside, rounded, known-exactly, known-product, holds-known, inside-within}
+use Rattle.formulas.proofs.Known.{at-most}
 use Rattle.formulas.proofs.KnownFunctions.{tests}
-use Rattle.formulas.proofs.KnownFactor.{factor-3000-10, factor-1000-10, factor-500-10, factor-99-11, factor-100-11, factor-499-40, factor-500-40}
+use Rattle.formulas.proofs.KnownFactor.{factor-3000-10, factor-1000-10, factor-500-10, factor-99-11, factor-100-11, factor-499-40}
+use Rattle.formulas.proofs.KnownFactor.{factor-500-40}
 use Rattle.formulas.proofs.SampleYard.{touch-sample, tolerable-step-sample, mesh-sample, step-sample, resistance-sample}
 use Rattle.formulas.proofs.SampleYard.{touch-wet, tolerable-step-wet, mesh-wet, step-wet}
-use Rattle.formulas.proofs.RectangleYard.{n-rectangle, mesh-rectangle, step-rectangle, resistance-rectangle, mesh-rodless, step-rodless, resistance-rodless}
+use Rattle.formulas.proofs.RectangleYard.{n-rectangle, mesh-rectangle, step-rectangle, resistance-rectangle, mesh-rodless}
+use Rattle.formulas.proofs.RectangleYard.{step-rodless, resistance-rodless}
 
 -- ---- a tolerable voltage, where the root of the time is a fraction
 
@@ -67,7 +71,8 @@ exact-root q ms r u R m p e w =
     holds-wider (inside-within _ R w)
     (holds-quotient (record { proper = refl≤ q }) (record { proper = refl≤ _ }) (consistent-exactly q) (t .consistent)
     (holds-exactly (record { low = refl≤ q; high = refl≤ q }))
-    (holds-root 2 u r r (omega arith) (omega arith) (omega arith) (holds-exactly (record { low = refl≤ (decimal ms 3); high = refl≤ (decimal ms 3) })))
+    (holds-root 2 u r r (omega arith) (omega arith) (omega arith)
+    (holds-exactly (record { low = refl≤ (decimal ms 3); high = refl≤ (decimal ms 3) })))
     (record { positive = record { lt = omega arith } })
     (t .positive))
 
@@ -89,7 +94,11 @@ module _ (u : Scale) (width : Ends → Fraction) (a b : ℕ) where
   reports-known {A = A} c k t =
       let h = both (leb a b) _ t in
       let l = both (inside A pair) _ (h .1) in
-      record { ordered = pos≤ (leb→le a b (h .0)); holds = holds-known c (rounded pair k (l .0)); narrow = record { apart = at-most _ _ (l .1) } }
+      record {
+        ordered = pos≤ (leb→le a b (h .0));
+        holds = holds-known c (rounded pair k (l .0));
+        narrow = record { apart = at-most _ _ (l .1) };
+      }
 
 -- ---- the size, by the factor in billionths
 
@@ -99,11 +108,13 @@ module _ (fault metal : ℕ) where
 
   sized-3000 : {kcmil : ℕ} → size (at 3000) 1004411241 ≡ kcmil → size (at 3000) 1004412242 ≡ kcmil → Right (conductor (at 3000) kcmil)
   unfolding tests billionths
-  sized-3000 = size-reported (at 3000) 1004411241 1004411242 (rounded (digits 9 1004411241 1004411242) (factor-3000-10 (at 3000)) tt .within)
+  sized-3000 =
+      size-reported (at 3000) 1004411241 1004411242 (rounded (digits 9 1004411241 1004411242) (factor-3000-10 (at 3000)) tt .within)
 
   sized-1000 : {kcmil : ℕ} → size (at 1000) 1013176107 ≡ kcmil → size (at 1000) 1013177108 ≡ kcmil → Right (conductor (at 1000) kcmil)
   unfolding tests billionths
-  sized-1000 = size-reported (at 1000) 1013176107 1013176108 (rounded (digits 9 1013176107 1013176108) (factor-1000-10 (at 1000)) tt .within)
+  sized-1000 =
+      size-reported (at 1000) 1013176107 1013176108 (rounded (digits 9 1013176107 1013176108) (factor-1000-10 (at 1000)) tt .within)
 
 -- ---- the claim
 
@@ -154,15 +165,25 @@ starred =
     then sized-1000 986 1 refl refl
     then sized-1000 987 1 refl refl
     then sized-1000 1000 5 refl refl
-    then reports-known billionths factorWidth 1004411240 1004411242 (consistent-Df (bounds (at 20000 1 3000) refl)) (factor-3000-10 (at 20000 1 3000)) tt
-    then reports-known billionths factorWidth 1013176106 1013176108 (consistent-Df (bounds (at 1000 1 1000) refl)) (factor-1000-10 (at 1000 1 1000)) tt
-    then reports-known billionths factorWidth 1137716322 1137716324 (consistent-Df (bounds (timed 99 11) refl)) (factor-99-11 (timed 99 11)) tt
-    then reports-known billionths factorWidth 1136431379 1136431382 (consistent-Df (bounds (timed 100 11) refl)) (factor-100-11 (timed 100 11)) tt
-    then reports-known billionths factorWidth 1101187707 1101187709 (consistent-Df (bounds (timed 499 40) refl)) (factor-499-40 (timed 499 40)) tt
-    then reports-known billionths factorWidth 1100994761 1100994763 (consistent-Df (bounds (timed 500 40) refl)) (factor-500-40 (timed 500 40)) tt
+    then reports-known billionths factorWidth 1004411240 1004411242 (consistent-Df (bounds (at 20000 1 3000) refl))
+    (factor-3000-10 (at 20000 1 3000)) tt
+    then reports-known billionths factorWidth 1013176106 1013176108 (consistent-Df (bounds (at 1000 1 1000) refl))
+    (factor-1000-10 (at 1000 1 1000)) tt
+    then reports-known billionths factorWidth 1137716322 1137716324 (consistent-Df (bounds (timed 99 11) refl)) (factor-99-11 (timed 99 11))
+    tt
+    then reports-known billionths factorWidth 1136431379 1136431382 (consistent-Df (bounds (timed 100 11) refl))
+    (factor-100-11 (timed 100 11)) tt
+    then reports-known billionths factorWidth 1101187707 1101187709 (consistent-Df (bounds (timed 499 40) refl))
+    (factor-499-40 (timed 499 40)) tt
+    then reports-known billionths factorWidth 1100994761 1100994763 (consistent-Df (bounds (timed 500 40) refl))
+    (factor-500-40 (timed 500 40)) tt
     then reports-known μA currentWidth 1957957253 1957957256 (quantity-IG (bounds (timed 500 10) refl) .consistent) current-500-10 tt
     then record { to = record { le = lit≤ tt }; fro = record { le = lit≤ tt } }
-    then (holds-known (consistent-touch sound-sample) touch-sample, holds-known (consistent-tolerable-step sound-sample) tolerable-step-sample)
+    then (
+      holds-known (consistent-touch sound-sample) touch-sample,
+      holds-known (consistent-tolerable-step sound-sample)
+          tolerable-step-sample,
+    )
     then holds-known (consistent-mesh sound-sample) mesh-sample
     then holds-known (consistent-step sound-sample) step-sample
     then holds-known (quantity-resistance sound-sample .consistent) resistance-sample

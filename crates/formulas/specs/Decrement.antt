@@ -1,5 +1,4 @@
 -- The decrement factor. Request (d) of document 02 (IEEE Std 80-2013, equation 84).
--- Assumes nothing.
 use Rattle.exact.specs.Fraction.{Fraction, whole, decimal, _·f_}
 use Rattle.exact.specs.Exact.{Exact, exactly, _+x_, _−x_, _·x_, _÷x_, minus}
 use Rattle.exact.specs.Root.{root}

@@ -1,6 +1,5 @@
 -- Resistivity in ohm metres, lengths in metres, the effective number of conductors and Ki. Document 01, 'The formulas', and request (c) of
 -- document 02.
--- Assumes nothing.
 use Prim.Native.Nat.{_-_}
 use mathlib.Core.Bool.{Bool, cond}
 use lib.Dec.{eqb}

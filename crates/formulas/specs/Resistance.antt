@@ -1,6 +1,5 @@
 -- Resistance of the grid in ohms and ground potential rise in volts. Document 01, 'The formulas', and request (c) of
 -- document 02.
--- Assumes nothing.
 use Rattle.exact.specs.Fraction.{whole}
 use Rattle.exact.specs.Exact.{Exact, exactly, _+x_, _·x_, _÷x_}
 use Rattle.exact.specs.Root.{root}

@@ -1,5 +1,4 @@
 -- Conductor size. Document 01, 'The formulas' (IEEE Std 80-2013, equations 47 and 48, Table 2), and request (d) of document 02.
--- Assumes nothing.
 use Prim.Native.Nat.{ℕ, zero, suc, _*_, _^_}
 use mathlib.Core.Bool.{Bool, cond}
 use mathlib.Core.List.{List, [], _∷_}
@@ -23,8 +22,8 @@ unfoldable pub smallest : (ℕ → Bool) → ℕ → ℕ → ℕ
 smallest test first zero = first
 smallest test first (suc tries) = let later = smallest test (suc first) tries in cond (test first) first later
 
--- f is the upper end of the decrement factor as reported, in billionths. Request (d) of document 02: "Conductor size is the smallest whole kcmil
--- not below the product with the factor's upper end"
+-- f is the upper end of the decrement factor as reported, in billionths. Request (d) of document 02: "Conductor size is the smallest whole
+-- kcmil not below the product with the factor's upper end"
 module _ (c : Case) (f : ℕ) where
   -- "I·Kf·√t, I being fault·Df in kA", in kcmil; request (a): "conductor size uses wire with the factor from clear"
   unfoldable pub required : Exact
@@ -34,8 +33,8 @@ module _ (c : Case) (f : ℕ) where
   unfoldable pub duty : ℕ
   duty = c .fault * f * Kf (c .metal)
 
-  -- "the smallest whole kcmil not below I·Kf·√t": squared, with t in ms, duty² · wire ≤ kcmil² · 10^31. No size is tried above duty² · wire,
-  -- which passes. proofs/Size.antt shows that this is the smallest number which `required` is not above.
+  -- "the smallest whole kcmil not below I·Kf·√t": squared, with t in ms, duty² · wire ≤ kcmil² · 10^31. No size is tried above duty² ·
+  -- wire, which passes. proofs/Size.antt shows that this is the smallest number which `required` is not above.
   unfoldable pub enough : ℕ → Bool
   enough kcmil = leb (duty ^ 2 * c .wire) (kcmil ^ 2 * 10 ^ 31)
 

@@ -1,5 +1,4 @@
 -- Step voltage in volts. Document 01, 'The formulas', and requests (b) and (c) of document 02.
--- Assumes nothing.
 use Prim.Native.Nat.{_-_, _^_}
 use mathlib.Core.Bool.{cond}
 use Rattle.exact.specs.Fraction.{Fraction, whole, decimal, _+f_, _·f_, inv}
@@ -16,7 +15,8 @@ module _ (c : Case) where
   -- −(n−2)·ln 2"
   unfoldable pub halfPower : Exact
   halfPower =
-      cond (equalCounts c) (exactly (inv (whole (2 ^ (c .across - 2))))) (exp (minus ((n c −x exactly (whole 2)) ·x ln (exactly (whole 2)))))
+      cond (equalCounts c) (exactly (inv (whole (2 ^ (c .across - 2)))))
+      (exp (minus ((n c −x exactly (whole 2)) ·x ln (exactly (whole 2)))))
 
   -- "LS = 0.75·Lc + 0.85·LR"
   unfoldable pub LS : Fraction

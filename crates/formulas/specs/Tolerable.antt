@@ -1,6 +1,4 @@
 -- Tolerable touch and step voltage in volts. Document 01, 'The formulas'.
--- Assumes nothing.
-use Prim.Native.Nat.{ℕ}
 use mathlib.Core.Bool.{cond}
 use lib.Dec.{eqb}
 use Rattle.exact.specs.Fraction.{Fraction, whole, decimal, _+f_, _−f_, _·f_, _÷f_}

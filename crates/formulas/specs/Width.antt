@@ -1,6 +1,5 @@
 -- How far apart the two ends of a reported pair may be. Document 01, 'What exact means', and requests (j), (c) and (d) of
 -- document 02.
--- Assumes nothing.
 use Rattle.exact.specs.Fraction.{Fraction, decimal, _+f_, _·f_, _÷f_}
 use Rattle.exact.specs.Ends.{Ends}
 use Rattle.exact.specs.Reported.{Scale, ten}
@@ -41,8 +40,8 @@ resistanceWidth A = decimal 1 4 ·f A .lower +f decimal 2 6
 unfoldable pub riseWidth : Ends → Fraction
 riseWidth A = decimal 5 4 ·f A .lower +f decimal 10 3
 
--- Ki that the widths of the mesh and step voltages refer to, as a fraction. Request (c): "the mesh and step widths use Ki worked with na in place
--- of n"
+-- Ki that the widths of the mesh and step voltages refer to, as a fraction. Request (c): "the mesh and step widths use Ki worked with na in
+-- place of n"
 unfoldable pub referenceKi : Case → Fraction
 referenceKi c = decimal 644 3 +f decimal 148 3 ·f na c
 

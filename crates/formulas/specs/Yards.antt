@@ -1,7 +1,6 @@
--- Yards that are worked by hand, as one list, and what is right of each: the starred yards of document 01, 'Yards worked by hand', its sample yard, and the
--- rectangle of IEEE Std 80-2013, B.3. Request (d) of document 02: "Document 01's cases of factor, current, size and the verdict sheet are worked anew at
--- hz 60, with X/R 10 where none is named." proofs/Yards.antt has the claim.
--- Assumes nothing.
+-- Yards that are worked by hand, as one list, and what is right of each: the starred yards of document 01, 'Yards worked by hand', its
+-- sample yard, and the rectangle of IEEE Std 80-2013, B.3. Request (d) of document 02: "Document 01's cases of factor, current, size and
+-- the verdict sheet are worked anew at hz 60, with X/R 10 where none is named." proofs/Yards.antt has the claim.
 use Prim.Native.Nat.{ℕ}
 use mathlib.Core.Path.{_≡_}
 use mathlib.Core.List.{List, [], _∷_}
@@ -93,8 +92,8 @@ rectangle = grid 1 400 10 13 38 10000 1
 abbrev pub rodless : Case
 rodless = grid 1 400 10 13 0 0 0
 
--- a yard and what is right of it: tolerable touch and step in mV, their ends in mV, kcmil, the ends of Df in billionths, those of the current in microamperes, G, those of n in
--- billionths, of the mesh and of the step voltage in mV, and of the resistance in micro-ohms
+-- a yard and what is right of it: tolerable touch and step in mV, their ends in mV, kcmil, the ends of Df in billionths, those of the
+-- current in microamperes, G, those of n in billionths, of the mesh and of the step voltage in mV, and of the resistance in micro-ohms
 pub data Worked : Type 0 where
   voltages : Case → ℕ → ℕ → Worked
   tolerable : Case → (touch touch′ step step′ : ℕ) → Worked
@@ -137,7 +136,8 @@ yards =
     ∷ tolerable wet 809961 809962 2573753 2573754
     ∷ meshVoltage wet 256959 256960
     ∷ stepVoltage wet 156422 156423
-    -- the guide prints n 11.35, of na and nb rounded; a mesh voltage of 595.8 V, of Km rounded to 0.77 and of 1908 A, the current without Df; 2.62 ohms
+    -- the guide prints n 11.35, of na and nb rounded; a mesh voltage of 595.8 V, of Km rounded to 0.77 and of 1908 A, the current without
+    -- Df; 2.62 ohms
     ∷ conductors rectangle 11344040332 11344040333
     ∷ meshVoltage rectangle 609155 609156
     ∷ stepVoltage rectangle 471465 471466
@@ -152,9 +152,9 @@ yards =
 abbrev pub Between : Exact → Scale → ℕ → ℕ → Type 0
 Between x unit lower upper = Holds (reported unit (natural lower upper)) x
 
--- "a starred voltage means that the pair with both ends there holds the exact value". A size is right if it is the size by the upper end of every pair
--- that reports the factor. A factor or current is right if the pair with those ends holds the exact value and meets its width, any other number if the
--- pair holds the exact value.
+-- "a starred voltage means that the pair with both ends there holds the exact value". A size is right if it is the size by the upper end of
+-- every pair that reports the factor. A factor or current is right if the pair with those ends holds the exact value and meets its width,
+-- any other number if the pair holds the exact value.
 abbrev pub Right : Worked → Type 0
 Right (voltages c touch step) = Between (tolerableTouch c) mV touch touch × Between (tolerableStep c) mV step step
 Right (tolerable c touch touch′ step step′) = Between (tolerableTouch c) mV touch touch′ × Between (tolerableStep c) mV step step′

@@ -1,7 +1,6 @@
 -- A header with no wrong column gives each name a column.
--- Assumes nothing.
 use Prim.Native.Nat.{ℕ, _+_, _≤_, _<_}
-use mathlib.Core.Path.{_≡_, refl, ap, _∙_}
+use mathlib.Core.Path.{_≡_, refl}
 use mathlib.Core.Bool.{Bool, true, false, cond, _&&_}
 use mathlib.Core.List.{List, [], _∷_}
 use native.Mathlib.Numerals.{add-one}
@@ -26,7 +25,8 @@ fresh-name : (form : Form) (at t : List ℕ) (c r : ℕ) → 1 ≤ c → cond (f
 unfolding fresh foundName
 fresh-name form at t c r h = go (ltb (nameIndex form t) (length form)) refl (eqb (getD at (nameIndex form t) 0) 0) refl
   where
-    go : (p : Bool) → ltb (nameIndex form t) (length form) ≡ p → (q : Bool) → eqb (getD at (nameIndex form t) 0) 0 ≡ q → cond (p && q) r c ≡ 0
+    go : (p : Bool) → ltb (nameIndex form t) (length form) ≡ p → (q : Bool) → eqb (getD at (nameIndex form t) 0) 0 ≡ q
+        → cond (p && q) r c ≡ 0
         → Fresh form at t r
     go true e true f z = record { found = rw e; first = eqb-true _ 0 f; then = z }
     go true e false f z = absurd (omega arith)
@@ -45,6 +45,7 @@ placed-from form all (t ∷ fs) at c a e =
     rw (← add-one c)
     (placed-from form all fs (set at (nameIndex form t) c) (c + 1) (header-step a refl (q .found) (q .first)) (rw (add-one c) (q .then)))
 
-pub header-accepted : (form : Form) (all : List (List ℕ)) → wrongName form 1 (noColumns form) all ≡ 0 → Placed (length form) (columnsOf form all)
+pub header-accepted : (form : Form) (all : List (List ℕ)) → wrongName form 1 (noColumns form) all ≡ 0
+    → Placed (length form) (columnsOf form all)
 unfolding columnsOf
 header-accepted form all e = placed-from form all all (noColumns form) 1 (header-start form all) e

@@ -1,5 +1,4 @@
 -- The reading of a header: what holds while the fields fs are left, column c is next, and `at` holds the columns left of it.
--- Assumes nothing.
 use Prim.Native.Nat.{ℕ, zero, suc, _+_, _-_, _≤_, _<_}
 use mathlib.Core.Path.{_≡_, refl, sym, ap, _∙_}
 use mathlib.Core.Bool.{Bool, true, false, cond}
@@ -11,12 +10,12 @@ use lib.ListN.{length, getD, set, replicate, length-set, length-replicate}
 use lib.Seq.{getD-set-same, getD-set-other}
 use lib.Dec.{ltb}
 use borrow.Author.Tests.{eq-eqb, ne-eqb, le-leb, lt-leb, ltb-true}
+use Rattle.text.proofs.Clash.{clash}
 use Rattle.text.specs.Text.{fieldsOf}
 use Rattle.case.specs.Columns.{Form, nameIndex}
 use Rattle.case.specs.Bounds.{Placed}
 use Rattle.case.specs.Order.{Ordered}
 use Rattle.header.specs.Header.{noColumns, fresh, wrongName, columnsFrom, columnsOf}
-use Rattle.header.specs.declared.names.Found.{Found}
 use Rattle.header.specs.declared.names.Found.the-variants.{At, Nothing}
 use Rattle.header.specs.Parts.{Header, foundName}
 use Rattle.header.proofs.FreeNames.{free, free-zeros, free-set, free-none, set-under}
@@ -24,10 +23,10 @@ use Rattle.header.proofs.FreeNames.{free, free-zeros, free-set, free-no
 -- what the search for a name says of its index
 known : (b : Bool) (i k : ℕ) → cond b (At i) Nothing ≡ At k → (b ≡ true) × (i ≡ k)
 known true i k e = (refl, cc)
-known false i k e = let z : _≡_ {A = ℕ} 0 1 = cc in absurd (omega arith)
+known false i k e = clash cc
 
 unknown : (b : Bool) (i : ℕ) → cond b (At i) Nothing ≡ Nothing → b ≡ false
-unknown true i e = let z : _≡_ {A = ℕ} 0 1 = cc in absurd (omega arith)
+unknown true i e = clash cc
 unknown false i e = refl
 
 zeros-under : (n k : ℕ) → getD (replicate n 0) k 0 < 1
@@ -137,7 +136,8 @@ order-start form order e =
 
 -- column c has the name with index k, which had no column
 pub order-step : {form : Form} {all : List (List ℕ)} {at order : List ℕ} {fs : List (List ℕ)} {c : ℕ} (k : ℕ) → HeaderAt form all at fs c
-    → OrderAt form at order c → k < length form → c ≤ length form → getD at k 0 ≡ 0 → OrderAt form (set at k c) (set order (c - 1) k) (c + 1)
+    → OrderAt form at order c → k < length form → c ≤ length form → getD at k 0 ≡ 0
+    → OrderAt form (set at k c) (set order (c - 1) k) (c + 1)
 order-step {form} {at = at} {order} {c = c} k a o h m e =
     record {
       count = length-set order (c - 1) k ∙ o .count;
@@ -172,7 +172,8 @@ order-step {form} {at = at} {order} {c = c} k a o h m e =
         let t : 1 ≤ getD at j 0 = rw q at l in
         rw (q, other (getD at j 0 - 1) (λ z. omega (arith, a .under j))) (o .name-of j t)
 
-pub order-end : {form : Form} {all : List (List ℕ)} {at order : List ℕ} {c : ℕ} → HeaderAt form all at [] c → OrderAt form at order c → length form < c
+pub order-end : {form : Form} {all : List (List ℕ)} {at order : List ℕ} {c : ℕ} → HeaderAt form all at [] c → OrderAt form at order c
+    → length form < c
     → Ordered (length form) at order
 order-end a o h =
     record {

@@ -1,5 +1,4 @@
 -- Names and their indices in a form: a text whose index is within the form is that name, byte for byte.
--- Assumes nothing.
 use Prim.Native.Nat.{ℕ, zero, suc, _<_}
 use mathlib.Core.Path.{_≡_, refl}
 use mathlib.Core.Bool.{Bool, true, false, cond, _&&_}
@@ -8,6 +7,7 @@ use native.Mathlib.Omega.{arith}
 use lib.ListN.{length}
 use lib.Dec.{eqb}
 use borrow.Author.Tests.{eq-eqb, eqb-true}
+use Rattle.text.proofs.Clash.{clash}
 use Rattle.text.specs.Text.{same}
 use Rattle.case.specs.Columns.{Form, nameIndex}
 use Rattle.header.specs.Parts.{nameAt}
@@ -15,13 +15,13 @@ use Rattle.header.specs.Parts.{nameAt}
 same-equal : (s t : List ℕ) → same s t ≡ true → s ≡ t
 unfolding same
 same-equal [] [] e = refl
-same-equal [] (y ∷ t) e = let z : _≡_ {A = ℕ} 0 1 = cc in absurd (omega arith)
-same-equal (x ∷ s) [] e = let z : _≡_ {A = ℕ} 0 1 = cc in absurd (omega arith)
+same-equal [] (y ∷ t) e = clash cc
+same-equal (x ∷ s) [] e = clash cc
 same-equal (x ∷ s) (y ∷ t) e = go (eqb x y) refl (λ h. same-equal s t h) e
   where
     go : (b : Bool) → eqb x y ≡ b → (same s t ≡ true → s ≡ t) → (b && same s t) ≡ true → x ∷ s ≡ y ∷ t
     go true q r h = rw (eqb-true x y q, r h)
-    go false q r h = let z : _≡_ {A = ℕ} 0 1 = cc in absurd (omega arith)
+    go false q r h = clash cc
 
 same-self : (s : List ℕ) → same s s ≡ true
 unfolding same

@@ -1,5 +1,5 @@
--- The names of a line in turn: what holds of the columns left of column c, while the fields fs are left, and what becomes of the next field.
--- Assumes nothing.
+-- The names of a line in turn: what holds of the columns left of column c, while the fields fs are left, and what becomes of the next
+-- field.
 use Prim.Native.Nat.{ℕ, _+_, _-_, _≤_, _<_}
 use mathlib.Core.Path.{_≡_, refl, sym, ap, _∙_}
 use mathlib.Core.Bool.{Bool, true, false, cond, _&&_}

@@ -1,5 +1,4 @@
 -- A line of names in words: where it has no wrong column, each name of the form stands in its column and in no other; else what is wrong.
--- Assumes nothing.
 use Prim.Native.Nat.{ℕ, zero, suc, _+_, _≤_, _<_}
 use mathlib.Core.Path.{_≡_, refl, sym, ap, _∙_}
 use mathlib.Core.Bool.{Bool, true, false, cond}
@@ -89,7 +88,8 @@ module _ {form : Form} {all : List (List ℕ)} {at : List ℕ} (n : Named form a
       }
     where
       only : (c : ℕ) → 1 ≤ c → c ≤ length form → fieldAt all c ≡ fieldAt all (getD at k 0) → c ≡ getD at k 0
-      only c l m e = sym (n .column c l m) ∙ ap (λ (t : List ℕ). getD at (nameIndex form t) 0) e ∙ n .column (getD at k 0) (n .some k h) (n .within k)
+      only c l m e =
+          sym (n .column c l m) ∙ ap (λ (t : List ℕ). getD at (nameIndex form t) 0) e ∙ n .column (getD at k 0) (n .some k h) (n .within k)
 
 -- each column has one of the names
 pub name-known-at : {form : Form} {all : List (List ℕ)} {at : List ℕ} → Named form all at → (i : ℕ) → 1 ≤ i → i ≤ length form

@@ -1,5 +1,5 @@
--- The line of names of a form. Document 01, 'The sheet': "The 18 names stand once each, in any order"; how many they are now, the form says.
--- Assumes nothing.
+-- The line of names of a form. Document 01, 'The sheet': "The 18 names stand once each, in any order"; how many they are now, the form
+-- says.
 use Prim.Native.Nat.{ℕ, suc}
 use mathlib.Core.Bool.{Bool, cond, _&&_}
 use mathlib.Core.List.{List, [], _∷_}

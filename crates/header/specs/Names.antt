@@ -1,5 +1,4 @@
 -- The names of a first line in words: where each stands, and what is wrong with a name. Document 01, 'The sheet' and 'The result table'.
--- Assumes nothing.
 use Prim.Native.Nat.{ℕ, _+_, _-_, _≤_, _<_}
 use mathlib.Core.Path.{_≡_}
 use mathlib.Core.List.{List, []}

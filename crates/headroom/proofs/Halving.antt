@@ -1,5 +1,4 @@
 -- The search for the headroom: with less fault current a safe case stays safe, so one row decides every fault current on one side of it.
--- Assumes nothing.
 use Prim.Native.Nat.{ℕ, _+_, _≤_, _<_}
 use mathlib.Core.Path.{_≡_, refl, sym, _∙_}
 use mathlib.Core.Bool.{true, false}

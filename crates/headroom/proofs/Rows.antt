@@ -1,5 +1,4 @@
 -- How many rows the search works: each turn halves what is left, so the count of halvings falls with each row.
--- Assumes nothing.
 use Prim.Native.Nat.{ℕ, zero, suc, _+_, _*_, _^_, _≤_, _<_}
 use mathlib.Core.Path.{_≡_, refl}
 use mathlib.Core.Bool.{Bool, true, false, cond}

@@ -1,9 +1,8 @@
 -- The answer to a record, from what its checks answer.
--- Assumes nothing.
 use Prim.Native.Nat.{ℕ}
 use lib.IntN.{natAbs}
 use mathlib.Core.Path.{_≡_, refl, sym, _∙_}
-use native.Mathlib.Omega.{arith}
+use Rattle.text.proofs.Clash.{clash}
 use Rattle.interval.specs.declared.Interval.{Interval}
 use Rattle.interval.specs.declared.Pair.the-variants as pair
 use Rattle.exact.specs.Fraction.{Fraction}
@@ -34,7 +33,8 @@ use Rattle.hocsimbur.specs.declared.Number.the-variants as number
 use Rattle.hocsimbur.specs.declared.Tolerable.the-variants as tolerable
 use Rattle.hocsimbur.specs.declared.RowAnswer.{RowAnswer}
 use Rattle.hocsimbur.specs.declared.RowAnswer.the-variants as row
-use Rattle.hocsimbur.specs.Asked.{pairAnswer, PairAnswered, factorInRow, resistanceInRow, sizeByRow, sizeAnswer, SmallestSize, RightSize, SizeAnswered}
+use Rattle.hocsimbur.specs.Asked.{pairAnswer, PairAnswered, factorInRow, resistanceInRow, sizeByRow, sizeAnswer, SmallestSize}
+use Rattle.hocsimbur.specs.Asked.{RightSize, SizeAnswered}
 use Rattle.hocsimbur.specs.Asked.{tolerableAnswer, RightTolerable, TolerableAnswered, rowAnswer, RightAnswer, RowAnswered}
 
 -- ---- what holds of the ends and the size by their names
@@ -71,7 +71,8 @@ module _ (c : Case) {j : Judged} (judged : j ≡ recordJudged c) where
 
   -- a question for two ends
   module _ {x : Exact} {u : Scale} {width : Ends → Fraction} {ends : Case → Interval} where
-    pub pair-told : {i : Interval} → (Bounds c → Reports x u width (ends c)) → j ≡ Sound → i ≡ ends c → PairAnswered x u width ends c (pair.Ends i)
+    pub pair-told : {i : Interval} → (Bounds c → Reports x u width (ends c)) → j ≡ Sound → i ≡ ends c
+        → PairAnswered x u width ends c (pair.Ends i)
     unfolding pairAnswer RightPair
     pair-told reports sound e =
         record { answer = rw e (asked-answer pair.Refused (pair.Ends (ends c)) sound); right = rw e (reports (sound-bounds sound)) }
@@ -108,7 +109,8 @@ module _ (c : Case) {j : Judged} (judged : j ≡ recordJudged c) where
 
   pub voltages-refused : {n l k : ℕ} → j ≡ Refused n l k → TolerableAnswered c (tolerable.Refused n l k)
   unfolding tolerableAnswer RightTolerable
-  voltages-refused fault = record { answer = refused-answer tolerable.Refused (tolerable.Ends (touchEnds c) (stepEnds c)) fault; right = tt }
+  voltages-refused fault =
+      record { answer = refused-answer tolerable.Refused (tolerable.Ends (touchEnds c) (stepEnds c)) fault; right = tt }
 
   -- the question for a row
   pub row-told : {r : Row} → j ≡ Sound → r ≡ rowOf c → RowAnswered c (row.Is r)
@@ -128,7 +130,7 @@ row-sound c {r} a = go (recordJudged c) a
   where
     go : (j : Judged) → row.Is r ≡ recordAnswer row.Refused (row.Is (rowOf c)) j → (j ≡ Sound) × (r ≡ rowOf c)
     go Sound e = (refl, cc)
-    go (Refused n l k) e = let z : _≡_ {A = ℕ} 0 1 = cc in absurd (omega arith)
+    go (Refused n l k) e = clash cc
 
 -- a case answered with a row is within its bounds, and the verdict is its own
 pub row-says : {c : Case} {r : Row} {v : Verdict} → RowAnswered c (row.Is r) → r .verdict ≡ v → Bounds c × (caseVerdict c ≡ v)

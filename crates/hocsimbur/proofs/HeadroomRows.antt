@@ -1,5 +1,4 @@
 -- The headroom of a case, of the answers of `row`: a fault current in range is answered safe if and only if it is at most the headroom.
--- Assumes nothing.
 use Prim.Native.Nat.{ℕ, _≤_}
 use mathlib.Core.Path.{_≡_}
 use mathlib.Core.Logic.{_↔_}

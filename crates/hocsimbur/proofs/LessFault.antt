@@ -1,6 +1,5 @@
--- Request (n) of document 02, of the answers of `row`: where a case is answered safe, the same case with a lower fault current that is itself in range is
--- answered safe, and so never unsafe.
--- Assumes nothing.
+-- Request (n) of document 02, of the answers of `row`: where a case is answered safe, the same case with a lower fault current that is
+-- itself in range is answered safe, and so never unsafe.
 use Prim.Native.Nat.{_≤_}
 use mathlib.Core.Path.{_≡_}
 use native.Mathlib.Omega.{arith}
@@ -21,5 +20,6 @@ pub row-stays-safe : {c d : Case} {r : Row} {a : RowAnswer} → RowAnswered c (r
 row-stays-safe {c} {d} h e l k s low a =
     let b : Bounds c = row-says h e .0 in
     let stays = less-stays l in
-    no-worse-row-safe (less-no-worse l) k s (record { low = low; high = omega (arith, l .less, b .fault .high) }) (rw (stays .split) (b .split))
+    no-worse-row-safe (less-no-worse l) k s (record { low = low; high = omega (arith, l .less, b .fault .high) })
+    (rw (stays .split) (b .split))
     (omega (arith, stays .shock, b .shock .low)) (rw (stays .body) (b .body)) h e a

@@ -1,6 +1,5 @@
 -- The driest soil decides, of the answers of `row`: of two cases that differ in soil alone, station and season aside, where the one with
 -- the higher resistivity is answered safe the other is never answered unsafe.
--- Assumes nothing.
 use mathlib.Core.Path.{_≡_}
 use Rattle.case.specs.declared.Case.{Case}
 use Rattle.row.specs.declared.Row.{Row}
@@ -12,7 +11,8 @@ use Rattle.hocsimbur.specs.declared.RowAnswer.the-variants as row
 use Rattle.hocsimbur.specs.Asked.{RowAnswered, AnsweredWith}
 use Rattle.hocsimbur.proofs.Answers.{row-says}
 
-pub drier-row-decides : {c d : Case} {r : Row} {a : RowAnswer} → RowAnswered c (row.Is r) → r .verdict ≡ Safe → LessSoil c d → RowAnswered d a
+pub drier-row-decides : {c d : Case} {r : Row} {a : RowAnswer} → RowAnswered c (row.Is r) → r .verdict ≡ Safe → LessSoil c d
+    → RowAnswered d a
     → ¬ AnsweredWith Unsafe a
 drier-row-decides {c} {d} h e l a u =
     let says = row-says h e in

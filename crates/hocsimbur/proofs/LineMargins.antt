@@ -1,5 +1,4 @@
 -- The margins of every row of an accepted sheet are right.
--- Assumes nothing.
 use Prim.Native.Nat.{ℕ, _<_}
 use mathlib.Core.List.{List}
 use lib.IntN.{ℤ}
@@ -14,4 +13,4 @@ use Rattle.margin.proofs.Right.{right-margins}
 
 pub line-margins : {s : List ℕ} {before after : List ℤ} {n : ℕ} → Answered s before after (Rows n) → (i : ℕ) → i < length (cases s)
     → Right (caseAt s i) (marginsOf (rowAt after i))
-line-margins h i l = rw (filled h i l .rows i l .is) (right-margins (line-bounds h i l))
+line-margins h i l = rw (filled h i l .parts i l .is) (right-margins (line-bounds h i l))

@@ -1,6 +1,6 @@
--- What is asked of one case as a record. Document 01, 'The result table': "Decrement factor (in thousandths), conductor size, tolerable touch,
--- tolerable step and resistance may each be asked alone, from a record, with the same checks.", as changed by requests (f) and (d) of document 02.
--- Assumes nothing.
+-- What is asked of one case as a record. Document 01, 'The result table': "Decrement factor (in thousandths), conductor size, tolerable
+-- touch, tolerable step and resistance may each be asked alone, from a record, with the same checks.", as changed by requests (f) and (d)
+-- of document 02.
 use Prim.Native.Nat.{ℕ, _<_}
 use mathlib.Core.Path.{_≡_}
 use lib.IntN.{natAbs}
@@ -80,8 +80,8 @@ unfoldable pub RightSize : Case → Number → Type 0
 RightSize c (number.Is kcmil) = SizedBy c (factorInRow c) kcmil
 RightSize c (number.Refused number line column) = Unit {0}
 
--- the answer by the names of the factor's ends and the size, and what holds of them. Two wrong programs: one that refuses every record breaks
--- `answer`; one that sizes by the lower end, by that name, breaks `right`.
+-- the answer by the names of the factor's ends and the size, and what holds of them. Two wrong programs: one that refuses every record
+-- breaks `answer`; one that sizes by the lower end, by that name, breaks `right`.
 pub record SizeAnswered (c : Case) (r : Number) : Type 0 where
   pub answer : r ≡ sizeAnswer c
   pub right : RightSize c r
@@ -103,8 +103,8 @@ unfoldable pub RightTolerable : Case → Tolerable → Type 0
 RightTolerable c (tolerable.Ends touch step) = RightVoltages c touch step
 RightTolerable c (tolerable.Refused number line column) = Unit {0}
 
--- the answer by the names of its ends, and what holds of them. Two wrong programs: one that gives step first breaks `answer`; one that weighs
--- both as touch, by those names, breaks `right`.
+-- the answer by the names of its ends, and what holds of them. Two wrong programs: one that gives step first breaks `answer`; one that
+-- weighs both as touch, by those names, breaks `right`.
 pub record TolerableAnswered (c : Case) (r : Tolerable) : Type 0 where
   pub answer : r ≡ tolerableAnswer c
   pub right : RightTolerable c r

@@ -1,5 +1,4 @@
 -- Intervals of naturals of which one lies below another, lower end by lower end and upper end by upper end: what the operations keep.
--- Assumes nothing.
 use Prim.Native.Nat.{ℕ, _*_, _/_, _≤_, _<_}
 use mathlib.Core.Path.{_≡_, sym, ap, _∙_}
 use native.Mathlib.Omega.{arith}
@@ -149,7 +148,8 @@ module _ {i j : Interval} (h : Below i j) where
       }
 
   -- each over a divisor, the upper one over the lesser
-  pub below-divided : {k k′ : Interval} {l u w : ℕ} (n : ℕ) → 0 < l → Span k l u w → Below k k′ → Below (quotientOf i k′ n) (quotientOf j k n)
+  pub below-divided : {k k′ : Interval} {l u w : ℕ} (n : ℕ) → 0 < l → Span k l u w → Below k k′
+      → Below (quotientOf i k′ n) (quotientOf j k n)
   below-divided n p s m =
       let q : 0 < m .a = le-trans p (starts s m) in
       let q′ : 0 < m .c = le-trans q (m .lowers) in
@@ -163,7 +163,8 @@ module _ {i j : Interval} (h : Below i j) where
         right = rw (m .left, h .right) (natural-quotient (h .c) (h .d) n q (m .left-order));
         left-order = quotient-order (h .a * n) (h .b * n) q′ (m .right-order) (mul-le-mul-right n (h .left-order));
         right-order = quotient-order (h .c * n) (h .d * n) q (m .left-order) (mul-le-mul-right n (h .right-order));
-        lowers = le-trans (floor-rises _ _ (le-trans r (m .uppers)) (mul-le-mul-right n (h .lowers))) (floorDiv-falls (h .c * n) r (m .uppers));
+        lowers =
+            le-trans (floor-rises _ _ (le-trans r (m .uppers)) (mul-le-mul-right n (h .lowers))) (floorDiv-falls (h .c * n) r (m .uppers));
         uppers = le-trans (ceil-rises _ _ q′ (mul-le-mul-right n (h .uppers))) (ceilDiv-falls (h .d * n) q (m .lowers));
       }
     where

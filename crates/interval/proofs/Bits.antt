@@ -1,5 +1,4 @@
 -- What signed locals hold: bits, which a need reads back as `toZ w64 (ofZ w64 z)`. Where z fits, that is z.
--- Assumes nothing.
 use Prim.Native.Nat.{ℕ, suc, _-_, _≤_, _<_, _^_}
 use mathlib.Core.Path.{_≡_, refl}
 use mathlib.Core.Bool.{true, false}

@@ -1,5 +1,4 @@
 -- The lesser and the greater of two signed numbers: each is one of the two, and in order with both.
--- Assumes nothing.
 use Prim.Native.Nat.{ℕ, _≤_}
 use mathlib.Core.Path.{_≡_, refl, ap}
 use mathlib.Core.Bool.{Bool, true, false, not, cond}

@@ -1,5 +1,4 @@
 -- The corners are in order with each of the four products of ends.
--- Assumes nothing.
 use lib.IntN.{ℤ, _*ℤ_}
 use lib.Signed.{_≤ℤ_}
 use Rattle.interval.specs.Operations.{cornersOf}

@@ -1,5 +1,4 @@
 -- Unsigned numbers within 64 bits, from bounds on them or on their factors.
--- Assumes nothing.
 use Prim.Native.Nat.{ℕ, _*_, _≤_, _<_, _^_}
 use native.Mathlib.Nat.{mul-le-mul, lt-of-le-of-lt}
 use mir.Syntax.{w64}

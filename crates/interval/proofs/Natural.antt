@@ -1,5 +1,4 @@
 -- The operations on intervals of naturals, whose ends are in order: each end by naturals alone.
--- Assumes nothing.
 use Prim.Native.Nat.{ℕ, zero, suc, _+_, _-_, _*_, _/_, _≤_, _<_}
 use mathlib.Core.Path.{_≡_, refl, ap}
 use native.Mathlib.Omega.{arith}
@@ -7,17 +6,14 @@ use native.Mathlib.Nat.{mul-le-mul-left, mul-le-mul-right}
 use borrow.Author.Tests.{le-ltb}
 use lib.IntN.{pos, _-ℤ_}
 use Rattle.interval.specs.Whole.{ceilDiv}
-use Rattle.interval.specs.Operations.{natural, point, sumOf, differenceOf, cornersOf, outwardOf, scaledOf, hullOf, productOf, quotientOf, Ordered}
-use Rattle.interval.proofs.Choice.{pos≤, min-rising, max-rising, min-falling, max-falling}
+use Rattle.interval.specs.Operations.{natural, point, sumOf, differenceOf, cornersOf, outwardOf, scaledOf, hullOf, productOf}
+use Rattle.interval.specs.Operations.{quotientOf}
+use Rattle.interval.proofs.Choice.{min-rising, max-rising, min-falling, max-falling}
 use Rattle.interval.proofs.Rounding.{floor-pos, ceil-pos, floorDiv-falls, ceilDiv-falls}
 
 pub point-natural : (n : ℕ) → point (pos n) ≡ natural n n
 unfolding point natural
 point-natural n = refl
-
-pub ordered-natural : {a b : ℕ} → a ≤ b → Ordered (natural a b)
-unfolding natural
-ordered-natural h = record { ordered = pos≤ h }
 
 pub natural-sum : (a b c d : ℕ) → sumOf (natural a b) (natural c d) ≡ natural (a + c) (b + d)
 unfolding sumOf natural

@@ -1,5 +1,4 @@
 -- Intervals below 0 as minus an interval of naturals: products with one, and sums.
--- Assumes nothing.
 use Prim.Native.Nat.{ℕ, zero, suc, _+_, _-_, _*_, _/_, _≤_, _<_}
 use mathlib.Core.Path.{_≡_, refl, sym, ap, _∙_}
 use native.Mathlib.Omega.{arith}
@@ -66,7 +65,8 @@ module _ {a b c d : ℕ} (ab : a ≤ b) (cd : c ≤ d) where
         max-falling (mul-le-mul-right c ab),
       ))
 
-  natural-negated : {den : ℕ} → 0 < den → productOf (natural a b) (minusOf (natural c d)) den ≡ minusOf (productOf (natural a b) (natural c d) den)
+  natural-negated : {den : ℕ} → 0 < den
+      → productOf (natural a b) (minusOf (natural c d)) den ≡ minusOf (productOf (natural a b) (natural c d) den)
   unfolding productOf
   natural-negated {den} h =
       ap (λ i. outwardOf i den) corners-negated ∙ outward-negated (a * c) (b * d) h ∙ ap minusOf (sym (natural-product ab cd h))

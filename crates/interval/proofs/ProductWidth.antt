@@ -1,17 +1,15 @@
 -- How wide a product is: two products of ends differ by at most one size times the other width, twice.
--- Assumes nothing.
-use Prim.Native.Nat.{ℕ, suc, _+_, _*_, _≤_, _<_}
+use Prim.Native.Nat.{ℕ, suc, _+_, _*_, _≤_}
 use native.Mathlib.Omega.{arith}
 use native.Mathlib.Nat.{mul-le-mul-left, mul-le-mul-right}
 use lib.IntN.{ℤ, pos, negsuc, natAbs, _*ℤ_, *ℤ-comm}
 use lib.Signed.{_≤ℤ_, ≤ℤ-refl}
 use Rattle.interval.specs.Signed.{plus, minus}
-use Rattle.interval.specs.Operations.{size, cornersOf, productOf, Ordered, Narrow}
+use Rattle.interval.specs.Operations.{size, Ordered, Narrow}
 use Rattle.interval.specs.declared.Interval.{Interval}
 use Rattle.interval.proofs.Signed.{mul-plus, mul-minus, le-halves}
-use Rattle.interval.proofs.Corners.{Corners, corners-lower, corners-upper}
+use Rattle.interval.proofs.Corners.{Corners}
 use Rattle.interval.proofs.Sizes.{size-lower, size-upper}
-use Rattle.interval.proofs.Width.{width-outward-by}
 
 -- c ≤ z + w
 pub record Near (w : ℕ) (c z : ℤ) : Type 0 where
@@ -69,15 +67,3 @@ module _ {a b : Interval} {m n : ℕ} (oa : Ordered a) (ob : Ordered b) (h : Nar
       let bl = lower-end ob k in
       let bu = upper-end ob k in
       record { first = f _ _ al bl; second = f _ _ al bu; third = f _ _ au bl; fourth = f _ _ au bu }
-
-  width-corners : Narrow (cornersOf a b) (size a * n + size b * m)
-  width-corners =
-      let w : ℕ = size a * n + size b * m in
-      let r : Near w (cornersOf a b .upper) (cornersOf a b .lower) =
-      corners-upper a b (λ z. Near w z (cornersOf a b .lower))
-      (all _ (λ x y hx hy. corners-lower a b (λ z. Near w (x *ℤ y) z) (all _ (λ x′ y′ hx′ hy′. apart hx hx′ hy hy′)))) in
-      record { narrow = r .near }
-
-  pub width-product-by : {d : ℕ} (w : ℕ) → 0 < d → size a * n + size b * m ≤ w * d → Narrow (productOf a b d) (w + 1)
-  unfolding productOf
-  width-product-by w t g = width-outward-by w t g width-corners

@@ -1,5 +1,4 @@
 -- How wide a quotient is: a rounded-up end over one divisor against a rounded-down end over another.
--- Assumes nothing.
 use Prim.Native.Nat.{ℕ, _+_, _*_, _≤_, _<_}
 use mathlib.Core.Path.{_≡_, ap}
 use mathlib.Core.Logic.{_⊎_, ⊎-elim}

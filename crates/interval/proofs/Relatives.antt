@@ -1,9 +1,9 @@
 -- How relative widths go through sums, products and quotients.
--- Assumes nothing.
 use Prim.Native.Nat.{ℕ, _+_, _-_, _*_, _/_, _≤_, _<_}
 use mathlib.Core.Path.{_≡_, sym, ap, _∙_}
 use native.Mathlib.Omega.{arith}
-use native.Mathlib.Nat.{mul-le-mul, mul-le-mul-left, mul-le-mul-right, le-trans, le-of-mul-le-mul-right, lt-of-mul-lt-mul-right, le-of-suc-le-suc}
+use native.Mathlib.Nat.{mul-le-mul, mul-le-mul-left, mul-le-mul-right, le-trans, le-of-mul-le-mul-right, lt-of-mul-lt-mul-right}
+use native.Mathlib.Nat.{le-of-suc-le-suc}
 use native.Mathlib.Decide.{decLe}
 use lib.IntN.{pos, natAbs}
 use Rattle.interval.specs.declared.Interval.{Interval}
@@ -14,7 +14,8 @@ use Rattle.interval.proofs.Natural.{point-natural, natural-sum, natural
 use Rattle.interval.proofs.Rounding.{floorDiv-above, ceilDiv-below}
 
 -- the width, by ends that are known
-pub relative-ends : {i : Interval} (a b : ℕ) {per extra : ℕ} → i ≡ natural a b → Relative i per extra → per * b ≤ (per + 1) * a + per * extra
+pub relative-ends : {i : Interval} (a b : ℕ) {per extra : ℕ} → i ≡ natural a b → Relative i per extra
+    → per * b ≤ (per + 1) * a + per * extra
 unfolding natural
 relative-ends a b e r =
     let f = sym (r .is) ∙ e in
@@ -23,14 +24,16 @@ relative-ends a b e r =
     rw (lower, upper) at (r .near)
 
 -- by the ends of a span
-pub relative-span : {i : Interval} {l h w per extra : ℕ} (s : Span i l h w) → Relative i per extra → per * s .b ≤ (per + 1) * s .a + per * extra
+pub relative-span : {i : Interval} {l h w per extra : ℕ} (s : Span i l h w) → Relative i per extra
+    → per * s .b ≤ (per + 1) * s .a + per * extra
 relative-span s r = relative-ends (s .a) (s .b) (s .is) r
 
 pub relative-point : (n per : ℕ) → Relative (point (pos n)) per 0
 relative-point n per = record { a = n; b = n; is = point-natural n; near = omega arith }
 
 -- a number of at least per · extra, added, leaves no extra
-pub relative-sum : {i : Interval} {per extra : ℕ} (n : ℕ) → per * extra ≤ n → Relative i per extra → Relative (sumOf (point (pos n)) i) per 0
+pub relative-sum : {i : Interval} {per extra : ℕ} (n : ℕ) → per * extra ≤ n → Relative i per extra
+    → Relative (sumOf (point (pos n)) i) per 0
 relative-sum {per = per} {extra} n h r =
     record { a = n + r .a; b = n + r .b; is = rw (r .is, point-natural n) (natural-sum n n (r .a) (r .b)); near = omega (arith, r .near) }
 
@@ -110,6 +113,7 @@ relative-divided k p q r z f g y t s u =
       is = rw (s .is, u .is) (natural-quotient (s .a) (s .b) k c (u .order));
       near =
           divided r (s .a) (s .b) (u .a) (u .b) k _ _ c
-          (both p q r (s .a) (s .b) (u .a) (u .b) y t (omega (arith, mul-le-mul-left p (s .near), s .from)) (omega (arith, mul-le-mul-left q (u .near), u .from)))
+          (both p q r (s .a) (s .b) (u .a) (u .b) y t (omega (arith, mul-le-mul-left p (s .near), s .from))
+          (omega (arith, mul-le-mul-left q (u .near), u .from)))
           (ceilDiv-below (s .b * k) c) (floorDiv-above (s .a * k) (le-trans c (u .order)));
     }

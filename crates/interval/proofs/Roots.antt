@@ -1,5 +1,4 @@
 -- Bounds on a root in whole numbers, by bounds on the number.
--- Assumes nothing.
 use Prim.Native.Nat.{ℕ, _+_, _*_, _≤_, _<_}
 use native.Mathlib.Omega.{arith}
 use native.Mathlib.Nat.{mul-le-mul}

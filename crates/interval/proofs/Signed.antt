@@ -1,5 +1,4 @@
 -- The bridge from ℤ to `omega`: for each operation, an equation or an order of the halves `plus` and `minus`, which are naturals.
--- Assumes nothing.
 use Prim.Native.Nat.{ℕ, zero, suc, _+_, _-_, _*_, _≤_, _<_}
 use mathlib.Core.Path.{_≡_, refl, _∙_}
 use mathlib.Core.Bool.{Bool, true, false, not, cond}

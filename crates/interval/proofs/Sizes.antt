@@ -1,15 +1,15 @@
 -- How large the ends grow: what a caller shows so that an operation stays within 64 bits.
--- Assumes nothing.
 use Prim.Native.Nat.{ℕ, _+_, _*_, _≤_, _<_}
 use mathlib.Core.Path.{_≡_, refl}
 use native.Mathlib.Omega.{arith}
-use native.Mathlib.Nat.{mul-le-mul, mul-le-mul-left, le-trans, le-of-eq}
+use native.Mathlib.Nat.{mul-le-mul, le-trans, le-of-eq}
 use lib.IntN.{ℤ, pos, negsuc, natAbs, _*ℤ_}
 use lib.Dec.{T}
 use lib.Signed.{_≤ℤ_, nonNeg, yes-nonNeg}
 use Rattle.interval.specs.Signed.{plus, minus}
 use Rattle.interval.specs.Whole.{minZ, maxZ}
-use Rattle.interval.specs.Operations.{natural, point, size, sumOf, differenceOf, timesOf, cornersOf, outwardOf, scaledOf, hullOf, productOf, quotientOf}
+use Rattle.interval.specs.Operations.{natural, point, size, sumOf, differenceOf, timesOf, cornersOf, outwardOf, scaledOf, hullOf}
+use Rattle.interval.specs.Operations.{productOf}
 use Rattle.interval.specs.declared.Interval.{Interval}
 use Rattle.interval.proofs.Signed.{size-floor, le-halves, halves-le, size-is}
 use Rattle.interval.proofs.Signed as signed
@@ -80,7 +80,8 @@ size-factors x y h k = le-trans (le-of-eq (signed.size-product x y)) (mul-le-mul
 pub size-scaled : (a : Interval) (k : ℕ) → size (scaledOf a k) ≤ size a * k
 unfolding scaledOf
 size-scaled a k =
-    size-ends _ (size-factors (a .lower) (pos k) (size-lower a) (omega arith)) (size-factors (a .upper) (pos k) (size-upper a) (omega arith))
+    size-ends _ (size-factors (a .lower) (pos k) (size-lower a) (omega arith))
+    (size-factors (a .upper) (pos k) (size-upper a) (omega arith))
 
 -- ---- the least and the greatest
 
@@ -122,10 +123,6 @@ pub size-product : (a b : Interval) (d : ℕ) → size (productOf a b d) ≤ siz
 unfolding productOf
 size-product a b d = le-trans (size-outward (cornersOf a b) d) (size-corners a b)
 
-pub size-quotient : (a b : Interval) (k : ℕ) → size (quotientOf a b k) ≤ size a * k
-unfolding quotientOf
-size-quotient a b k = size-hull _ _ (le-trans (size-outward _ _) (size-scaled a k)) (le-trans (size-outward _ _) (size-scaled a k))
-
 -- ---- with the divisor taken into account: w is a bound on the quotient
 
 pub size-outward-by : (a : Interval) {d w : ℕ} → 0 < d → size a ≤ w * d → size (outwardOf a d) ≤ w
@@ -136,12 +133,3 @@ size-outward-by a {d} {w} t h =
 pub size-product-by : (a b : Interval) {d w : ℕ} → 0 < d → size a * size b ≤ w * d → size (productOf a b d) ≤ w
 unfolding productOf
 size-product-by a b {d} {w} t h = size-outward-by (cornersOf a b) t (le-trans (size-corners a b) h)
-
-pub size-quotient-by : (a b : Interval) (k : ℕ) {w : ℕ} → pos 1 ≤ℤ b .lower → b .lower ≤ℤ b .upper
-    → size a * k ≤ w * natAbs (b .lower) → size (quotientOf a b k) ≤ w
-unfolding quotientOf
-size-quotient-by a b k {w} t o h =
-    let scaled = le-trans (size-scaled a k) h in
-    let rises = size-rises t o in
-    size-hull _ _ (size-outward-by (scaledOf a k) (size-positive t) scaled)
-    (size-outward-by (scaledOf a k) (omega (arith, size-positive t)) (le-trans scaled (mul-le-mul-left w rises)))

@@ -1,9 +1,9 @@
 -- How spans go through the operations: each bound of a result from those of its parts.
--- Assumes nothing.
-use Prim.Native.Nat.{ℕ, suc, _+_, _*_, _/_, _≤_, _<_}
+use Prim.Native.Nat.{ℕ, _+_, _*_, _/_, _≤_, _<_}
 use mathlib.Core.Path.{_≡_, refl, ap}
 use native.Mathlib.Omega.{arith}
-use native.Mathlib.Nat.{mul-le-mul, mul-le-mul-left, mul-le-mul-right, le-trans, lt-of-mul-lt-mul-right, mul-lt-mul-of-pos-right, le-of-suc-le-suc}
+use native.Mathlib.Nat.{mul-le-mul, mul-le-mul-left, mul-le-mul-right, le-trans, lt-of-mul-lt-mul-right, mul-lt-mul-of-pos-right}
+use native.Mathlib.Nat.{le-of-suc-le-suc}
 use lib.IntN.{pos}
 use lib.Signed.{_≤ℤ_}
 use Rattle.interval.specs.Whole.{ceilDiv}
@@ -148,7 +148,8 @@ span-quotient k low high m p q r t s u =
     }
 
 -- by one number
-pub span-divide : {i : Interval} {l h w : ℕ} (d k low high m : ℕ) → 0 < d → low * d ≤ l * k → h * k ≤ high * d → w * k ≤ m * d → Span i l h w
+pub span-divide : {i : Interval} {l h w : ℕ} (d k low high m : ℕ) → 0 < d → low * d ≤ l * k → h * k ≤ high * d → w * k ≤ m * d
+    → Span i l h w
     → Span (quotientOf i (point (pos d)) k) low high (m + 1)
 span-divide d k low high m p q r t s =
     record {

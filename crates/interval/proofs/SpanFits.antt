@@ -1,5 +1,4 @@
 -- What the methods of an interval require, from spans.
--- Assumes nothing.
 use Prim.Native.Nat.{ℕ, _+_, _*_, _^_, _≤_, _<_}
 use native.Mathlib.Omega.{arith}
 use native.Mathlib.Nat.{mul-le-mul, mul-le-mul-right, lt-of-le-of-lt}
@@ -16,7 +15,8 @@ use Rattle.interval.proofs.Span.{span-lower, span-upper, span-size, spa
 pub sum-fits : {i j : Interval} {l h w l′ h′ w′ : ℕ} → h + h′ < 2 ^ 63 → Span i l h w → Span j l′ h′ w′ → size i + size j < 2 ^ 63
 sum-fits p s t = omega (arith, span-size s, span-size t)
 
-pub scaled-fits : {i : Interval} {l h w k : ℕ} (m : ℕ) → m < 2 ^ 63 → h * m < 2 ^ 63 → k ≤ m → Span i l h w → (k < 2 ^ 63) × (size i * k < 2 ^ 63)
+pub scaled-fits : {i : Interval} {l h w k : ℕ} (m : ℕ) → m < 2 ^ 63 → h * m < 2 ^ 63 → k ≤ m → Span i l h w
+    → (k < 2 ^ 63) × (size i * k < 2 ^ 63)
 scaled-fits m p q r s = (omega arith, lt-of-le-of-lt (mul-le-mul (span-size s) r) q)
 
 pub outward-fits : {i : Interval} {l h w d : ℕ} → 0 < d → h < 2 ^ 63 → Span i l h w → (0 < d) × (size i < 2 ^ 63)

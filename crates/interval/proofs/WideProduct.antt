@@ -1,9 +1,9 @@
 -- k · x over a divisor by the quotient and the rest of x, rounded down and up.
--- Assumes nothing.
 use Prim.Native.Nat.{ℕ, _+_, _-_, _*_, _/_, _%_, _^_, _≤_, _<_}
 use mathlib.Core.Path.{_≡_, sym, ap, _∙_}
 use native.Mathlib.Omega.{arith}
-use native.Mathlib.Nat.{add-zero, mod-lt, div-add-mod', mul-add-div-right, mul-le-mul, mul-le-mul-left, mul-le-mul-right, le-of-lt, le-of-suc-le-suc, lt-of-mul-lt-mul-right}
+use native.Mathlib.Nat.{add-zero, mod-lt, div-add-mod', mul-add-div-right, mul-le-mul, mul-le-mul-left, mul-le-mul-right, le-of-lt}
+use native.Mathlib.Nat.{le-of-suc-le-suc, lt-of-mul-lt-mul-right}
 use Rattle.interval.specs.Whole.{ceilDiv}
 use Rattle.interval.specs.Wide.{WideFits, Wide}
 use Rattle.interval.specs.Span.{Span}

@@ -1,5 +1,4 @@
 -- What the methods of an interval give: the exact ends, rounded outward.
--- Assumes nothing.
 use Prim.Native.Nat.{ℕ, _+_, _≤_, max}
 use lib.IntN.{ℤ, pos, natAbs, negℤ, _+ℤ_, _-ℤ_, _*ℤ_}
 use lib.Signed.{_≤ℤ_}

@@ -1,5 +1,4 @@
 -- A signed number as the difference of two natural numbers, of which one is 0, so that facts about it are facts about ℕ.
--- Assumes nothing.
 use Prim.Native.Nat.{ℕ, suc}
 use lib.IntN.{ℤ, pos, negsuc}
 

@@ -1,5 +1,4 @@
 -- The span of an interval of natural numbers: bounds on its ends and on its width.
--- Assumes nothing.
 use Prim.Native.Nat.{ℕ, _+_, _*_, _≤_}
 use mathlib.Core.Path.{_≡_}
 use Rattle.interval.specs.declared.Interval.{Interval}

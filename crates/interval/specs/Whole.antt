@@ -1,5 +1,4 @@
 -- Signed whole numbers rounded down and up, and the lesser and the greater of two.
--- Assumes nothing.
 use Prim.Native.Nat.{ℕ, _+_, _-_, _/_}
 use mathlib.Core.Bool.{cond}
 use lib.IntN.{ℤ, pos, negsuc, negℤ}

@@ -1,5 +1,4 @@
 -- Where a product over a divisor is worked within 64 bits, though the product itself may pass them.
--- Assumes nothing.
 use Prim.Native.Nat.{ℕ, _+_, _*_, _/_, _^_, _≤_, _<_}
 use mathlib.Core.Path.{_≡_}
 use Rattle.interval.specs.declared.Interval.{Interval}

@@ -1,5 +1,4 @@
 -- A sheet that is judged by the count of its value lines has passed every check.
--- Assumes nothing.
 use Prim.Native.Nat.{ℕ}
 use mathlib.Core.Path.{_≡_}
 use mathlib.Core.List.{List, []}
@@ -15,7 +14,8 @@ use Rattle.judgement.specs.Accepted.{AcceptedWithin, Accepted}
 use Rattle.judgement.proofs.LinesAccepted.{lines-sound}
 use Rattle.judgement.proofs.Causes.{Cause, lines, cause}
 
-pub accepted-within : (form : Form) (limits : Limits) (s : List ℕ) (n : ℕ) → judgementWithin form limits s ≡ Lines n → AcceptedWithin form limits s n
+pub accepted-within : (form : Form) (limits : Limits) (s : List ℕ) (n : ℕ) → judgementWithin form limits s ≡ Lines n
+    → AcceptedWithin form limits s n
 accepted-within form limits s n e = go (rw e at (cause form s limits))
   where
     lines-same : {a b : ℕ} → Lines a ≡ Lines b → b ≡ a

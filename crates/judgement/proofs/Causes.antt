@@ -1,5 +1,4 @@
 -- Every judgement has its cause: the test that decided it.
--- Assumes nothing.
 use Prim.Native.Nat.{ℕ, _+_, _≤_, _<_}
 use mathlib.Core.Path.{_≡_, refl}
 use mathlib.Core.Bool.{Bool, true, false, cond}
@@ -30,7 +29,8 @@ module _ (form : Form) (s : List ℕ) where
     name : (wrongColumn ≡ 0 → ⊥) → Cause limits (Refused 2 1 wrongColumn)
     no-line : length (valueLines s) ≡ 0 → Cause limits (Refused 4 2 0)
     many-lines : limits .lines < length (valueLines s) → Cause limits (Refused 4 (limits .lines + 2) 0)
-    lines : {j : Judgement} → badText limits s ≡ false → wrongColumn ≡ 0 → (length (valueLines s) ≡ 0 → ⊥) → length (valueLines s) ≤ limits .lines
+    lines : {j : Judgement} → badText limits s ≡ false → wrongColumn ≡ 0 → (length (valueLines s) ≡ 0 → ⊥)
+        → length (valueLines s) ≤ limits .lines
         → linesJudged ≡ j → Cause limits j
 
   pub cause : (limits : Limits) → Cause limits (judgementWithin form limits s)

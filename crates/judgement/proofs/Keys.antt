@@ -1,5 +1,4 @@
 -- Stations and seasons of earlier lines, kept as one number each.
--- Assumes nothing.
 use Prim.Native.Nat.{ℕ, zero, suc, _+_, _*_, _/_, _%_, _≤_, _<_}
 use mathlib.Core.Path.{_≡_, refl, _∙_}
 use mathlib.Core.Bool.{Bool, true, false, cond, _&&_, _||_, or-comm}
@@ -11,6 +10,7 @@ use lib.ListN.{length, getD, set}
 use lib.Seq.{getD-set-same, getD-set-other}
 use lib.Dec.{T, eqb, leb, leb→le}
 use borrow.Author.Tests.{eq-eqb, ne-eqb, eqb-true}
+use Rattle.text.proofs.Clash.{clash}
 use Rattle.text.specs.Text.{bytes, same}
 use Rattle.case.specs.declared.Form.{Form as CodeForm}
 use Rattle.case.specs.declared.Form.the-variants.{Present, Former}
@@ -77,7 +77,15 @@ unfolding seenIn repeats keysOf sameKey named
 seen-repeats keyed v keys zero h = refl
 seen-repeats keyed v keys (suc n) h =
     let k = getD keys n 0 in
-    rw (seen-repeats keyed v keys n h, key-same (getD v 0 0) (getD v 1 0) k h, key-station keyed (k / 8) (k % 8), key-season keyed (k / 8) (k % 8), keyed .first, keyed .second)
+    rw (
+      seen-repeats keyed v keys n h,
+      key-same (getD v 0 0) (getD v 1 0) k h,
+      key-station keyed (k / 8) (k % 8),
+      key-season keyed (k / 8)
+          (k % 8),
+      keyed .first,
+      keyed .second,
+    )
 
 -- ---- keys and the values that they were kept of
 
@@ -90,9 +98,15 @@ module _ {form : Form} (keyed : Keyed form) where
   unfolding repeats sameKey kept
   repeats-kept v [] = refl
   repeats-kept v (e ∷ earlier) =
-      rw (repeats-kept v earlier, key-station keyed (named form e "station") (named form e "season"), key-season keyed (named form e "station") (named form e "season"))
+      rw (
+        repeats-kept v earlier,
+        key-station keyed (named form e "station") (named form e "season"),
+        key-season keyed
+            (named form e "station") (named form e "season"),
+      )
 
-  pub finding-kept : (at : List ℕ) (earlier fields : List (List ℕ)) → lineFinding form at (map (kept form) earlier) fields ≡ lineFinding form at earlier fields
+  pub finding-kept : (at : List ℕ) (earlier fields : List (List ℕ))
+      → lineFinding form at (map (kept form) earlier) fields ≡ lineFinding form at earlier fields
   unfolding lineFinding
   finding-kept at earlier fields = rw (repeats-kept _ earlier)
 
@@ -115,18 +129,24 @@ in-ranges : (form : Form) (at v : List ℕ) → finding form at v ≡ found.Soun
 unfolding finding
 in-ranges form at v h = go (eqb (outOfRange form at v) 0) refl h
   where
-    go : (b : Bool) → eqb (outOfRange form at v) 0 ≡ b → cond b (disagreement form at v) (found.OutOfRange (outOfRange form at v)) ≡ found.Sound → outOfRange form at v ≡ 0
+    go : (b : Bool) → eqb (outOfRange form at v) 0 ≡ b
+        → cond b (disagreement form at v) (found.OutOfRange (outOfRange form at v)) ≡ found.Sound → outOfRange form at v ≡ 0
     go true t k = eqb-true _ 0 t
-    go false t k = let z : _≡_ {A = ℕ} 0 1 = cc in absurd (omega arith)
+    go false t k = clash cc
 
-pub key-fits : (form : CodeForm) {at : List ℕ} (v : List ℕ) → Placed (length (formOf form)) at → length v ≡ length (formOf form) → finding (formOf form) at v ≡ found.Sound
+pub key-fits : (form : CodeForm) {at : List ℕ} (v : List ℕ) → Placed (length (formOf form)) at → length v ≡ length (formOf form)
+    → finding (formOf form) at v ≡ found.Sound
     → Keyable (getD v 0 0) (getD v 1 0)
 unfolding formOf columns formerColumns inRange rangeAt
-key-fits form {at} v p l h = go form (in-range-at (formOf form) v l (in-range (formOf form) at v (p .count) (some-columns at _ (p .count) (p .some)) (in-ranges (formOf form) at v h)))
+key-fits form {at} v p l h =
+    go form (in-range-at (formOf form) v l (in-range (formOf form) at v (p .count) (some-columns at _ (p .count) (p .some))
+    (in-ranges (formOf form) at v h)))
   where
     few : (a b x : ℕ) → T (leb a x && leb x b) → x ≤ b
     few a b x t = leb→le x b (both (leb a x) (leb x b) t .1)
 
     go : (f : CodeForm) → ((i : ℕ) → T (inRange (rangeAt (formOf f) i) (getD v i 0))) → Keyable (getD v 0 0) (getD v 1 0)
-    go Present at = record { station-few = omega (arith, few _ _ (getD v 0 0) (at 0)); season-few = omega (arith, few _ _ (getD v 1 0) (at 1)) }
-    go Former at = record { station-few = omega (arith, few _ _ (getD v 0 0) (at 0)); season-few = omega (arith, few _ _ (getD v 1 0) (at 1)) }
+    go Present at =
+        record { station-few = omega (arith, few _ _ (getD v 0 0) (at 0)); season-few = omega (arith, few _ _ (getD v 1 0) (at 1)) }
+    go Former at =
+        record { station-few = omega (arith, few _ _ (getD v 0 0) (at 0)); season-few = omega (arith, few _ _ (getD v 1 0) (at 1)) }

@@ -1,5 +1,4 @@
 -- What each finding of a value line says of its fields, its values and the values of earlier lines.
--- Assumes nothing.
 use Prim.Native.Nat.{ℕ}
 use mathlib.Core.Path.{_≡_, refl}
 use mathlib.Core.Bool.{Bool, true, false, cond, _&&_}
@@ -83,7 +82,8 @@ module _ (form : Form) (at : List ℕ) where
 
         go : (b : Bool) → eqb (wrongForm (length form) 1 fields) 0 ≡ b
             → LineFound
-            (cond b (orFinding (finding form at v) (cond (repeats form v earlier) Repeated Sound)) (WrongForm (wrongForm (length form) 1 fields)))
+            (cond b (orFinding (finding form at v) (cond (repeats form v earlier) Repeated Sound))
+            (WrongForm (wrongForm (length form) 1 fields)))
         go true e = then (eqb-true _ 0 e) (values-found v)
         go false e = wrong-form (eqb-false _ 0 e)
 

@@ -1,12 +1,11 @@
 -- The judgement of one line: its form, then its values.
--- Assumes nothing.
 use Prim.Native.Nat.{ℕ}
 use mathlib.Core.Path.{_≡_, refl, sym, _∙_}
 use mathlib.Core.Bool.{cond}
 use mathlib.Core.List.{List}
-use native.Mathlib.Omega.{arith}
 use lib.ListN.{length, getD}
 use borrow.Author.Tests.{eq-eqb, ne-eqb}
+use Rattle.text.proofs.Clash.{clash}
 use Rattle.text.specs.Text.{fieldsOf}
 use Rattle.case.specs.Columns.{Form}
 use Rattle.case.specs.declared.Finding.{Finding}
@@ -33,8 +32,8 @@ or-same (found.Disagreement c) h = refl
 pub sound-case : (f : Finding) (next : LineFinding) → orFinding f next ≡ Sound → f ≡ found.Sound
 unfolding orFinding
 sound-case found.Sound next e = refl
-sound-case (found.OutOfRange c) next e = let z : _≡_ {A = ℕ} 0 1 = cc in absurd (omega arith)
-sound-case (found.Disagreement c) next e = let z : _≡_ {A = ℕ} 0 1 = cc in absurd (omega arith)
+sound-case (found.OutOfRange c) next e = clash cc
+sound-case (found.Disagreement c) next e = clash cc
 
 module _ {form : Form} {order line row : List ℕ} {c : ℕ} (at : List ℕ) (l : LineValues (length form) order line c row) where
   pub judged-form : (earlier : List (List ℕ)) → (c ≡ 0 → ⊥) → Checks form at earlier line (WrongForm c) row
@@ -42,18 +41,22 @@ module _ {form : Form} {order line row : List ℕ} {c : ℕ} (at : List ℕ) (l 
   judged-form earlier h =
       record {
         found-is = rw (← l .wrong-is, ne-eqb c 0 h);
-        row-is = λ e. let z : _≡_ {A = ℕ} 0 1 = cc in absurd (omega arith);
+        row-is = λ e. clash cc;
         count = l .count;
-        keyable = λ e. let z : _≡_ {A = ℕ} 0 1 = cc in absurd (omega arith);
+        keyable = λ e. clash cc;
       }
 
-  pub judged-values : {f : LineFinding} (keys : List ℕ) (n : ℕ) → Keyed form → (finding form at row ≡ found.Sound → Keyable (getD row 0 0) (getD row 1 0)) → c ≡ 0
-      → row ≡ lineValues at (fieldsOf line) → f ≡ orFinding (finding form at row) (cond (seenIn (packed (getD row 0 0) (getD row 1 0)) keys n) Repeated Sound)
+  pub judged-values : {f : LineFinding} (keys : List ℕ) (n : ℕ) → Keyed form
+      → (finding form at row ≡ found.Sound → Keyable (getD row 0 0) (getD row 1 0)) → c ≡ 0
+      → row ≡ lineValues at (fieldsOf line)
+      → f ≡ orFinding (finding form at row) (cond (seenIn (packed (getD row 0 0) (getD row 1 0)) keys n) Repeated Sound)
       → Checks form at (keysOf keys n) line f row
   unfolding lineFinding
   judged-values keys n keyed fits h p q =
       record {
-        found-is = rw (← l .wrong-is, eq-eqb c 0 h, ← p) (q ∙ or-same (finding form at row) (λ e. rw (seen-repeats keyed row keys n (fits e .season-few))));
+        found-is =
+            rw (← l .wrong-is, eq-eqb c 0 h, ← p) (q ∙ or-same (finding form at row)
+            (λ e. rw (seen-repeats keyed row keys n (fits e .season-few))));
         row-is = λ e. p;
         count = l .count;
         keyable = λ e. fits (sound-case (finding form at row) _ (sym q ∙ e));
@@ -62,10 +65,11 @@ module _ {form : Form} {order line row : List ℕ} {c : ℕ} (at : List ℕ) (l 
 -- ---- what the refusal of a line says of its finding
 
 -- a refused line is refused whatever follows
-pub refused-line : {k l c : ℕ} {a : Judgement} (n : ℕ) (sound : Judgement) (f : LineFinding) → a ≡ lineJudgement n (Lines 0) f → a ≡ Refused k l c
+pub refused-line : {k l c : ℕ} {a : Judgement} (n : ℕ) (sound : Judgement) (f : LineFinding) → a ≡ lineJudgement n (Lines 0) f
+    → a ≡ Refused k l c
     → lineJudgement n sound f ≡ Refused k l c
 unfolding lineJudgement
-refused-line n sound Sound p q = let z : _≡_ {A = ℕ} 0 1 = cc in absurd (omega arith)
+refused-line n sound Sound p q = clash cc
 refused-line n sound (WrongForm column) p q = cc
 refused-line n sound (OutOfRange column) p q = cc
 refused-line n sound (Disagreement column) p q = cc
@@ -76,7 +80,7 @@ pub sound-line : {m : ℕ} {a : Judgement} (n : ℕ) (sound : Judgement) (f : Li
     → (f ≡ Sound) × (sound ≡ Lines m)
 unfolding lineJudgement
 sound-line n sound Sound p q = (refl, sym p ∙ q)
-sound-line n sound (WrongForm column) p q = let z : _≡_ {A = ℕ} 0 1 = cc in absurd (omega arith)
-sound-line n sound (OutOfRange column) p q = let z : _≡_ {A = ℕ} 0 1 = cc in absurd (omega arith)
-sound-line n sound (Disagreement column) p q = let z : _≡_ {A = ℕ} 0 1 = cc in absurd (omega arith)
-sound-line n sound Repeated p q = let z : _≡_ {A = ℕ} 0 1 = cc in absurd (omega arith)
+sound-line n sound (WrongForm column) p q = clash cc
+sound-line n sound (OutOfRange column) p q = clash cc
+sound-line n sound (Disagreement column) p q = clash cc
+sound-line n sound Repeated p q = clash cc

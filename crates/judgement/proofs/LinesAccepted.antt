@@ -1,5 +1,4 @@
 -- Lines whose answer is a count of lines are sound.
--- Assumes nothing.
 use Prim.Native.Nat.{ℕ, zero, suc, _<_}
 use mathlib.Core.Path.{_≡_, refl}
 use mathlib.Core.Bool.{Bool, true, false, cond}
@@ -8,6 +7,7 @@ use native.Mathlib.Omega.{arith}
 use lib.ListN.{length, getD}
 use lib.Dec.{eqb}
 use borrow.Author.Tests.{eqb-true}
+use Rattle.text.proofs.Clash.{clash}
 use Rattle.text.specs.Text.{fieldsOf}
 use Rattle.case.specs.Columns.{Form}
 use Rattle.judgement.specs.declared.Judgement.{Judgement}
@@ -22,9 +22,10 @@ use Rattle.judgement.proofs.LineJudged.{sound-line, sound-case}
 
 sound-form : (b : Bool) (c : ℕ) (f : LineFinding) → cond b f (WrongForm c) ≡ Sound → (b ≡ true) × (f ≡ Sound)
 sound-form true c f e = (refl, e)
-sound-form false c f e = let z : _≡_ {A = ℕ} 0 1 = cc in absurd (omega arith)
+sound-form false c f e = clash cc
 
-sound-checks : (form : Form) (at line : List ℕ) (earlier : List (List ℕ)) → lineFinding form at earlier (fieldsOf line) ≡ Sound → SoundLine form at line
+sound-checks : (form : Form) (at line : List ℕ) (earlier : List (List ℕ)) → lineFinding form at earlier (fieldsOf line) ≡ Sound
+    → SoundLine form at line
 unfolding lineFinding
 sound-checks form at line earlier e =
     let q = sound-form (eqb (wrongForm (length form) 1 (fieldsOf line)) 0) _ _ e in
@@ -34,7 +35,8 @@ pub record LinesSound (form : Form) (at : List ℕ) (ls : List (List ℕ)) (soun
   pub each : (i : ℕ) → i < length ls → SoundLine form at (getD ls i [])
   pub then : sound ≡ Lines m
 
-pub lines-sound : (form : Form) (at : List ℕ) (earlier : List (List ℕ)) (n m : ℕ) (sound : Judgement) (ls : List (List ℕ)) → linesJudgement form at earlier n sound ls ≡ Lines m
+pub lines-sound : (form : Form) (at : List ℕ) (earlier : List (List ℕ)) (n m : ℕ) (sound : Judgement) (ls : List (List ℕ))
+    → linesJudgement form at earlier n sound ls ≡ Lines m
     → LinesSound form at ls sound m
 unfolding linesJudgement
 lines-sound form at earlier n m sound [] e = record { each = λ i h. absurd (omega arith); then = e }

@@ -1,5 +1,4 @@
 -- The value lines in turn: which line a refusal is of, and what the lines before it leave.
--- Assumes nothing.
 use Prim.Native.Nat.{ℕ, zero, suc, _+_, _<_}
 use mathlib.Core.Path.{_≡_, refl}
 use mathlib.Core.Bool.{Bool, true, false, _||_}
@@ -7,6 +6,7 @@ use mathlib.Core.Logic.{_⊎_, inl, inr}
 use mathlib.Core.List.{List, [], _∷_}
 use native.Mathlib.Omega.{arith}
 use lib.ListN.{length, getD}
+use Rattle.text.proofs.Clash.{clash}
 use Rattle.text.specs.Text.{fieldsOf}
 use Rattle.case.specs.Columns.{Form}
 use Rattle.line.specs.Line.{lineValues}
@@ -52,7 +52,7 @@ module _ (form : Form) (at : List ℕ) where
   pub refused-at : {k l c : ℕ} (m : ℕ) (earlier : List (List ℕ)) (n : ℕ) (ls : List (List ℕ))
       → linesJudgement form at earlier n (Lines m) ls ≡ Refused k l c → RefusedAt earlier n ls k l c
   unfolding linesJudgement lineJudgement before
-  refused-at m earlier n [] e = let z : _≡_ {A = ℕ} 0 1 = cc in absurd (omega arith)
+  refused-at m earlier n [] e = clash cc
   refused-at {k} {l} {c} m earlier n (x ∷ ls) e =
       go (foundOf earlier x) refl e (λ h. refused-at m (valuesOf x ∷ earlier) (suc n) ls h)
     where
@@ -72,7 +72,8 @@ module _ (form : Form) (at : List ℕ) where
             judged = r .judged;
           }
 
-      here : (f : LineFinding) → foundOf earlier x ≡ f → l ≡ n → lineJudgement n (Lines 0) f ≡ Refused k l c → RefusedAt earlier n (x ∷ ls) k l c
+      here : (f : LineFinding) → foundOf earlier x ≡ f → l ≡ n → lineJudgement n (Lines 0) f ≡ Refused k l c
+          → RefusedAt earlier n (x ∷ ls) k l c
       here f q p j =
           record {
             index = 0;
@@ -143,7 +144,7 @@ module _ (form : Form) (at : List ℕ) where
       (q .1, each (q .0) (r .1))
     where
       neither : (a b : Bool) → (a || b) ≡ false → (a ≡ false) × (b ≡ false)
-      neither true b p = let z : _≡_ {A = ℕ} 0 1 = cc in absurd (omega arith)
+      neither true b p = clash cc
       neither false b p = (refl, p)
 
       each : sameKey form v (valuesOf x) ≡ false → ((j : ℕ) → j < i → sameKey form v (valuesIn ls j) ≡ false)

@@ -1,5 +1,4 @@
 -- A sheet that is accepted within some limits, judged within others: request (h) of document 02.
--- Assumes nothing.
 use Prim.Native.Nat.{ℕ, _+_, _≤_, _<_}
 use mathlib.Core.Path.{_≡_, _∙_}
 use mathlib.Core.Bool.{cond, or-false}

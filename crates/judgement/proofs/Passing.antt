@@ -1,5 +1,5 @@
--- The pass over the value lines: what holds when n lines are sound, rest holds the others, the array the keys of the n lines, and the store their values.
--- Assumes nothing.
+-- The pass over the value lines: what holds when n lines are sound, rest holds the others, the array the keys of the n lines, and the store
+-- their values.
 use Prim.Native.Nat.{ℕ, _+_, _*_, _-_, _≤_, _<_}
 use mathlib.Core.Path.{_≡_, refl, sym, ap, _∙_}
 use mathlib.Core.Logic.{_⊎_, inl, inr}
@@ -7,10 +7,11 @@ use mathlib.Core.List.{List, [], _∷_, map}
 use native.Mathlib.Nat.{add-zero, eq-or-lt-of-le, mul-le-mul-left}
 use native.Mathlib.Omega.{arith}
 use lib.ListN.{length, getD, take, drop, set, replicate, length-set, length-drop}
+use Rattle.text.proofs.Clash.{clash}
 use Rattle.text.specs.Text.{indexOf, linesOf, fieldsOf}
 use Rattle.text.specs.Parts.{Skipped}
 use Rattle.text.proofs.Lines.{lines-next, lines-none}
-use Rattle.text.proofs.LineTurns.{line-turn, line-shorter, Next, next-of}
+use Rattle.text.proofs.LineTurns.{line-turn, line-shorter, next-of}
 use Rattle.tables.specs.Parts.{partAt}
 use Rattle.tables.proofs.Writing.{part-kept}
 use Rattle.tables.proofs.Parts.{part-entry}
@@ -87,7 +88,8 @@ pub stored-first : {form : Form} {at line before after : List ℕ} {earlier : Li
 stored-first {after = after} {n = n} {w} l e h = ap (λ (k : ℕ). getD after k 0) (sym (add-zero (w * n))) ∙ stored-value 0 l e h
 
 -- a turn: the line before e is checked, with finding f; its values are part n of the store; a is its refusal
-module _ {form : Form} {s at keys rest : List ℕ} {n : ℕ} {sound a : Judgement} {before store after : List ℕ} {f : LineFinding} (e : ℕ) (keyed : Keyed form)
+module _ {form : Form} {s at keys rest : List ℕ} {n : ℕ} {sound a : Judgement} {before store after : List ℕ} {f : LineFinding} (e : ℕ)
+    (keyed : Keyed form)
     (p : Passing form s at keys rest n sound before store) (some : 0 < length rest) (ends : e ≡ indexOf 10 rest)
     (j : LineStored form at (keysOf keys n) (take e rest) n store after f) (answered : a ≡ lineJudgement (n + 2) (Lines 0) f) where
   found-is : f ≡ lineFinding form at (p .earlier) (fieldsOf (take e rest))
@@ -99,7 +101,7 @@ module _ {form : Form} {s at keys rest : List ℕ} {n : ℕ} {sound a : Judgemen
       record {
         answer-is = sym (p .answer-left ∙ rw (lines-next rest some, ← ends, ← found-is) (refused-line (n + 2) _ f answered h));
         size = j .written .size ∙ p .size;
-        stored = λ m q. let z : _≡_ {A = ℕ} 0 1 = cc in absurd (omega arith);
+        stored = λ m q. clash cc;
       }
 
   pub passing-step : {m x y : ℕ} (r : ℕ) → a ≡ Lines m → x ≡ getD (j .row) 0 0 → y ≡ getD (j .row) 1 0 → Skipped e (length rest) r
@@ -117,7 +119,8 @@ module _ {form : Form} {s at keys rest : List ℕ} {n : ℕ} {sound a : Judgemen
             ∙ rw (p .kept-are, g, q, j .checks .row-is z, keyed .first, keyed .second);
         answer-left =
             p .answer-left ∙ rw (t, ← found-is, z)
-            (ap (λ (m : ℕ). linesJudgement form at (lineValues at (fieldsOf (take e rest)) ∷ p .earlier) m sound (linesOf (take (length rest - r) (drop r rest)))) (omega arith));
+            (ap (λ (m : ℕ). linesJudgement form at (lineValues at (fieldsOf (take e rest)) ∷ p .earlier) m sound
+            (linesOf (take (length rest - r) (drop r rest)))) (omega arith));
         lines = o .after;
         keys-count = length-set keys n (packed x y) ∙ p .keys-count;
         most = p .most;

@@ -1,5 +1,4 @@
 -- A column out of range is that of a name whose value is out of its range.
--- Assumes nothing.
 use Prim.Native.Nat.{ℕ, zero, suc, _<_}
 use mathlib.Core.Path.{_≡_, refl}
 use mathlib.Core.Bool.{Bool, true, false, cond}
@@ -44,7 +43,8 @@ range-broken (k ∷ ks) (c ∷ at) (x ∷ v) e = go (inRange (k .range) x) refl 
     go true q h then = later (then h)
     go false q h then = which (left-one c (outOfRange ks at v))
       where
-        which : ((leftOf c (outOfRange ks at v) ≡ c) ⊎ ((leftOf c (outOfRange ks at v) ≡ outOfRange ks at v) × (outOfRange ks at v ≡ 0 → ⊥)))
+        which : ((leftOf c (outOfRange ks at v) ≡ c) ⊎ ((leftOf c (outOfRange ks at v) ≡ outOfRange ks at v) × (outOfRange ks at v ≡ 0
+            → ⊥)))
             → RangeBroken (k ∷ ks) (c ∷ at) (x ∷ v) (leftOf c (outOfRange ks at v))
         which (inl p) = record { name = zero; known = omega arith; column-is = p; outside = q }
         which (inr p) = rw (p .0) (later (then (p .1)))

@@ -1,12 +1,11 @@
 -- The values of an accepted sheet's lines as the parts of their store.
--- Assumes nothing.
 use Prim.Native.Nat.{ℕ, zero, suc, _<_}
 use mathlib.Core.Path.{_≡_, refl, sym, ap, _∙_}
 use mathlib.Core.List.{List, [], _∷_, map}
 use native.Mathlib.Omega.{arith}
 use lib.ListN.{length, getD, length-map}
 use Rattle.text.specs.Text.{fieldsOf}
-use Rattle.tables.specs.Parts.{partAt, partsOf}
+use Rattle.tables.specs.Parts.{partsOf}
 use Rattle.tables.proofs.Parts.{parts-are}
 use Rattle.case.specs.Columns.{Form}
 use Rattle.header.specs.Header.{columnsOf}

@@ -1,5 +1,4 @@
 -- The fields of a value line: where no column is wrong, each is a value; else what is wrong.
--- Assumes nothing.
 use Prim.Native.Nat.{ℕ, suc, _+_, _-_, _≤_, _<_}
 use mathlib.Core.Path.{_≡_, refl, sym, ap, _∙_}
 use mathlib.Core.Bool.{Bool, true, false, cond, _&&_}
@@ -77,7 +76,8 @@ right-from n all [] c a e = go (leb c n) refl e
 right-from n all (t ∷ fs) c a e =
     go (next n t (wrongForm n (suc c) fs) c) e (λ b z. right-from n all fs (suc c) (rw (add-one c) at b) z)
   where
-    go : {w : ℕ} → Next n t (wrongForm n (suc c) fs) c w → w ≡ 0 → (ValuesLeft n all fs (c + 1) → wrongForm n (suc c) fs ≡ 0 → RightValues n all)
+    go : {w : ℕ} → Next n t (wrongForm n (suc c) fs) c w → w ≡ 0
+        → (ValuesLeft n all fs (c + 1) → wrongForm n (suc c) fs ≡ 0 → RightValues n all)
         → RightValues n all
     go (value h f) z then = then (values-step a h f) z
     go (surplus h) z then = absurd (omega (arith, a .first))
@@ -86,7 +86,8 @@ right-from n all (t ∷ fs) c a e =
 pub right-values : (n : ℕ) (all : List (List ℕ)) → wrongForm n 1 all ≡ 0 → RightValues n all
 right-values n all e = right-from n all all 1 (values-start n all) e
 
-wrong-from : (n : ℕ) (all fs : List (List ℕ)) (c : ℕ) → ValuesLeft n all fs c → (wrongForm n c fs ≡ 0 → ⊥) → WrongValues n all (wrongForm n c fs)
+wrong-from : (n : ℕ) (all fs : List (List ℕ)) (c : ℕ) → ValuesLeft n all fs c → (wrongForm n c fs ≡ 0 → ⊥)
+    → WrongValues n all (wrongForm n c fs)
 unfolding wrongForm
 wrong-from n all [] c a e = go (leb c n) refl e
   where
@@ -97,7 +98,8 @@ wrong-from n all (t ∷ fs) c a e =
     go (next n t (wrongForm n (suc c) fs) c) e (λ b z. wrong-from n all fs (suc c) (rw (add-one c) at b) z)
   where
     go : {w : ℕ} → Next n t (wrongForm n (suc c) fs) c w → (w ≡ 0 → ⊥)
-        → (ValuesLeft n all fs (c + 1) → (wrongForm n (suc c) fs ≡ 0 → ⊥) → WrongValues n all (wrongForm n (suc c) fs)) → WrongValues n all w
+        → (ValuesLeft n all fs (c + 1) → (wrongForm n (suc c) fs ≡ 0 → ⊥) → WrongValues n all (wrongForm n (suc c) fs))
+        → WrongValues n all w
     go (value h f) z then = then (values-step a h f) z
     go (surplus h) z then = too-many (omega (arith, a .size, a .most)) (omega (arith, a .most))
     go (no-value h f) z then = wrong-form (a .first) h (omega (arith, a .size)) (rw (field-here a) f)

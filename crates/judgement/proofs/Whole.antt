@@ -1,5 +1,4 @@
 -- The whole sheet: its text, its header, its value lines.
--- Assumes nothing.
 use Prim.Native.Nat.{ℕ, _+_, _-_, _≤_, _<_}
 use mathlib.Core.Path.{_≡_, refl, _∙_}
 use mathlib.Core.Bool.{Bool, true, false, not, _||_}
@@ -9,6 +8,7 @@ use native.Mathlib.Omega.{arith}
 use lib.ListN.{length, getD, take, drop}
 use lib.Dec.{eqb, ltb}
 use borrow.Author.Tests.{eq-eqb, ne-eqb, lt-ltb, le-ltb, eqb-true, eqb-false, ltb-true, ltb-false, not-true, not-false}
+use Rattle.text.proofs.Clash.{clash}
 use Rattle.text.specs.Text.{indexOf, linesOf, fieldsOf}
 use Rattle.text.specs.Parts.{Skipped}
 use Rattle.case.specs.Columns.{Form}
@@ -51,7 +51,7 @@ text-right limits s e =
     }
   where
     none-of : (a b : Bool) → (a || b) ≡ false → (a ≡ false) × (b ≡ false)
-    none-of true b h = let z : _≡_ {A = ℕ} 0 1 = cc in absurd (omega arith)
+    none-of true b h = clash cc
     none-of false b h = (refl, h)
 
 -- a text that refusal 1 meets
@@ -72,12 +72,14 @@ text-some s e = omega (arith, text-right today s e .some)
 
 -- a refusal stores nothing
 not-lines : {n k l c : ℕ} → Refused k l c ≡ Lines n → ⊥
-not-lines e = let z : _≡_ {A = ℕ} 0 1 = cc in omega arith
+not-lines e = clash cc
 
-read-refused : {form : Form} {s : List ℕ} {k l c : ℕ} (store : List ℕ) → Refused k l c ≡ judgement form s → Read form s store store (Refused k l c)
+read-refused : {form : Form} {s : List ℕ} {k l c : ℕ} (store : List ℕ) → Refused k l c ≡ judgement form s
+    → Read form s store store (Refused k l c)
 read-refused store e = record { answer-is = e; size = refl; stored = λ n q. absurd (not-lines q) }
 
-lines-refused : {form : Form} {at : List ℕ} {ls : List (List ℕ)} {k l c : ℕ} (store : List ℕ) → Refused k l c ≡ valuesJudgement form today at ls
+lines-refused : {form : Form} {at : List ℕ} {ls : List (List ℕ)} {k l c : ℕ} (store : List ℕ)
+    → Refused k l c ≡ valuesJudgement form today at ls
     → ValuesRead form at ls store store (Refused k l c)
 lines-refused store e = record { answer-is = e; size = refl; stored = λ n q. absurd (not-lines q) }
 

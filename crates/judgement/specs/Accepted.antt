@@ -1,5 +1,4 @@
 -- What holds of a sheet that is judged to have n value lines within some limits: proved in proofs/Accepted.antt.
--- Assumes nothing.
 use Prim.Native.Nat.{ℕ, _-_, _≤_, _<_}
 use mathlib.Core.Path.{_≡_}
 use mathlib.Core.Bool.{false}

@@ -1,5 +1,4 @@
 -- What the checks of a value line find. Document 01, 'The result table'.
--- Assumes nothing.
 use Prim.Native.Nat.{ℕ}
 use mathlib.Core.Bool.{Bool, false, cond, _&&_, _||_}
 use mathlib.Core.List.{List, [], _∷_}

@@ -1,5 +1,4 @@
 -- The limits of a sheet: its bytes and its value lines.
--- Assumes nothing.
 use Prim.Native.Nat.{ℕ}
 
 -- the most bytes and the most value lines of a sheet

@@ -1,6 +1,5 @@
 -- What the parts of judging a sheet promise.
--- Assumes nothing.
-use Prim.Native.Nat.{ℕ, zero, suc, _+_, _*_, _/_, _%_, _^_, _≤_, _<_}
+use Prim.Native.Nat.{ℕ, zero, suc, _+_, _*_, _/_, _%_, _^_, _<_}
 use mathlib.Core.Path.{_≡_}
 use mathlib.Core.Bool.{Bool, false, _||_}
 use mathlib.Core.List.{List, [], _∷_}
@@ -45,7 +44,8 @@ pub record Checks (form : Form) (at : List ℕ) (earlier : List (List ℕ)) (lin
   pub keyable : found ≡ Sound → Keyable (getD row 0 0) (getD row 1 0)
 
 -- the same, with its values as part n of a store
-pub record LineStored (form : Form) (at : List ℕ) (earlier : List (List ℕ)) (line : List ℕ) (n : ℕ) (before after : List ℕ) (found : LineFinding) : Type 0 where
+pub record LineStored (form : Form) (at : List ℕ) (earlier : List (List ℕ)) (line : List ℕ) (n : ℕ) (before after : List ℕ)
+    (found : LineFinding) : Type 0 where
   pub row : List ℕ
   pub checks : Checks form at earlier line found row
   pub written : Written (length form) n row before after

@@ -1,5 +1,4 @@
 -- What reading a sheet promises: its judgement, and where it counts value lines, their values in a store.
--- Assumes nothing.
 use Prim.Native.Nat.{ℕ, _<_}
 use mathlib.Core.Path.{_≡_}
 use mathlib.Core.List.{List, []}
@@ -19,7 +18,8 @@ abbrev pub Stored : Form → List ℕ → List (List ℕ) → List ℕ → Type 
 Stored form at lines store = (i : ℕ) → i < length lines → partAt (length form) store i ≡ lineValues at (fieldsOf (getD lines i []))
 
 -- value lines with the columns of their names, judged line by line
-pub record LinesRead (form : Form) (at : List ℕ) (lines : List (List ℕ)) (sound : Judgement) (before after : List ℕ) (r : Judgement) : Type 0 where
+pub record LinesRead (form : Form) (at : List ℕ) (lines : List (List ℕ)) (sound : Judgement) (before after : List ℕ) (r : Judgement) : Type
+    0 where
   pub answer-is : r ≡ linesJudgement form at [] 2 sound lines
   pub size : length after ≡ length before
   pub stored : (n : ℕ) → r ≡ Lines n → Stored form at lines after

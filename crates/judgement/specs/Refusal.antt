@@ -1,5 +1,4 @@
 -- Refusals 1 to 7: number, line and column. Document 01, 'The result table'.
--- Assumes nothing.
 use Prim.Native.Nat.{ℕ, _+_}
 use Rattle.judgement.specs.declared.Judgement.{Judgement}
 use Rattle.judgement.specs.declared.Judgement.the-variants.{Refused}

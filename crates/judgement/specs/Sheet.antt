@@ -1,6 +1,5 @@
--- The judgement of every sheet of a form within some limits: the count of its value lines, or a refusal. Document 01, 'The result table': "The order is 1, 2, 4;
--- then line by line 3, 5, 6, 7".
--- Assumes nothing.
+-- The judgement of every sheet of a form within some limits: the count of its value lines, or a refusal. Document 01, 'The result table':
+-- "The order is 1, 2, 4; then line by line 3, 5, 6, 7".
 use Prim.Native.Nat.{ℕ, suc, _-_}
 use mathlib.Core.Bool.{Bool, cond, not, _||_}
 use mathlib.Core.List.{List, [], _∷_}
@@ -32,7 +31,8 @@ module _ (form : Form) where
   unfoldable pub linesJudgement : List ℕ → List (List ℕ) → ℕ → Judgement → List (List ℕ) → Judgement
   linesJudgement at earlier n sound [] = sound
   linesJudgement at earlier n sound (line ∷ lines) =
-      lineJudgement n (linesJudgement at (lineValues at (fieldsOf line) ∷ earlier) (suc n) sound lines) (lineFinding form at earlier (fieldsOf line))
+      lineJudgement n (linesJudgement at (lineValues at (fieldsOf line) ∷ earlier) (suc n) sound lines)
+      (lineFinding form at earlier (fieldsOf line))
 
 module _ (form : Form) (limits : Limits) where
   -- 4, then the lines

@@ -1,5 +1,4 @@
 -- The fields of a value line in words: the right form, and what is wrong with it. Document 01, 'The sheet' and 'The result table'.
--- Assumes nothing.
 use Prim.Native.Nat.{ℕ, _+_, _≤_, _<_}
 use mathlib.Core.Path.{_≡_}
 use mathlib.Core.Bool.{true, false}
@@ -15,6 +14,7 @@ pub record RightValues (count : ℕ) (fields : List (List ℕ)) : Type 0 where
 
 -- "value of a wrong form; too few values (first missing column); too many (19)", one past the names
 pub data WrongValues (count : ℕ) (fields : List (List ℕ)) (column : ℕ) : Type 0 where
-  wrong-form : 1 ≤ column → column ≤ count → column ≤ length fields → isValue (fieldAt fields column) ≡ false → WrongValues count fields column
+  wrong-form : 1 ≤ column → column ≤ count → column ≤ length fields → isValue (fieldAt fields column) ≡ false
+      → WrongValues count fields column
   too-few : length fields < count → column ≡ length fields + 1 → WrongValues count fields column
   too-many : count < length fields → column ≡ count + 1 → WrongValues count fields column

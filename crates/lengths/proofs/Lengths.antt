@@ -1,5 +1,4 @@
 -- The lengths in millimetres are those of the formulas, and lie within bounds.
--- Assumes nothing.
 use Prim.Native.Nat.{ℕ, _+_, _-_, _*_, _≤_}
 use mathlib.Core.Logic.{⊎-elim}
 use native.Mathlib.Omega.{arith}

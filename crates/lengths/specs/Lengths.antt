@@ -1,5 +1,4 @@
 -- The lengths of document 01's 'The formulas' and of request (c) of document 02 in whole millimetres.
--- Assumes nothing.
 use Prim.Native.Nat.{ℕ, _+_, _-_, _*_}
 use Rattle.case.specs.declared.Case.{Case}
 

@@ -1,6 +1,5 @@
 -- The values of a line, put at the indices of their columns' names, are its values in the order of the names.
--- Assumes nothing.
-use Prim.Native.Nat.{ℕ, zero, suc, _-_, _≤_, _<_}
+use Prim.Native.Nat.{ℕ, zero, suc, _-_, _<_}
 use mathlib.Core.Path.{_≡_, refl, sym, ap, _∙_}
 use mathlib.Core.List.{List, [], _∷_, map}
 use native.Mathlib.Omega.{arith}
@@ -18,7 +17,8 @@ map-at f [] k h = absurd (omega arith)
 map-at f (x ∷ l) zero h = refl
 map-at f (x ∷ l) (suc k) h = map-at f l k (omega arith)
 
-pub arranged : {n : ℕ} {at order line row : List ℕ} {wrong : ℕ} → Placed n at → Ordered n at order → LineValues n order line wrong row → wrong ≡ 0
+pub arranged : {n : ℕ} {at order line row : List ℕ} {wrong : ℕ} → Placed n at → Ordered n at order → LineValues n order line wrong row
+    → wrong ≡ 0
     → row ≡ lineValues at (fieldsOf line)
 unfolding lineValues
 arranged {n} {at} {order} {line} {row} p o v z =

@@ -1,5 +1,4 @@
 -- The reading of a value line of n columns: what holds while the fields fs are left, and the values of c columns are put.
--- Assumes nothing.
 use Prim.Native.Nat.{ℕ, suc, _+_, _≤_, _<_}
 use mathlib.Core.Path.{_≡_, refl, sym, ap, _∙_}
 use mathlib.Core.Bool.{Bool, true, false, cond}
@@ -11,6 +10,7 @@ use native.Mathlib.Omega.{arith}
 use lib.ListN.{length, getD, set, length-set}
 use lib.Seq.{getD-set-same, getD-set-other}
 use borrow.Author.Tests.{le-leb, lt-leb}
+use Rattle.text.proofs.Clash.{clash}
 use Rattle.text.specs.Text.{fieldsOf}
 use Rattle.text.specs.Value.{isValue, valueOf, fieldValue}
 use Rattle.text.specs.declared.Field.{Field}
@@ -26,7 +26,7 @@ wrong-form false n e = refl
 
 right-form : (b : Bool) (n x : ℕ) → cond b (Value n) Wrong ≡ Value x → (b ≡ true) × (x ≡ n)
 right-form true n x e = (refl, cc)
-right-form false n x e = let z : _≡_ {A = ℕ} 0 1 = cc in absurd (omega arith)
+right-form false n x e = clash cc
 
 pub values-start : (order : List ℕ) (all : List (List ℕ)) (row : List ℕ) → ValuesAt (length row) order all row all 0
 values-start order all row =
@@ -39,7 +39,8 @@ values-start order all row =
     }
 
 -- a turn: the next field is t, which holds f
-module _ {n : ℕ} {order : List ℕ} {all : List (List ℕ)} {row : List ℕ} {fs : List (List ℕ)} {t : List ℕ} {ts : List (List ℕ)} {c : ℕ} {f : Field}
+module _ {n : ℕ} {order : List ℕ} {all : List (List ℕ)} {row : List ℕ} {fs : List (List ℕ)} {t : List ℕ} {ts : List (List ℕ)} {c : ℕ}
+    {f : Field}
     (a : ValuesAt n order all row fs c) (next : fs ≡ t ∷ ts) (held : f ≡ fieldValue t) (h : c < n) where
   pub values-wrong : f ≡ Wrong → wrongForm n 1 all ≡ c + 1
   unfolding wrongForm fieldValue
@@ -59,19 +60,23 @@ module _ {n : ℕ} {order : List ℕ} {all : List (List ℕ)} {row : List ℕ} {
         values-put = λ i l. put (q .1) i (ℕ-discrete i c) l;
       }
     where
-      put : x ≡ valueOf t → (i : ℕ) → Dec (i ≡ c) → i < c + 1 → getD (set row (getD order c 0) x) (getD order i 0) 0 ≡ getD (map valueOf all) i 0
+      put : x ≡ valueOf t → (i : ℕ) → Dec (i ≡ c) → i < c + 1
+          → getD (set row (getD order c 0) x) (getD order i 0) 0 ≡ getD (map valueOf all) i 0
       put q i (yes p) l =
           rw (p, getD-set-same row (getD order c 0) x 0 (omega (arith, d .within c h, a .count)), q)
           (sym (ap (λ (m : ℕ). getD (map valueOf all) m 0) (sym (add-zero c)) ∙ a .values-left 0 ∙ rw next))
       put q i (no p) l =
-          getD-set-other row (getD order c 0) (getD order i 0) x 0 (λ z. p (d .distinct i c (omega arith) h z)) ∙ a .values-put i (omega (arith, p))
+          getD-set-other row (getD order c 0) (getD order i 0) x 0 (λ z. p (d .distinct i c (omega arith) h z)) ∙ a .values-put i
+          (omega (arith, p))
 
 -- ---- what is returned: a wrong column, or the values
 
-pub values-refused : {n : ℕ} {order line row : List ℕ} (c : ℕ) → length row ≡ n → wrongForm n 1 (fieldsOf line) ≡ c + 1 → LineValues n order line (c + 1) row
+pub values-refused : {n : ℕ} {order line row : List ℕ} (c : ℕ) → length row ≡ n → wrongForm n 1 (fieldsOf line) ≡ c + 1
+    → LineValues n order line (c + 1) row
 values-refused c k e = record { wrong-is = sym e; count = k; values = λ z. absurd (omega arith) }
 
-pub values-many : {n : ℕ} {order line row t : List ℕ} {fs ts : List (List ℕ)} {c : ℕ} → ValuesAt n order (fieldsOf line) row fs c → fs ≡ t ∷ ts → n ≤ c
+pub values-many : {n : ℕ} {order line row t : List ℕ} {fs ts : List (List ℕ)} {c : ℕ} → ValuesAt n order (fieldsOf line) row fs c
+    → fs ≡ t ∷ ts → n ≤ c
     → LineValues n order line (n + 1) row
 unfolding wrongForm
 values-many {n} {c = c} a next h =

@@ -1,5 +1,4 @@
 -- A value line: its form, its values and its case. Document 01, 'The sheet' and 'The result table'.
--- Assumes nothing.
 use Prim.Native.Nat.{ℕ, suc, _-_}
 use mathlib.Core.Bool.{cond, _&&_}
 use mathlib.Core.List.{List, [], _∷_, map}
@@ -9,8 +8,8 @@ use Rattle.text.specs.Value.{isValue, valueOf}
 use Rattle.case.specs.declared.Case.{Case}
 use Rattle.case.specs.Case.{caseOf}
 
--- "value of a wrong form; too few values (first missing column); too many (19)": the leftmost wrong column from column c on of a form of n names,
--- or 0; the surplus column is one past the names
+-- "value of a wrong form; too few values (first missing column); too many (19)": the leftmost wrong column from column c on of a form of n
+-- names, or 0; the surplus column is one past the names
 unfoldable pub wrongForm : ℕ → ℕ → List (List ℕ) → ℕ
 wrongForm n c [] = cond (leb c n) c 0
 wrongForm n c (field ∷ fields) = cond (leb c n && isValue field) (wrongForm n (suc c) fields) c

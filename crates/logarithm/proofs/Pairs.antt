@@ -1,5 +1,4 @@
 -- The logarithm of a pair of counts over a number: its ends, and what they enclose.
--- Assumes nothing.
 use Prim.Native.Nat.{ℕ, _+_, _*_, _≤_, _<_}
 use mathlib.Core.Path.{_≡_, sym, ap, _∙_}
 use native.Mathlib.Omega.{arith}
@@ -81,7 +80,8 @@ module _ {a b : ℕ} (u : Scale) (ha : Inside a) (hb : Inside b) (hu : Inside (u
       }
 
 -- n over a value of a unit, which is above n: minus the logarithm of the value over n
-module _ (n : ℕ) {c d : ℕ} (u : Scale) (hc : Inside c) (hd : Inside d) (hn : Inside (n * u .count)) (below : n * u .count < c) (order : c ≤ d) where
+module _ (n : ℕ) {c d : ℕ} (u : Scale) (hc : Inside c) (hd : Inside d) (hn : Inside (n * u .count)) (below : n * u .count < c)
+    (order : c ≤ d) where
   abbrev q : ℕ
   q = n * u .count
 
@@ -99,7 +99,8 @@ module _ (n : ℕ) {c d : ℕ} (u : Scale) (hc : Inside c) (hd : Inside d) (hn :
   -- n over p of the unit
   quotient-is : {p : ℕ} → 1 ≤ p → whole n ÷f over (pos p) u ≈f whole q ÷f whole p
   quotient-is {p} l =
-      trans≈ (expand (whole n) (over-pos l) (whole-pos (u .pos)) (count-is p)) (cong÷ (whole-pos l) (sym≈ (whole-mul n (u .count))) (refl≈ _))
+      trans≈ (expand (whole n) (over-pos l) (whole-pos (u .pos)) (count-is p))
+      (cong÷ (whole-pos l) (sym≈ (whole-mul n (u .count))) (refl≈ _))
 
   pub ln-over-encloses : {y : Exact} → Consistent y → PositiveAt y → Encloses y u (natural c d)
       → Encloses (ln (exactly (whole n) ÷x y)) (ten 9) (minusOf (lnPair (natural c d) q))

@@ -1,5 +1,4 @@
 -- p / q at least 1, its halvings m and the base b = q · 2^m, which doubling finds: b ≤ p < 2 b.
--- Assumes nothing.
 use Prim.Native.Nat.{ℕ, suc, _+_, _*_, _^_, _≤_, _<_}
 use mathlib.Core.Path.{_≡_, ap}
 use native.Mathlib.Omega.{arith}

@@ -1,5 +1,4 @@
 -- What is left of the series after the last term, for an argument up to 1/3: less than one unit.
--- Assumes nothing.
 use Prim.Native.Nat.{ℕ, zero, suc, _+_, _-_, _*_}
 use native.Mathlib.Omega.{arith}
 use native.Mathlib.Nat.{add-zero, add-suc}

@@ -1,5 +1,4 @@
 -- The promise on the pair of ends, from the laws of the ends.
--- Assumes nothing.
 use Prim.Native.Nat.{ℕ}
 use mathlib.Core.Path.{_≡_}
 use mathlib.Core.Bool.{true, and-eq-true-iff}
@@ -8,7 +7,7 @@ use borrow.Author.Tests.{leb-true}
 use lib.Dec.{leb, lit≤}
 use Rattle.interval.specs.declared.Interval.{Interval}
 use Rattle.interval.specs.Operations.{Narrow}
-use Rattle.exact.specs.Fraction.{_≤f_, whole, decimal, _+f_, neg, _−f_, _÷f_}
+use Rattle.exact.specs.Fraction.{whole, decimal, _+f_, neg, _−f_, _÷f_}
 use Rattle.exact.specs.Logarithm.{lnOf}
 use Rattle.exact.specs.Reported.{ten, over, reported, AtMost, Reports}
 use Rattle.logarithm.specs.Ends.{most, Inside, lnEnds}

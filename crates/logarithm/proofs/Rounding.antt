@@ -1,5 +1,4 @@
 -- What the logarithm's code rounds, in the series' unit and in billionths; the laws of rounding are those of exact/proofs/Rounding.antt.
--- Assumes nothing.
 use Prim.Native.Nat.{ℕ, _+_, _*_}
 use mathlib.Core.Path.{_≡_, ap}
 use native.Mathlib.Omega.{arith}

@@ -1,10 +1,10 @@
 -- The series of whole numbers against the exact one: rounded down it is below, rounded up above.
--- Assumes nothing.
 use Prim.Native.Nat.{ℕ, zero, suc, _+_, _*_}
 use Rattle.exact.specs.Fraction.{Fraction, _≤f_, whole, _·f_, powf}
 use Rattle.exact.specs.Logarithm.{term, terms}
 use Rattle.exact.proofs.SeriesBounds.{powers-below, powers-above, term-above, term-below}
-use Rattle.exact.proofs.Rounding.{units, Toward, toward-trans, toward-sum, toward-product, toward-same, units-nonneg, units-sum, units-zero, rounded, product-is}
+use Rattle.exact.proofs.Rounding.{units, Toward, toward-trans, toward-sum, toward-product, toward-same, units-nonneg, units-sum}
+use Rattle.exact.proofs.Rounding.{units-zero, rounded, product-is}
 use Rattle.logarithm.specs.Series.{squareOf, powerOf, termOf, termsOf}
 use Rattle.logarithm.proofs.Rounding.{binary, term-is}
 
@@ -30,7 +30,9 @@ module _ (z : ℕ) {x : Fraction} (nx : whole 0 ≤f x) {up : ℕ} (h : Toward u
   unfolding powerOf
   power-toward i =
       record {
-        down = λ e. powers-below nx (square up z) (power up z) (units-nonneg binary _) (square-toward .down e) (h .down e) (λ i. power-step i .down e) i;
+        down =
+            λ e. powers-below nx (square up z) (power up z) (units-nonneg binary _) (square-toward .down e) (h .down e)
+            (λ i. power-step i .down e) i;
         upward = λ l. powers-above nx (square up z) (power up z) (square-toward .upward l) (h .upward l) (λ i. power-step i .upward l) i;
       }
 

@@ -1,5 +1,4 @@
 -- How large the powers and the sums of the series get, for z up to 3·10^9 units: all products stay within 64 bits.
--- Assumes nothing.
 use Prim.Native.Nat.{ℕ, zero, suc, _+_, _*_, _/_, _≤_, _<_}
 use native.Mathlib.Omega.{arith}
 use native.Mathlib.Nat.{mul-le-mul, mul-le-mul-left, div-mul-le-self, div-le-self}

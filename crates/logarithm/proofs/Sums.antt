@@ -1,5 +1,4 @@
 -- The loop of the series: after i turns the power and the sum are those of the definition, and all its numbers fit.
--- Assumes nothing.
 use Prim.Native.Nat.{ℕ, _+_, _*_, _/_, _≤_}
 use mathlib.Core.Path.{_≡_, refl}
 use native.Mathlib.Omega.{arith}

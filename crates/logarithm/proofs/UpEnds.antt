@@ -1,5 +1,4 @@
 -- The ends of ln (p/q) for q ≤ p enclose the exact ones at the depth of code: m ln 2 and ln r, each rounded outward.
--- Assumes nothing.
 use Prim.Native.Nat.{ℕ, _+_, _≤_}
 use mathlib.Core.Path.{refl}
 use lib.Dec.{lit<}
@@ -16,7 +15,8 @@ use Rattle.exact.proofs.LogArgument.{argument-nonneg}
 use Rattle.exact.proofs.LogUp.{up-ends}
 use Rattle.exact.proofs.Logarithm.{ln-at-least-one}
 use Rattle.exact.proofs.Computed.{within-ln2}
-use Rattle.exact.proofs.Rounding.{units, Toward, from-below, from-above, toward-trans, toward-same, toward-sum, units-zero, units-sum, rounded}
+use Rattle.exact.proofs.Rounding.{units, Toward, from-below, from-above, toward-trans, toward-same, toward-sum, units-zero, units-sum}
+use Rattle.exact.proofs.Rounding.{rounded}
 use Rattle.logarithm.specs.Series.{termCount, termsOf}
 use Rattle.logarithm.specs.Ends.{halvingsOf, argumentOf, ln2, doublings, nearOf, endOf, upEnds}
 use Rattle.logarithm.proofs.Ratio.{ratio-low}
@@ -26,7 +26,8 @@ use Rattle.logarithm.proofs.Rest.{rest-below, terms-below}
 use Rattle.logarithm.proofs.ArgumentEnds.{reduced, reduced-least, argument-third, argument-low, argument-high}
 
 -- m ln 2
-doublings-toward : (up m : ℕ) {x : Fraction} → Toward up (units (ten 12) (ln2 + up)) x → Toward up (units (ten 9) (doublings up m)) (whole m ·f x)
+doublings-toward : (up m : ℕ) {x : Fraction} → Toward up (units (ten 12) (ln2 + up)) x
+    → Toward up (units (ten 9) (doublings up m)) (whole m ·f x)
 unfolding doublings
 doublings-toward up m h =
     toward-trans (rounded (multiple-is m (ln2 + up)) up)

@@ -1,6 +1,5 @@
 -- The logarithm asked alone. Document 01, 'What exact means': "The logarithm is answered as a pair in signed billionths that holds the
 -- exact value, at most 2,000 apart. It may be asked alone, of a fraction of two whole numbers from 1 to 10^15".
--- Assumes nothing.
 use Prim.Native.Nat.{ℕ}
 use mathlib.Core.Path.{_≡_}
 use mathlib.Core.Bool.{Bool, cond, _&&_}
@@ -28,8 +27,8 @@ refused column = Refused 5 0 column
 unfoldable pub answerOf : ℕ → ℕ → Pair
 answerOf p q = cond (inside p) (cond (inside q) (Ends (lnEnds p q)) (refused 2)) (refused 1)
 
--- the answer, and what holds of the pair of ends, its free part. Two wrong programs: one that refuses all fractions breaks `answer`; one whose
--- ends are −35 and 35 for every fraction, by that name, breaks `right`.
+-- the answer, and what holds of the pair of ends, its free part. Two wrong programs: one that refuses all fractions breaks `answer`; one
+-- whose ends are −35 and 35 for every fraction, by that name, breaks `right`.
 pub record Answered (p q : ℕ) (r : Pair) : Type 0 where
   pub answer : r ≡ answerOf p q
   pub right : RightPair (lnOf (whole p ÷f whole q)) (ten 9) (λ A. width) r

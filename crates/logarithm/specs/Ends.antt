@@ -1,5 +1,4 @@
 -- The ends of ln (p/q) in billionths, by whole numbers alone.
--- Assumes nothing.
 use Prim.Native.Nat.{ℕ, _+_, _-_, _*_, _/_, _^_, _≤_}
 use mathlib.Core.Bool.{cond}
 use lib.Dec.{ltb}

@@ -1,12 +1,11 @@
 -- The definitions at small numbers, computed.
--- Assumes nothing.
 use Prim.Native.Nat.{ℕ}
 use mathlib.Core.Path.{_≡_, refl}
 use lib.Dec.{lit≤}
 use lib.IntN.{pos, negsuc}
 use native.Mathlib.Decide.{decLe}
 use Rattle.interval.specs.Operations.{natural, minusOf}
-use Rattle.exact.specs.Fraction.{_≤f_, _≈f_, whole, decimal, _·f_, inv, _÷f_, top, choose}
+use Rattle.exact.specs.Fraction.{_≈f_, whole, decimal, _·f_, inv, _÷f_, top, choose}
 use Rattle.exact.specs.Root.{greatestBelow}
 use Rattle.exact.specs.Logarithm.{halvings}
 use Rattle.interval.specs.declared.Pair.the-variants.{Refused}

@@ -1,5 +1,4 @@
 -- The logarithm's series in whole numbers of one unit, 2^−33. `up` is 0 where each step is rounded down, and 1 where it is rounded up.
--- Assumes nothing.
 use Prim.Native.Nat.{ℕ, zero, suc, _+_, _*_, _/_}
 
 -- how many units make one: 2^33

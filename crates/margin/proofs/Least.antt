@@ -1,5 +1,4 @@
 -- A margin is the smallest whole number that is enough, and at most 0 just where the voltage is at most what is tolerable.
--- Assumes nothing.
 use Prim.Native.Nat.{ℕ, _+_, _*_, _≤_, _<_}
 use mathlib.Core.Path.{_≡_, ap}
 use native.Mathlib.Omega.{arith}
@@ -25,7 +24,8 @@ module _ (v : ℕ) {t : ℕ} (p : 0 < t) where
       record { enough = omega (arith, e, ceilDiv-above (whole * v) p); least = omega (arith, e, ceilDiv-below (whole * v) p) }
 
   pub at-most-zero : v ≤ t → margin v t ≤ℤ pos 0
-  at-most-zero h = halves-le (margin v t) (pos 0) (omega (arith, share-parts v t, ceilDiv-by (whole * v) {w = whole} p (mul-le-mul-left whole h)))
+  at-most-zero h =
+      halves-le (margin v t) (pos 0) (omega (arith, share-parts v t, ceilDiv-by (whole * v) {w = whole} p (mul-le-mul-left whole h)))
 
   pub zero-at-most : margin v t ≤ℤ pos 0 → v ≤ t
   zero-at-most h =

@@ -1,8 +1,6 @@
 -- The margins of a case's row are right.
--- Assumes nothing.
-use Prim.Native.Nat.{ℕ, _≤_}
 use mathlib.Core.Path.{_≡_, refl, _∙_}
-use lib.IntN.{ℤ, pos, natAbs}
+use lib.IntN.{ℤ, pos}
 use lib.Signed.{_≤ℤ_}
 use Rattle.interval.proofs.Choice.{pos≤, le-pos}
 use Rattle.case.specs.declared.Case.{Case}
@@ -54,7 +52,14 @@ module _ {c : Case} (b : Bounds c) where
   unfolding fourMargins mesh step marginOf
   row-margins =
       row-compared
-      ∙ rw (voltages-comparable (mesh-voltages b), voltages-comparable (step-voltages b), mesh-voltages b .v .is, mesh-voltages b .t .is, step-voltages b .v .is, step-voltages b .t .is)
+      ∙ rw (
+        voltages-comparable (mesh-voltages b),
+        voltages-comparable (step-voltages b),
+        mesh-voltages b .v .is,
+        mesh-voltages b .t .is,
+        step-voltages b .v .is,
+        step-voltages b .t .is,
+      )
 
   right : RightMargins c mesh step
   unfolding mesh step marginOf caseVerdict
@@ -62,9 +67,15 @@ module _ {c : Case} (b : Bounds c) where
       let m = mesh-voltages b in
       let s = step-voltages b in
       record {
-        mesh-below = share-below (m .v .n) (m .t .from) (consistent-mesh b) (consistent-touch b) (mesh-encloses b) (T.touch-encloses b) (m .v .is) (m .t .is);
-        step-below = share-below (s .v .n) (s .t .from) (consistent-step b) (consistent-tolerable-step b) (S.step-encloses b) (T.step-encloses b) (s .v .is) (s .t .is);
-        safe-both = λ e. let h = safe-ends (touchEnds c) (stepEnds c) (meshEnds c) (stepVoltageEnds c) e in (not-above m (h .0), not-above s (h .1));
+        mesh-below =
+            share-below (m .v .n) (m .t .from) (consistent-mesh b) (consistent-touch b) (mesh-encloses b) (T.touch-encloses b) (m .v .is)
+            (m .t .is);
+        step-below =
+            share-below (s .v .n) (s .t .from) (consistent-step b) (consistent-tolerable-step b) (S.step-encloses b) (T.step-encloses b)
+            (s .v .is) (s .t .is);
+        safe-both =
+            λ e. let h = safe-ends (touchEnds c) (stepEnds c) (meshEnds c) (stepVoltageEnds c) e
+            in (not-above m (h .0), not-above s (h .1));
         both-safe = λ p q. ends-safe (touchEnds c) (stepEnds c) (meshEnds c) (stepVoltageEnds c) (above-not m p) (above-not s q);
       }
 

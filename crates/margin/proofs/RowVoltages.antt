@@ -1,13 +1,10 @@
 -- The ends of a case's voltages may be compared.
--- Assumes nothing.
-use Prim.Native.Nat.{ℕ, _+_, _*_, _^_, _≤_}
-use mathlib.Core.Path.{_≡_, refl}
-use mathlib.Core.Bool.{true, _&&_}
-use native.Mathlib.Omega.{arith}
+use Prim.Native.Nat.{ℕ, _^_, _≤_}
+use mathlib.Core.Path.{_≡_}
+use mathlib.Core.Bool.{true}
 use native.Mathlib.Nat.{le-trans}
 use lib.Dec.{lit≤, lit<}
 use lib.IntN.{ℤ, pos}
-use lib.Signed.{leZ}
 use borrow.Author.Tests.{le-leb}
 use Rattle.interval.specs.declared.Interval.{Interval}
 use Rattle.interval.specs.Span.{Span}
@@ -35,7 +32,8 @@ module _ {i : Interval} {l h w : ℕ} (low : ℕ) (from : low ≤ l) (to : h ≤
 module _ {c : Case} (b : Bounds c) where
   tolerable-span : (weight : ℕ) → weight ≤ 12 → Span (tolerableEnds c weight) 58000 106411112 246
   unfolding tolerableEnds
-  tolerable-span weight h = span-quotient 50000 58000 106411112 245 (lit< tt) (lit≤ tt) (lit≤ tt) (lit≤ tt) (top-span b weight h) (time-span b)
+  tolerable-span weight h =
+      span-quotient 50000 58000 106411112 245 (lit< tt) (lit≤ tt) (lit≤ tt) (lit≤ tt) (top-span b weight h) (time-span b)
 
   mesh-span : Span (meshEnds c) 0 148411231984 148411300001
   unfolding meshEnds
@@ -47,11 +45,13 @@ module _ {c : Case} (b : Bounds c) where
 
   pub mesh-voltages : Voltages (meshEnds c .upper) (touchEnds c .lower)
   unfolding touchEnds
-  mesh-voltages = record { v = upper-natural 0 (lit≤ tt) (lit≤ tt) mesh-span; t = lower-natural 1 (lit≤ tt) (lit≤ tt) (tolerable-span 3 (lit≤ tt)) }
+  mesh-voltages =
+      record { v = upper-natural 0 (lit≤ tt) (lit≤ tt) mesh-span; t = lower-natural 1 (lit≤ tt) (lit≤ tt) (tolerable-span 3 (lit≤ tt)) }
 
   pub step-voltages : Voltages (stepVoltageEnds c .upper) (stepEnds c .lower)
   unfolding stepEnds
-  step-voltages = record { v = upper-natural 0 (lit≤ tt) (lit≤ tt) step-span; t = lower-natural 1 (lit≤ tt) (lit≤ tt) (tolerable-span 12 (lit≤ tt)) }
+  step-voltages =
+      record { v = upper-natural 0 (lit≤ tt) (lit≤ tt) step-span; t = lower-natural 1 (lit≤ tt) (lit≤ tt) (tolerable-span 12 (lit≤ tt)) }
 
 -- ---- such voltages may be compared
 

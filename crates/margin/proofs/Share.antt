@@ -1,9 +1,8 @@
 -- The exact voltage is at or below its share of the exact tolerable voltage.
--- Assumes nothing.
-use Prim.Native.Nat.{ℕ, _*_, _<_, _^_}
+use Prim.Native.Nat.{ℕ, _*_, _<_}
 use mathlib.Core.Path.{_≡_, refl, ap}
 use native.Mathlib.Omega.{arith}
-use lib.IntN.{ℤ, pos, _*ℤ_}
+use lib.IntN.{pos, _*ℤ_}
 use Rattle.interval.specs.declared.Interval.{Interval}
 use Rattle.interval.specs.Whole.{ceilDiv}
 use Rattle.interval.specs.Operations.{scaledOf}
@@ -25,13 +24,16 @@ use Rattle.margin.proofs.Least.{share-parts}
 module _ (v : ℕ) {t : ℕ} (p : 0 < t) where
   share-is : share (margin v t) ≈f over (pos (ceilDiv (whole * v) t)) (ten 3)
   unfolding share over ten
-  share-is = let e = ap (λ n. n * 1000) (share-parts v t) in record { to = record { le = omega (arith, e) }; fro = record { le = omega (arith, e) } }
+  share-is =
+      let e = ap (λ n. n * 1000) (share-parts v t) in
+      record { to = record { le = omega (arith, e) }; fro = record { le = omega (arith, e) } }
 
   upper-below : over (pos v) mV ≤f over (pos t *ℤ pos (ceilDiv (whole * v) t)) (ten 6)
   unfolding mV over ten
   upper-below = record { le = omega (arith, ceilDiv-above (whole * v) p) }
 
-  pub share-below : {x y : Exact} {i j : Interval} → Consistent x → Consistent y → Encloses x mV i → Encloses y mV j → i .upper ≡ pos v → j .lower ≡ pos t
+  pub share-below : {x y : Exact} {i j : Interval} → Consistent x → Consistent y → Encloses x mV i → Encloses y mV j → i .upper ≡ pos v
+      → j .lower ≡ pos t
       → AtOrBelow x (exactly (share (margin v t)) ·x y)
   unfolding mV ten reported scaledOf
   share-below cx cy ex ey upper lower =

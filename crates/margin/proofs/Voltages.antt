@@ -1,10 +1,9 @@
 -- Voltages that may be compared are natural numbers, and their margin fits 64 bits.
--- Assumes nothing.
-use Prim.Native.Nat.{ℕ, _+_, _*_, _/_, _≤_, _<_, _^_}
+use Prim.Native.Nat.{ℕ, _*_, _≤_, _^_}
 use mathlib.Core.Path.{_≡_, refl}
 use native.Mathlib.Omega.{arith}
-use native.Mathlib.Nat.{le-trans, mul-le-mul-left, div-le-self}
-use lib.Dec.{T, lit≤}
+use native.Mathlib.Nat.{mul-le-mul-left, div-le-self}
+use lib.Dec.{T}
 use lib.IntN.{ℤ, pos, negsuc}
 use lib.Signed.{leZ, leZ-yes}
 use Rattle.interval.specs.Whole.{ceilDiv}

@@ -1,6 +1,5 @@
--- How far a voltage lies above what is tolerable, in tenths of a percent of the tolerable voltage, from the ends on the cautious side: the voltage's
--- upper end and the tolerable voltage's lower end.
--- Assumes nothing.
+-- How far a voltage lies above what is tolerable, in tenths of a percent of the tolerable voltage, from the ends on the cautious side: the
+-- voltage's upper end and the tolerable voltage's lower end.
 use Prim.Native.Nat.{ℕ, _*_, _^_}
 use mathlib.Core.Bool.{Bool, cond, _&&_}
 use mathlib.Core.List.{List}
@@ -45,5 +44,6 @@ fourMargins mesh touch step limit =
 unfoldable pub marginsOf : List ℤ → Compared
 marginsOf row =
     cond (eqb (length row) rowLength)
-    (fourMargins (getD row meshUpperPlace (pos 0)) (getD row touchLowerPlace (pos 0)) (getD row stepUpperPlace (pos 0)) (getD row limitLowerPlace (pos 0)))
+    (fourMargins (getD row meshUpperPlace (pos 0)) (getD row touchLowerPlace (pos 0)) (getD row stepUpperPlace (pos 0))
+    (getD row limitLowerPlace (pos 0)))
     None

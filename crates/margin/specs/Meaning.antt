@@ -1,5 +1,4 @@
 -- What the margins of a case's row say of the exact values and of the verdict.
--- Assumes nothing.
 use Prim.Native.Nat.{ℕ, _+_, _*_, _≤_, _<_}
 use mathlib.Core.Path.{_≡_}
 use native.Mathlib.Nat.{zero-lt-suc}
@@ -7,7 +6,7 @@ use lib.IntN.{ℤ, pos}
 use lib.Signed.{_≤ℤ_}
 use Rattle.interval.specs.Signed.{plus, minus}
 use Rattle.exact.specs.Fraction.{Fraction}
-use Rattle.exact.specs.Exact.{Exact, exactly, _·x_, AtOrBelow}
+use Rattle.exact.specs.Exact.{exactly, _·x_, AtOrBelow}
 use Rattle.case.specs.declared.Case.{Case}
 use Rattle.formulas.specs.Tolerable.{tolerableTouch, tolerableStep}
 use Rattle.formulas.specs.Mesh as Mesh

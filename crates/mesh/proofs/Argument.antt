@@ -1,5 +1,4 @@
 -- G as a fraction of two whole numbers: it is the formula's, and lies from 25 to 65,536.
--- Assumes nothing.
 use Prim.Native.Nat.{ℕ, _+_, _-_, _*_, _^_, _≤_}
 use mathlib.Core.Path.{_≡_}
 use native.Mathlib.Omega.{arith}

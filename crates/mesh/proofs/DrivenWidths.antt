@@ -1,6 +1,5 @@
 -- How far apart the ends of ρ·Ki·IG/LM are: LM's are at most 1/3,535,000 apart, ρ·Ki·IG's at most 1/1,870,000, 3, and
 -- 940 for each mm of the conductors.
--- Assumes nothing.
 use Prim.Native.Nat.{ℕ, _+_, _*_, _/_, _≤_, _<_}
 use mathlib.Core.Path.{_≡_}
 use native.Mathlib.Omega.{arith}
@@ -37,7 +36,8 @@ mesh-length-relative {c} b =
 
 -- ---- ρ·Ki·IG/LM: x to y, at most 1/1,870,000, 3 and 940 m apart, over c to d, at most 1/3,535,000 apart
 
-driven-near : (x y c d m L U : ℕ) → 1870000 * y ≤ 1870001 * x + 1870000 * (3 + 940 * m) → 3535000 * d ≤ 3535001 * c → 10000000 ≤ c → 1000 * m ≤ c
+driven-near : (x y c d m L U : ℕ) → 1870000 * y ≤ 1870001 * x + 1870000 * (3 + 940 * m) → 3535000 * d ≤ 3535001 * c → 10000000 ≤ c
+    → 1000 * m ≤ c
     → U * c < y + c → x < L * d + d → 1220000 * U ≤ 1220001 * L + 3660000
 driven-near x y c d m L U w h p q u l = le-of-suc-le-suc (lt-of-mul-lt-mul-right c (omega (arith, mul-le-mul-left L h)))
 

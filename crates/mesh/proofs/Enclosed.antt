@@ -1,5 +1,4 @@
 -- The mesh voltage's ends include the exact value's ends.
--- Assumes nothing.
 use Prim.Native.Nat.{ℕ, _+_, _*_, _^_}
 use mathlib.Core.Path.{refl}
 use native.Mathlib.Omega.{arith}

@@ -1,5 +1,4 @@
 -- The ends of Km include the exact value's ends.
--- Assumes nothing.
 use Prim.Native.Nat.{_+_, _*_, _^_}
 use mathlib.Core.Path.{refl}
 use native.Mathlib.Omega.{arith}

@@ -1,5 +1,4 @@
 -- Sizes and widths of Km and of its parts.
--- Assumes nothing.
 use Prim.Native.Nat.{_+_, _*_, _^_, _≤_}
 use mathlib.Core.Path.{_≡_}
 use native.Mathlib.Omega.{arith}
@@ -37,7 +36,8 @@ module _ {c : Case} (b : Bounds c) where
   unfolding innerFactor
   inner-factor-span =
       let one = span-point 1000000000 {l = 1000000000} {h = 1000000000} (lit≤ tt) (lit≤ tt) in
-      by-place (λ i. Span i 0 1000000000 610) (perimeterRods c) (λ e. span-wider one (lit≤ tt) (lit≤ tt) (lit≤ tt)) (λ e. inner-span (counts b))
+      by-place (λ i. Span i 0 1000000000 610) (perimeterRods c) (λ e. span-wider one (lit≤ tt) (lit≤ tt) (lit≤ tt))
+      (λ e. inner-span (counts b))
 
   pub ratio-span : Span (quotientOf (innerFactor c) (depthFactor c) 1000000000) 0 894500000 915
   ratio-span = span-quotient 1000000000 0 894500000 914 (lit< tt) (lit≤ tt) (lit≤ tt) (lit≤ tt) inner-factor-span depth-span

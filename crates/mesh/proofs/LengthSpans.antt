@@ -1,5 +1,4 @@
 -- Sizes and widths of LM.
--- Assumes nothing.
 use Prim.Native.Nat.{_+_, _*_, _^_, _≤_}
 use native.Mathlib.Omega.{arith}
 use native.Mathlib.Nat.{mul-le-mul, mul-le-mul-left}
@@ -30,7 +29,8 @@ module _ {c : Case} (b : Bounds c) where
   pub diagonal-span : Span (diagonalEnds c) 3535000 1018300000 1
   unfolding diagonalEnds
   diagonal-span =
-      root-span ((sideX c * sideX c + sideY c * sideY c) * 10 ^ 6) 3535000 1018300000 (omega (arith, squares-bounds .low)) (omega (arith, squares-bounds .high))
+      root-span ((sideX c * sideX c + sideY c * sideY c) * 10 ^ 6) 3535000 1018300000 (omega (arith, squares-bounds .low))
+      (omega (arith, squares-bounds .high))
 
   pub rodlen-span : Span (point (pos (122 * c .rodlen))) 0 1220000 0
   rodlen-span = span-point (122 * c .rodlen) (omega arith) (mul-le-mul-left 122 (rodlen-high b))

@@ -1,5 +1,4 @@
 -- The span of ln G, from the ends of ln 25 and ln 65,536.
--- Assumes nothing.
 use Prim.Native.Nat.{ℕ, _+_, _≤_}
 use mathlib.Core.Path.{_≡_, _∙_}
 use native.Mathlib.Omega.{arith}

@@ -1,5 +1,4 @@
 -- The mesh voltage's ends are no further apart than allowed: 1/100,000 of ρ·Ki·IG/LT, with Ki of na and IG its upper end, plus 10 mV.
--- Assumes nothing.
 use Prim.Native.Nat.{ℕ, _+_, _-_, _*_, _≤_, _<_}
 use mathlib.Core.Path.{_≡_, ap}
 use native.Mathlib.Omega.{arith}
@@ -71,7 +70,8 @@ module _ {c : Case} (b : Bounds c) where
       let p : 0 < 10000000 = lit< tt in
       rw (v .is, f .is, natural-product (v .order) (f .order) {den = 10000000} p)
       (volts-near (v .L) _ _
-      (mesh-near (v .L) (v .U) (f .a) (f .b) _ _ (v .near) (v .order) (f .near) (f .to) (ceilDiv-below (v .U * f .b) p) (floorDiv-above (v .L * f .a) p)))
+      (mesh-near (v .L) (v .U) (f .a) (f .b) _ _ (v .near) (v .order) (f .near) (f .to) (ceilDiv-below (v .U * f .b) p)
+      (floorDiv-above (v .L * f .a) p)))
 
   pub mesh-narrow : AtMost (meshWidth c (reported μA (currentEnds c))) (reported mV (meshEnds c))
   unfolding meshWidth
@@ -79,4 +79,5 @@ module _ {c : Case} (b : Bounds c) where
       let t : 0 < totalLength c = omega (arith, total-bounds b .low) in
       let v = driven-ends b in
       reference-width b (LT c) (decimal-nonneg 21 7) share-less extra-less
-      (trans≤ (per-length (low b) (totalLength c) (v .L) t (v .below)) (cong÷ (decimal-pos 3 t) (refl≈ _) (sym≈ (total-is c)) .to)) mesh-apart
+      (trans≤ (per-length (low b) (totalLength c) (v .L) t (v .below)) (cong÷ (decimal-pos 3 t) (refl≈ _) (sym≈ (total-is c)) .to))
+      mesh-apart

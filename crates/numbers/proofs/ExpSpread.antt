@@ -1,5 +1,4 @@
 -- How far apart the ends of e^q and e^q′ are at most, for q and q′ from 0 to B that are w apart; and that as a multiple of 1 / 2^k.
--- Assumes nothing.
 use Prim.Native.Nat.{ℕ, _*_, _^_}
 use Rattle.exact.specs.Fraction.{Fraction, _≤f_, whole, _+f_, _·f_, powf}
 use Rattle.exact.proofs.Order.{refl≤, trans≤, nonneg}

@@ -1,5 +1,4 @@
 -- The terms of e^y at two near arguments that are at most 1/2, and the slack near 1.
--- Assumes nothing.
 use Prim.Native.Nat.{ℕ, _≤_}
 use mathlib.Core.Logic.{_⊎_, inl, inr}
 use native.Mathlib.Omega.{arith}

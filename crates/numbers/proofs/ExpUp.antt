@@ -1,6 +1,5 @@
 -- e^q for q not negative at two near fractions: with one count of halvings for both, the terms at near arguments are near, and so are their
 -- powers.
--- Assumes nothing.
 use Prim.Native.Nat.{ℕ, _-_, _*_, _^_, _≤_}
 use native.Mathlib.Omega.{arith}
 use native.Mathlib.Nat.{mul-le-mul-right, le-trans}

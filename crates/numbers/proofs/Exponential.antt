@@ -1,5 +1,4 @@
 -- The ends of an exponential come together, for any value whose ends do: below 0 it is one over an exponential that is at least 1.
--- Assumes nothing.
 use Prim.Native.Nat.{ℕ, _≤_}
 use native.Mathlib.Omega.{arith}
 use Rattle.exact.specs.Fraction.{Fraction, _≤f_, whole, _+f_, neg, inv, decLef}

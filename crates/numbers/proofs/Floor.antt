@@ -1,6 +1,5 @@
 -- A consistent value with positive ends that come together stays above a positive fraction: from some depth on above a third of what
 -- depth 3 shows, and before that above the least of its lower ends. So its quotients come together too.
--- Assumes nothing.
 use Prim.Native.Nat.{ℕ, zero, suc, _*_, _^_, _≤_, _<_}
 use mathlib.Core.Path.{_≡_}
 use mathlib.Core.Logic.{_⊎_, inl, inr}

@@ -1,7 +1,6 @@
 -- Formulas of a case within its bounds are one number each: factor, current, lengths, tolerable voltages, resistance. Each is found by the
 -- shape of its formula, from the parts that are bound before the search: numbers, and what a divisor or the argument of a root or logarithm
 -- has to be, positive.
--- Assumes nothing.
 use Prim.Native.Nat.{ℕ, _≤_}
 use native.Mathlib.Omega.{arith}
 use Rattle.exact.specs.Fraction.{whole, _÷f_}

@@ -1,6 +1,5 @@
 -- m ln 2 + ln (q / 2^m) at two near fractions, by its lower end. Within one count of halvings by the series; across counts through the
 -- powers of two between them, where (m + 1) ln 2 + ln 1 is m ln 2 + ln 2.
--- Assumes nothing.
 use Prim.Native.Nat.{ℕ, suc, _^_, _≤_, _<_}
 use mathlib.Core.Path.{_≡_}
 use mathlib.Core.Logic.{_⊎_, inl, inr}

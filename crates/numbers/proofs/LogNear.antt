@@ -1,5 +1,4 @@
 -- ln r for 1 ≤ r ≤ 2 at two near fractions, and how far apart its ends are.
--- Assumes nothing.
 use Prim.Native.Nat.{ℕ}
 use lib.Dec.{lit≤}
 use Rattle.exact.specs.Fraction.{Fraction, _≤f_, _≈f_, whole, _+f_, neg, _−f_, _·f_, inv, _÷f_}

@@ -1,5 +1,4 @@
 -- ln q for q ≥ 1 at two near fractions, from lower end to upper end: what the arguments differ by, and the tails.
--- Assumes nothing.
 use Prim.Native.Nat.{ℕ, suc, _^_, _≤_, suc-le-suc}
 use native.Mathlib.Omega.{arith}
 use Rattle.exact.specs.Fraction.{Fraction, _≤f_, whole, _+f_, _·f_}

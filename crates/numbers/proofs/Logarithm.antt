@@ -1,5 +1,4 @@
 -- The ends of a logarithm come together, for a positive value whose ends do.
--- Assumes nothing.
 use Prim.Native.Nat.{ℕ}
 use native.Mathlib.Omega.{arith}
 use Rattle.exact.specs.Fraction.{Fraction, _≤f_, _<f_, whole, _+f_, neg, _·f_, inv}

@@ -1,5 +1,4 @@
 -- The ends of a value come together: kept by minus, sums and differences, since two points of a pair are no further apart than its ends.
--- Assumes nothing.
 use Prim.Native.Nat.{ℕ, _≤_}
 use native.Mathlib.Omega.{arith}
 use Rattle.exact.specs.Fraction.{Fraction, _≤f_, whole, _+f_, _−f_, _·f_, inv, _÷f_}

@@ -1,5 +1,4 @@
 -- How far one fraction is above another, through each operation.
--- Assumes nothing.
 use mathlib.Core.Logic.{_⊎_, inl, inr}
 use native.Mathlib.Omega.{arith}
 use native.Mathlib.Nat.{mul-le-mul-right}

@@ -1,7 +1,6 @@
 -- What it means that a value is one number: its ends come as near as one asks, pairs that hold it meet, at most one fraction lies between
--- its ends at every depth, and "at or below" is an order. Of values that are only consistent none of this is true: ends 0 and 1 at every depth
--- are held by the pairs 0, 0 and 1, 1; and if y has ends 0 and 10 at every depth, then 9 is at or below y, and y at or below 1.
--- Assumes nothing.
+-- its ends at every depth, and "at or below" is an order. Of values that are only consistent none of this is true: ends 0 and 1 at every
+-- depth are held by the pairs 0, 0 and 1, 1; and if y has ends 0 and 10 at every depth, then 9 is at or below y, and y at or below 1.
 use Prim.Native.Nat.{ℕ, _+_, _*_, _≤_}
 use native.Mathlib.Omega.{arith}
 use native.Mathlib.Nat.{le-refl}

@@ -1,5 +1,4 @@
 -- The ends of π come together: an alternating series with one term more differs by that term.
--- Assumes nothing.
 use Prim.Native.Nat.{ℕ, zero, suc, _+_, _*_, _^_, _≤_}
 use mathlib.Core.Path.{_≡_}
 use native.Mathlib.Omega.{arith}

@@ -1,5 +1,4 @@
 -- Powers of two near fractions are near.
--- Assumes nothing.
 use Prim.Native.Nat.{ℕ, zero, suc}
 use Rattle.exact.specs.Fraction.{Fraction, _≤f_, _≈f_, whole, _·f_, powf}
 use Rattle.exact.proofs.Order.{refl≤, trans≤, refl≈, trans≈, nonneg}

@@ -1,5 +1,4 @@
 -- A consistent value whose ends come together is bounded, and the ends of products come together.
--- Assumes nothing.
 use Prim.Native.Nat.{ℕ, _+_, _≤_}
 use native.Mathlib.Omega.{arith}
 use Rattle.exact.specs.Fraction.{Fraction, _≤f_, whole, _+f_, neg, _·f_}

@@ -1,5 +1,4 @@
 -- The apparent resistivity of readings, and its least, greatest and mean over a list that is not empty, are one number each.
--- Assumes nothing.
 use Prim.Native.Nat.{ℕ, _≤_}
 use mathlib.Core.List.{List, [], _∷_}
 use native.Mathlib.Omega.{arith}

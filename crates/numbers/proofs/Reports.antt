@@ -1,6 +1,5 @@
 -- A pair that reports a number lies no further than its width from every pair that holds the number. So two reported pairs lie apart where
 -- pairs that hold their numbers lie apart by more than both widths.
--- Assumes nothing.
 use mathlib.Core.Path.{_≡_, refl}
 use mathlib.Core.Bool.{Bool, true, false}
 use lib.IntN.{ℤ}

@@ -1,5 +1,4 @@
 -- A fraction lies between the power of its root's digits and the power of the next number.
--- Assumes nothing.
 use Prim.Native.Nat.{ℕ, zero, suc, _+_, _*_, _^_, _≤_}
 use mathlib.Core.Path.{ap}
 use native.Mathlib.Omega.{arith}

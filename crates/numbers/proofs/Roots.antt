@@ -1,6 +1,5 @@
 -- The ends of a root come together: those of a fraction's root are 10^−k apart, and roots of two fractions above a positive one are no
 -- further apart than the fractions times a constant, since (b − a)·a^(n−1) ≤ b^n − a^n.
--- Assumes nothing.
 use Prim.Native.Nat.{ℕ, zero, suc, _^_, _≤_}
 use mathlib.Core.Path.{_≡_}
 use mathlib.Core.Logic.{_⊎_, inl, inr}

@@ -1,5 +1,4 @@
 -- The operations take numbers to numbers. What a divisor, a logarithm or a root needs besides is that the ends are positive.
--- Assumes nothing.
 use Prim.Native.Nat.{ℕ, _≤_}
 use Rattle.exact.specs.Fraction.{Fraction, _<f_, whole}
 use Rattle.exact.specs.Exact.{Exact, exactly, _+x_, _−x_, _·x_, _÷x_, minus}

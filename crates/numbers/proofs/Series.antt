@@ -1,6 +1,5 @@
 -- The logarithm's series at two near arguments, and its tail: for 1 ≤ r ≤ 2 the argument z is at most 1/2, so that a term's part of the
 -- difference halves from term to term.
--- Assumes nothing.
 use Prim.Native.Nat.{ℕ, zero, suc, _+_, _*_}
 use mathlib.Core.Path.{_≡_}
 use native.Mathlib.Omega.{arith}

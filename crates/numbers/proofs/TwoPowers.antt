@@ -1,5 +1,4 @@
 -- Powers of two as whole numbers, and near fractions divided by them.
--- Assumes nothing.
 use Prim.Native.Nat.{ℕ, zero, suc, _+_, _^_, _≤_}
 use mathlib.Core.Path.{_≡_}
 use native.Mathlib.Omega.{arith}

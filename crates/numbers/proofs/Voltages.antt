@@ -1,5 +1,4 @@
 -- The mesh and the step voltage of a case within its bounds are one number each, and with them all that a row reports.
--- Assumes nothing.
 use native.Mathlib.Omega.{arith}
 use lib.Dec.{eqb}
 use Prim.Native.Nat.{_≤_}

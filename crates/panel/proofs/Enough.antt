@@ -1,5 +1,4 @@
 -- The table has room for the rows of every sheet, so no sheet is refused for want of it: the answer is that for the buffer's own room.
--- Assumes nothing.
 use Prim.Native.Nat.{ℕ, _*_, _/_, _≤_, min}
 use mathlib.Core.Path.{_≡_, refl, sym, ap, _∙_}
 use mathlib.Core.Bool.{Bool, true, false}

@@ -1,5 +1,4 @@
 -- Numbers put one after the other: each has its own eight bytes.
--- Assumes nothing.
 use Prim.Native.Nat.{ℕ, zero, suc, _+_, _-_, _*_, _≤_, _<_}
 use mathlib.Core.Path.{_≡_, refl, ap, _∙_}
 use mathlib.Core.Logic.{_⊎_, inl, inr}
@@ -33,7 +32,8 @@ pub bytes-take : (k : ℕ) (zs : List ℤ) → take (numberBytes * k) (bytesOfAl
 unfolding bytesOfAll littleEndian bytesOf
 bytes-take zero zs = refl
 bytes-take (suc k) [] = take-nil (numberBytes * suc k)
-bytes-take (suc k) (z ∷ zs) = rw next (take-append-add (bytesOf z) (bytesOfAll zs) (numberBytes * k) ∙ ap (λ l. bytesOf z ++ l) (bytes-take k zs))
+bytes-take (suc k) (z ∷ zs) =
+    rw next (take-append-add (bytesOf z) (bytesOfAll zs) (numberBytes * k) ∙ ap (λ l. bytesOf z ++ l) (bytes-take k zs))
 
 pub bytes-drop : (k : ℕ) (zs : List ℤ) → drop (numberBytes * k) (bytesOfAll zs) ≡ bytesOfAll (drop k zs)
 unfolding bytesOfAll littleEndian bytesOf
@@ -47,7 +47,8 @@ pub put-start : (table : List ℤ) (t : List ℕ) → Put table 0 t t
 unfolding bytesOfAll
 put-start table t = record { size = refl; front = refl; rest = refl; fit = λ k h. absurd (omega arith) }
 
-module _ {table : List ℤ} {i : ℕ} {t u : List ℕ} (p : Put table i t u) (within : i < length table) (room : numberBytes * i + numberBytes ≤ length u)
+module _ {table : List ℤ} {i : ℕ} {t u : List ℕ} (p : Put table i t u) (within : i < length table)
+    (room : numberBytes * i + numberBytes ≤ length u)
     (fits : SFits w64 (getD table i (pos 0))) where
   abbrev part : List ℕ
   part = bytesOf (getD table i (pos 0))

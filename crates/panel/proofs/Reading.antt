@@ -1,5 +1,4 @@
 -- What is read from the bytes of a number is the number, and from the bytes of some numbers those numbers.
--- Assumes nothing.
 use Prim.Native.Nat.{ℕ, zero, suc, _-_, _/_, _^_, _≤_, _<_}
 use mathlib.Core.Path.{_≡_, refl, ap, _∙_}
 use mathlib.Core.List.{List, [], _∷_}
@@ -44,4 +43,9 @@ pub numbers-back : (zs : List ℤ) → ((k : ℕ) → k < length zs → SFits w6
 unfolding bytesOfAll numbersOf
 numbers-back [] f = refl
 numbers-back (z ∷ zs) f =
-    rw (take-at (bytesOf z) (bytesOfAll zs) numberBytes (bytes-length z), drop-at (bytesOf z) (bytesOfAll zs) numberBytes (bytes-length z), number-back z (f 0 (omega arith)), numbers-back zs (λ k h. f (suc k) (omega arith)))
+    rw (
+      take-at (bytesOf z) (bytesOfAll zs) numberBytes (bytes-length z),
+      drop-at (bytesOf z) (bytesOfAll zs) numberBytes (bytes-length z),
+      number-back z (f 0 (omega arith)),
+      numbers-back zs (λ k h. f (suc k) (omega arith)),
+    )

@@ -1,5 +1,4 @@
 -- From the rows in the table to the rows in the buffer.
--- Assumes nothing.
 use Prim.Native.Nat.{ℕ, _+_, _*_, _/_, _≤_, _<_}
 use mathlib.Core.Path.{_≡_, refl, sym, ap, _∙_}
 use mathlib.Core.List.{List, _++_}
@@ -76,7 +75,8 @@ module _ {s : List ℕ} (before : List ℕ) {was part : List ℤ} (room : length
   unfolding BufferAfter
   in-bytes-refused a = record { answer-is = told a; buffer-is = refl }
 
-  module _ {n : ℕ} {after : List ℕ} (rest : List ℤ) (a : sheets.Answered s was part (Rows n)) (p : Put (part ++ rest) (rowLength * n) before after) where
+  module _ {n : ℕ} {after : List ℕ} (rest : List ℤ) (a : sheets.Answered s was part (Rows n))
+      (p : Put (part ++ rest) (rowLength * n) before after) where
     count : length (cases s) ≡ n
     unfolding cases
     count = simp length-map (sym (accepted s (length was) n (sym (a .answer-is)) .sheet .count))
@@ -92,9 +92,9 @@ module _ {s : List ℕ} (before : List ℕ) {was part : List ℤ} (room : length
     filled =
         record {
           size = p .size;
-          rows = λ i h.
+          parts = λ i h.
               let k : i < n = omega (arith, count) in
-              row-read i p k (rw (rows-front i n part rest k within) (table-filled .rows i h));
+              row-read i p k (rw (rows-front i n part rest k within) (table-filled .parts i h));
           rest = rw (count, bytes-of-rows) (p .rest);
         }
 
@@ -109,4 +109,5 @@ unfolding answerFor
 told-few {s} {before} {after} {a} h = few s (length before / numberBytes) a (h .answer-is)
 
 pub told-signed : {s before after : List ℕ} {a : Answer} {r : ℤ} → InBytes s before after a → r ≡ signedAnswer a → Answered s before after r
-told-signed {s} {before} {after} h e = record { answer-is = e ∙ ap signedAnswer (h .answer-is); buffer-is = rw (h .answer-is) at (h .buffer-is) }
+told-signed {s} {before} {after} h e =
+    record { answer-is = e ∙ ap signedAnswer (h .answer-is); buffer-is = rw (h .answer-is) at (h .buffer-is) }

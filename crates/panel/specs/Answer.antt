@@ -1,5 +1,5 @@
--- The answer as one signed number. Document 02 (i): "The answer is a signed number, the count of rows, or the refusal's number made negative".
--- Assumes nothing.
+-- The answer as one signed number. Document 02 (i): "The answer is a signed number, the count of rows, or the refusal's number made
+-- negative".
 use Prim.Native.Nat.{_≤_, _<_}
 use lib.IntN.{ℤ, pos, negsuc, negℤ}
 use Rattle.judgement.specs.Limits.{mostLines}

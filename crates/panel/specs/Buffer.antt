@@ -1,13 +1,14 @@
--- The buffer after a sheet: one claim over every sheet, every buffer and every row. Document 02 (i): "The host hands over the sheet's bytes and a
--- byte buffer; rows come back as eight-byte little-endian signed numbers. The answer is a signed number, the count of rows, or the refusal's number
--- made negative with the buffer untouched; bytes past the last row keep what they held. A buffer short of 160 bytes a line is refused with 8."
--- Assumes nothing.
-use Prim.Native.Nat.{ℕ, _*_, _/_, _<_}
+-- The buffer after a sheet: one claim over every sheet, every buffer and every row. Document 02 (i): "The host hands over the sheet's bytes
+-- and a byte buffer; rows come back as eight-byte little-endian signed numbers. The answer is a signed number, the count of rows, or the
+-- refusal's number made negative with the buffer untouched; bytes past the last row keep what they held. A buffer short of 160 bytes a line
+-- is refused with 8."
+use Prim.Native.Nat.{ℕ, _/_}
 use mathlib.Core.Path.{_≡_}
 use mathlib.Core.List.{List, []}
 use lib.IntN.{ℤ}
-use lib.ListN.{length, getD, drop}
+use lib.ListN.{length, getD}
 use Rattle.tables.specs.Parts.{partAt}
+use Rattle.tables.specs.Parts as parts
 use Rattle.case.specs.declared.Case.{Case}
 use Rattle.case.specs.Case.{caseOf}
 use Rattle.row.specs.Row.{numbers, rowLength}
@@ -27,17 +28,15 @@ rowBytes = 160
 abbrev pub rowBytesAt : List ℕ → ℕ → List ℕ
 rowBytesAt buffer i = partAt rowBytes buffer i
 
--- some bytes are the row of a case: those of its numbers; and what is read from them is the row of the case that the sheet's own question puts in
--- its table, which is right
+-- some bytes are the row of a case: those of its numbers; and what is read from them is the row of the case that the sheet's own question
+-- puts in its table, which is right
 pub record RowBytes (c : Case) (part : List ℕ) : Type 0 where
   pub is : part ≡ bytesOfAll (numbers (rowOf c))
   pub read : RowOf c (numbersOf rowLength part)
 
 -- every case has its own row, in order; "bytes past the last row keep what they held"
-pub record Filled (cs : List Case) (before after : List ℕ) : Type 0 where
-  pub size : length after ≡ length before
-  pub rows : (i : ℕ) → i < length cs → RowBytes (getD cs i (caseOf [])) (rowBytesAt after i)
-  pub rest : drop (rowBytes * length cs) after ≡ drop (rowBytes * length cs) before
+abbrev pub Filled : List Case → List ℕ → List ℕ → Type 0
+Filled cs before after = parts.Filled rowBytes (λ i part. RowBytes (getD cs i (caseOf [])) part) (length cs) before after
 
 -- "with the buffer untouched"
 unfoldable pub BufferAfter : List ℕ → List ℕ → List ℕ → Answer → Type 0
@@ -53,8 +52,8 @@ pub record InBytes (s before after : List ℕ) (r : Answer) : Type 0 where
   pub answer-is : r ≡ answerFor s before
   pub buffer-is : BufferAfter s before after r
 
--- the same with the answer as one number. Two wrong programs: one that writes the most significant byte first breaks `buffer-is`; one that answers
--- the refusal's number as it is breaks `answer-is`.
+-- the same with the answer as one number. Two wrong programs: one that writes the most significant byte first breaks `buffer-is`; one that
+-- answers the refusal's number as it is breaks `answer-is`.
 pub record Answered (s before after : List ℕ) (r : ℤ) : Type 0 where
   pub answer-is : r ≡ signedAnswer (answerFor s before)
   pub buffer-is : BufferAfter s before after (answerFor s before)

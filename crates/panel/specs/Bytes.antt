@@ -1,5 +1,4 @@
 -- Numbers as bytes. Document 02 (i): "rows come back as eight-byte little-endian signed numbers".
--- Assumes nothing.
 use Prim.Native.Nat.{ℕ, zero, suc, _+_, _-_, _*_, _/_, _%_, _^_}
 use mathlib.Core.Bool.{cond}
 use mathlib.Core.List.{List, [], _∷_, _++_}

@@ -1,5 +1,4 @@
 -- Bytes computed on numbers, at the ends of 64 bits and around 0; the answer as one number; and where a refusal points.
--- Assumes nothing.
 use Prim.Native.Nat.{_-_, _^_}
 use mathlib.Core.Path.{_≡_, refl}
 use mathlib.Core.List.{List, [], _∷_, map}

@@ -1,5 +1,4 @@
 -- Where a refusal points: its line and column, for the side panel to show the cell.
--- Assumes nothing.
 use Prim.Native.Nat.{ℕ}
 use mathlib.Core.Path.{_≡_}
 use mathlib.Core.List.{List, [], _∷_}
@@ -15,8 +14,8 @@ placeAfter (Refused number line column) [] = []
 placeAfter (Refused number line column) (a ∷ []) = a ∷ []
 placeAfter (Refused number line column) (a ∷ b ∷ rest) = line ∷ column ∷ rest
 
--- answer and buffer as without a place. Two wrong programs: one that writes column and line breaks `place-is`, and so does one that writes 0 and 0
--- with rows.
+-- answer and buffer as without a place. Two wrong programs: one that writes column and line breaks `place-is`, and so does one that writes
+-- 0 and 0 with rows.
 pub record AnsweredAt (s before after place told : List ℕ) (r : ℤ) : Type 0 where
   pub answered : Answered s before after r
   pub place-is : told ≡ placeAfter (answerFor s before) place

@@ -1,5 +1,4 @@
 -- Numbers put into a buffer one after the other.
--- Assumes nothing.
 use Prim.Native.Nat.{ℕ, _*_, _<_}
 use mathlib.Core.Path.{_≡_}
 use mathlib.Core.List.{List}

@@ -1,5 +1,4 @@
 -- The room of a buffer, in numbers.
--- Assumes nothing.
 use Prim.Native.Nat.{ℕ, _*_, _/_, _≤_, min}
 use Rattle.judgement.specs.Limits.{mostLines}
 use Rattle.row.specs.Row.{rowLength}

@@ -1,5 +1,4 @@
 -- How large a·R, its least, its greatest and its sum are, where no pair is out of range.
--- Assumes nothing.
 use Prim.Native.Nat.{ℕ, zero, suc, _*_, _%_, _≤_}
 use mathlib.Core.Path.{_≡_}
 use mathlib.Core.Bool.{Bool, true, false, cond, and-eq-true-iff}
@@ -35,7 +34,8 @@ first-inside range column place p ps h = go (inRange range (numberIn column p)) 
     go true h = (cc, h)
     go false h = let z : _≡_ {A = ℕ} 0 1 = cc in absurd (omega arith)
 
-bounded : (place : ℕ) (ps : List Reading) → firstOutside distances 1 place ps ≡ Nothing → firstOutside resistances 2 place ps ≡ Nothing → Bounded ps
+bounded : (place : ℕ) (ps : List Reading) → firstOutside distances 1 place ps ≡ Nothing → firstOutside resistances 2 place ps ≡ Nothing
+    → Bounded ps
 unfolding Bounded product numberIn
 bounded place [] h k = tt
 bounded place (p ∷ ps) h k =

@@ -1,5 +1,4 @@
 -- The apparent resistivity of a pair lies between the ends of 2π times a·R, and so do the least, the greatest and the sum over a list.
--- Assumes nothing.
 use Prim.Native.Nat.{ℕ, _+_, _*_, _≤_, min, max}
 use mathlib.Core.Path.{_≡_, refl}
 use mathlib.Core.List.{List, [], _∷_}
@@ -41,7 +40,8 @@ two-pi-encloses =
     encloses-rounded (whole 2) (nonneg 2) (record { le = lit≤ tt }) (record { le = lit≤ tt }) consistent-π π-encloses
 
 -- times n thousandths
-by-thousandths : {x : Exact} {u : Scale} {i : Interval} (n : ℕ) (w : Scale) → w .count ≡ (ten 3) .count * u .count → Consistent x → Encloses x u i
+by-thousandths : {x : Exact} {u : Scale} {i : Interval} (n : ℕ) (w : Scale) → w .count ≡ (ten 3) .count * u .count → Consistent x
+    → Encloses x u i
     → Encloses (x ·x exactly (decimal n 3)) w (scaledOf i n)
 unfolding _·x_
 by-thousandths n w s c e = encloses-same (product-turned _ _) (encloses-multiple n (ten 3) w s (decimal-over n 3) c e)

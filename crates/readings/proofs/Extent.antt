@@ -1,6 +1,5 @@
--- The least and the greatest of a list are what their names say: the least is at or below the apparent resistivity of every pair, which is at
--- or below the greatest; and some pair is at or below the least, some pair at or above the greatest.
--- Assumes nothing.
+-- The least and the greatest of a list are what their names say: the least is at or below the apparent resistivity of every pair, which is
+-- at or below the greatest; and some pair is at or below the least, some pair at or above the greatest.
 use Prim.Native.Nat.{ℕ, _≤_}
 use mathlib.Core.Path.{refl}
 use mathlib.Core.Logic.{_⊎_, inl, inr, ⊎-elim}
@@ -86,7 +85,8 @@ module _ {k : ℕ} (deep : 3 ≤ k) where
   ends-are p =
       let a = exactly (decimal (p .distance) 3) in
       let R = exactly (decimal (p .resistance) 3) in
-      same-trans (product-grouped (proper-at consistent-twoπ deep) (proper-at (consistent-exactly _) deep) (proper-at (consistent-exactly _) deep))
+      same-trans (product-grouped (proper-at consistent-twoπ deep) (proper-at (consistent-exactly _) deep)
+      (proper-at (consistent-exactly _) deep))
       (same-trans (product-same (same-refl _) (exactly-product (decimal (p .distance) 3) (decimal (p .resistance) 3) k))
       (same-trans (product-turned _ _) (scaled-ends k (ohm-metres-nonneg p) (proper-at consistent-twoπ deep))))
 
@@ -104,10 +104,16 @@ record Foremost (R : ℕ → ℕ → Type 0) (ps : List Reading) : Type 0 where
   among : List·Memᴰ pair ps
   foremost : (q : Reading) → List·Memᴰ q ps → R (product pair) (product q)
 
-module _ (R : ℕ → ℕ → Type 0) (itself : (m : ℕ) → R m m) (compare : (m n : ℕ) → R m n ⊎ R n m) (through : (l m n : ℕ) → R l m → R m n → R l n) where
+module _ (R : ℕ → ℕ → Type 0) (itself : (m : ℕ) → R m m) (compare : (m n : ℕ) → R m n ⊎ R n m)
+    (through : (l m n : ℕ) → R l m → R m n → R l n) where
   foremost-of : (p : Reading) (ps : List Reading) → Foremost R (p ∷ ps)
   foremost-of p [] =
-      record { pair = p; among = List·Memᴰ·head refl; foremost = λ q m. ⊎-elim (λ e. rw e (itself _)) (λ n. absurd (List·Memᴰ·not-nil n)) (List·Memᴰ·cases-cons m) }
+      record {
+        pair = p;
+        among = List·Memᴰ·head refl;
+        foremost = λ q m. ⊎-elim (λ e. rw e (itself _)) (λ n. absurd (List·Memᴰ·not-nil n))
+            (List·Memᴰ·cases-cons m);
+      }
   foremost-of p (r ∷ ps) = go (foremost-of r ps)
     where
       go : Foremost R (r ∷ ps) → Foremost R (p ∷ r ∷ ps)

@@ -1,9 +1,9 @@
 -- The lesser and the greater of two exact values: consistent where both are, and enclosed by the lesser and the greater of two counts.
--- Assumes nothing.
 use Prim.Native.Nat.{ℕ, _+_, _*_, _≤_, min, max}
 use native.Mathlib.Omega.{arith}
 use native.Mathlib.Decide.{decLe}
-use native.Mathlib.Nat.{mul-le-mul-left, min-le-left, min-le-right, min-eq-left, min-eq-right, le-max-left, le-max-right, max-eq-left, max-eq-right}
+use native.Mathlib.Nat.{mul-le-mul-left, min-le-left, min-le-right, min-eq-left, min-eq-right, le-max-left, le-max-right, max-eq-left}
+use native.Mathlib.Nat.{max-eq-right}
 use lib.IntN.{pos}
 use Rattle.interval.specs.declared.Interval.{Interval}
 use Rattle.interval.specs.Operations.{natural}
@@ -56,7 +56,8 @@ module _ {x y : Exact} {u : Scale} (a b : ℕ) (ex : Encloses x u (twoPiTimes a)
         within =
             record {
               low =
-                  min-cases (λ m. over (pos (twoPiBelow * min a b)) u ≤f m) (λ _. trans≤ (more u twoPiBelow (min-le-left a b)) (ex .within .low))
+                  min-cases (λ m. over (pos (twoPiBelow * min a b)) u ≤f m)
+                  (λ _. trans≤ (more u twoPiBelow (min-le-left a b)) (ex .within .low))
                   (λ _. trans≤ (more u twoPiBelow (min-le-right a b)) (ey .within .low));
               high = go (decLe a b);
             };
@@ -74,7 +75,8 @@ module _ {x y : Exact} {u : Scale} (a b : ℕ) (ex : Encloses x u (twoPiTimes a)
             record {
               low = go (decLe a b);
               high =
-                  max-cases (λ m. m ≤f over (pos (twoPiAbove * max a b)) u) (λ _. trans≤ (ex .within .high) (more u twoPiAbove (le-max-left a b)))
+                  max-cases (λ m. m ≤f over (pos (twoPiAbove * max a b)) u)
+                  (λ _. trans≤ (ex .within .high) (more u twoPiAbove (le-max-left a b)))
                   (λ _. trans≤ (ey .within .high) (more u twoPiAbove (le-max-right a b)));
             };
       }

@@ -1,5 +1,4 @@
 -- The pairs taken from the last to the first: what holds when pair k and all after it are taken.
--- Assumes nothing.
 use Prim.Native.Nat.{ℕ, suc, _+_, _-_, _*_, _/_, _≤_, _<_}
 use mathlib.Core.Path.{_≡_}
 use mathlib.Core.List.{List, _∷_}

@@ -1,5 +1,4 @@
 -- The report on a list that is not refused is right: each pair of ends encloses its exact value and is narrow.
--- Assumes nothing.
 use Prim.Native.Nat.{ℕ, _*_, _^_, _≤_, _<_}
 use mathlib.Core.Path.{_≡_, refl, ap}
 use mathlib.Core.List.{List, [], _∷_}

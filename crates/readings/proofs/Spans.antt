@@ -1,5 +1,4 @@
 -- The ends of 2π·s/count: within 64 bits, where they lie and how far apart they are.
--- Assumes nothing.
 use Prim.Native.Nat.{ℕ, _+_, _*_, _/_, _≤_, _<_}
 use mathlib.Core.Path.{_≡_, refl}
 use native.Mathlib.Omega.{arith}
@@ -43,7 +42,8 @@ module _ (s : ℕ) {count : ℕ} (h : 0 < count) where
   module _ (k : count ≤ mostPairs) (l : s ≤ count * mostProduct) where
     pub ends-wide : Wide twoPi (point (pos s)) (count * twoPiUnit)
     ends-wide =
-        wide-fits (count * twoPiUnit) (mostProduct / twoPiUnit) unit-pos (omega arith) (omega arith) (lit< tt) two-pi-span (span-point s {l = 0} (omega arith) l)
+        wide-fits (count * twoPiUnit) (mostProduct / twoPiUnit) unit-pos (omega arith) (omega arith) (lit< tt) two-pi-span
+        (span-point s {l = 0} (omega arith) l)
 
     pub ends-span : Span (endsOf s count) 0 mostMean mostMean
     ends-span =
@@ -53,7 +53,8 @@ module _ (s : ℕ) {count : ℕ} (h : 0 < count) where
         (span-natural (twoPiBelow * s / d) (ceilDiv (twoPiAbove * s) d) (omega arith)
         (floor≤ceil (twoPiBelow * s) (twoPiAbove * s) d unit-pos (omega arith)) most (omega arith))
 
-within-allowed : (a b : ℕ) → 1000000 * b ≤ 1000001 * a + 1000000 * 2 → AtMost (width (reported μΩm (natural a b))) (reported μΩm (natural a b))
+within-allowed : (a b : ℕ) → 1000000 * b ≤ 1000001 * a + 1000000 * 2
+    → AtMost (width (reported μΩm (natural a b))) (reported μΩm (natural a b))
 unfolding width reported μΩm ten over natural decimal _·f_ _+f_ _−f_ neg
 within-allowed a b h = record { apart = record { le = omega arith } }
 

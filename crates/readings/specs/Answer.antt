@@ -1,5 +1,4 @@
 -- What is promised of the answer to every list of numbers.
--- Assumes nothing.
 use Prim.Native.Nat.{ℕ}
 use mathlib.Core.Path.{_≡_}
 use mathlib.Core.List.{List}

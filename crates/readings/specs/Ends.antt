@@ -1,5 +1,4 @@
 -- The ends that the code works, by whole numbers. Names for the free part: callers use what holds of them.
--- Assumes nothing.
 use Prim.Native.Nat.{ℕ, _+_, _*_, _/_, _^_, min, max}
 use mathlib.Core.List.{List, [], _∷_}
 use lib.IntN.{pos}

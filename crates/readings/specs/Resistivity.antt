@@ -1,6 +1,5 @@
 -- The apparent resistivity of a pair, and its least, greatest and mean over a list, as exact values in ohm metres. Document 02 (g): "The
 -- apparent resistivity is 2π·a·R. The report gives the ends of the least, the greatest and the mean over all pairs".
--- Assumes nothing.
 use mathlib.Core.List.{List, [], _∷_}
 use lib.ListN.{length}
 use Rattle.exact.specs.Fraction.{whole, decimal, minf, maxf}

@@ -1,5 +1,4 @@
 -- What follows from the limits for a list that is not refused.
--- Assumes nothing.
 use Prim.Native.Nat.{ℕ, _*_, _/_, _≤_}
 use mathlib.Core.List.{List, [], _∷_}
 use lib.ListN.{length}

@@ -1,5 +1,4 @@
 -- The claim about a sheet, a licence and a table, from what the checks found.
--- Assumes nothing.
 use Prim.Native.Nat.{ℕ, _*_, _/_, _≤_, _<_}
 use mathlib.Core.Path.{_≡_, refl}
 use mathlib.Core.Bool.{true, false}
@@ -17,7 +16,8 @@ use Rattle.release.specs.declared.Released.{Released}
 use Rattle.release.specs.declared.Released.the-variants.{Pairs, Refused}
 use Rattle.release.specs.Licence.{pairsOf, badCount, firstWrong}
 use Rattle.release.specs.Pair.{pairLength, releaseOf}
-use Rattle.release.specs.Answer.{roomAnswer, afterPairs, licenceAnswer, afterSheet, releaseAnswer, Filled, TableAfter, LinesReleased, ReleaseAnswered}
+use Rattle.release.specs.Answer.{roomAnswer, afterPairs, licenceAnswer, afterSheet, releaseAnswer, Filled, TableAfter, LinesReleased}
+use Rattle.release.specs.Answer.{ReleaseAnswered}
 use Rattle.release.proofs.Pairs.{pair-count}
 
 -- ---- the licence
@@ -28,7 +28,8 @@ module _ (cs : List Case) (licence : List ℕ) (t : List ℤ) where
   count-refused e = record { answer-is = rw e; table-is = refl }
 
   module _ (sound : badCount (length licence) ≡ false) where
-    pub pair-refused : {place column : ℕ} → firstWrong [] 1 (pairsOf licence) ≡ At place column → LinesReleased cs licence t t (Refused 22 place column)
+    pub pair-refused : {place column : ℕ} → firstWrong [] 1 (pairsOf licence) ≡ At place column
+        → LinesReleased cs licence t t (Refused 22 place column)
     unfolding licenceAnswer afterPairs TableAfter
     pair-refused e = record { answer-is = rw (sound, e); table-is = refl }
 
@@ -36,13 +37,19 @@ module _ (cs : List Case) (licence : List ℕ) (t : List ℤ) where
       pub room-refused : length t < pairLength * (length licence / 2) → LinesReleased cs licence t t (Refused 23 0 0)
       unfolding licenceAnswer afterPairs roomAnswer TableAfter
       room-refused h =
-          record { answer-is = rw (sound, right, pair-count licence, lt-ltb (length t) (pairLength * (length licence / 2)) h); table-is = refl }
+          record {
+            answer-is = rw (sound, right, pair-count licence, lt-ltb (length t) (pairLength * (length licence / 2)) h);
+            table-is = refl;
+          }
 
       pub pairs-released : {u : List ℤ} → pairLength * (length licence / 2) ≤ length t → Filled (releaseOf (pairsOf licence) cs) t u
           → LinesReleased cs licence t u (Pairs (length licence / 2))
       unfolding licenceAnswer afterPairs roomAnswer TableAfter
       pairs-released h f =
-          record { answer-is = rw (sound, right, pair-count licence, le-ltb (length t) (pairLength * (length licence / 2)) h); table-is = f }
+          record {
+            answer-is = rw (sound, right, pair-count licence, le-ltb (length t) (pairLength * (length licence / 2)) h);
+            table-is = f;
+          }
 
 -- ---- the sheet
 

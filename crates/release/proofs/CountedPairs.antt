@@ -1,12 +1,11 @@
 -- What an answer that is a count of pairs says: the sheet was read, its cases are within their bounds, and the count is that of the pairs.
--- Assumes nothing.
 use Prim.Native.Nat.{ℕ, _*_, _/_, _<_}
 use mathlib.Core.Path.{_≡_, refl, sym, _∙_}
 use mathlib.Core.Bool.{Bool, true, false, cond}
 use mathlib.Core.List.{List, []}
-use native.Mathlib.Omega.{arith}
 use lib.Dec.{ltb}
 use lib.ListN.{length, length-map}
+use Rattle.text.proofs.Clash.{clash}
 use Rattle.text.specs.Text.{fieldsOf}
 use Rattle.case.specs.Columns.{columns}
 use Rattle.case.specs.Bounds.{Bounds}
@@ -33,7 +32,7 @@ use Rattle.release.proofs.Pairs.{pair-count}
 -- ---- an answer that is a count of pairs
 
 never : {A : Type 0} {n k l c : ℕ} → Refused k l c ≡ Pairs n → A
-never e = let z : _≡_ {A = ℕ} 0 1 = cc in absurd (omega arith)
+never e = clash cc
 
 room-count : (room n m : ℕ) → roomAnswer room m ≡ Pairs n → m ≡ n
 unfolding roomAnswer
@@ -47,7 +46,8 @@ licence-count : (licence : List ℕ) (room n : ℕ) → licenceAnswer licence ro
 unfolding licenceAnswer afterPairs
 licence-count licence room n e = go (badCount (length licence)) (firstWrong [] 1 (pairsOf licence)) e
   where
-    go : (t : Bool) (w : Wrong) → cond t (Refused 21 0 0) (afterPairs (roomAnswer room (length (pairsOf licence))) w) ≡ Pairs n → length licence / 2 ≡ n
+    go : (t : Bool) (w : Wrong) → cond t (Refused 21 0 0) (afterPairs (roomAnswer room (length (pairsOf licence))) w) ≡ Pairs n
+        → length licence / 2 ≡ n
     go true w h = never h
     go false (At place column) h = never h
     go false Nothing h = sym (pair-count licence) ∙ room-count room n (length (pairsOf licence)) h
@@ -74,5 +74,6 @@ cases-bounds s m e = every-bounds (cases s) (λ k h. at k h)
     at : (k : ℕ) → k < length (cases s) → Bounds (lineAt s k)
     at k h =
         let a = accepted columns s m e in
-        let l : k < length (valueLines s) = rw (length-map (valueLines s) (λ line. lineCase (columnsOf columns (names s)) (fieldsOf line))) at h in
+        let l : k < length (valueLines s) =
+        rw (length-map (valueLines s) (λ line. lineCase (columnsOf columns (names s)) (fieldsOf line))) at h in
         rw (case-at (columnsOf columns (names s)) (valueLines s) k l) (sound-bounds (a .placed) (a .lines .line k l))

@@ -1,5 +1,4 @@
 -- What is counted of a station's lines, with one line more.
--- Assumes nothing.
 use Prim.Native.Nat.{ℕ, suc, _+_, _*_, _/_, _≤_}
 use mathlib.Core.Path.{_≡_, refl, sym}
 use mathlib.Core.Bool.{Bool, true, false, not, _&&_}
@@ -19,7 +18,8 @@ use Rattle.row.specs.Ends.{rowOf}
 use Rattle.judgement.specs.Limits.{mostLines}
 use Rattle.release.specs.declared.Tally.{Tally}
 use Rattle.release.specs.Licence.{licensed}
-use Rattle.release.specs.Lines.{one, countOf, hasLine, without, missing, answeredUnsafe, answeredUndecided, otherYard, tooSmall, firstLine}
+use Rattle.release.specs.Lines.{one, countOf, hasLine, without, missing, answeredUnsafe, answeredUndecided, otherYard, tooSmall}
+use Rattle.release.specs.Lines.{firstLine}
 use Rattle.release.specs.Fault.{stationFault}
 use Rattle.release.specs.Pair.{numbersOf}
 use Rattle.release.specs.Tally.{EveryBounds, tallyOf, addLine, Small, lacks, missingBy, eight}
@@ -42,11 +42,23 @@ count-most test (c ∷ cs) = omega (arith, one-most (test c), count-most test cs
 -- ---- the counts of some lines
 
 pub tally-none : (yard : Case) → tallyOf yard []
-    ≡ record { lines = 0; first = false; second = false; third = false; fourth = false; «not_safe» = 0; undecided = 0; other = 0; small = 0; fault = 80000 }
+    ≡ record {
+      lines = 0;
+      first = false;
+      second = false;
+      third = false;
+      fourth = false;
+      «not_safe» = 0;
+      undecided = 0;
+      other = 0;
+      small = 0;
+      fault = 80000;
+    }
 unfolding tallyOf countOf hasLine
 tally-none yard = rw common-none
 
-pub tally-step : (yard : Case) {c : Case} (cs : List Case) → Bounds c → EveryBounds cs → tallyOf yard (c ∷ cs) ≡ addLine yard c (tallyOf yard cs)
+pub tally-step : (yard : Case) {c : Case} (cs : List Case) → Bounds c → EveryBounds cs
+    → tallyOf yard (c ∷ cs) ≡ addLine yard c (tallyOf yard cs)
 unfolding tallyOf addLine countOf hasLine
 tally-step yard {c} cs b d =
     let l : suc (length cs) ≡ 1 + length cs = omega arith in

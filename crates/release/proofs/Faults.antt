@@ -1,6 +1,5 @@
--- The greatest fault current at which every one of some lines is answered safe: with less fault current a safe line stays safe, so it is the least of what
--- each line has alone.
--- Assumes nothing.
+-- The greatest fault current at which every one of some lines is answered safe: with less fault current a safe line stays safe, so it is
+-- the least of what each line has alone.
 use Prim.Native.Nat.{ℕ, zero, suc, _≤_, _<_, min}
 use mathlib.Core.Path.{_≡_, refl, sym, ap, _∙_}
 use mathlib.Core.Bool.{Bool, true, false, cond, _&&_}
@@ -10,6 +9,7 @@ use native.Mathlib.Nat.{eq-or-lt-of-le, min-eq-left, min-eq-right, min-le-left, 
 use native.Mathlib.Omega.{arith}
 use lib.Dec.{leb}
 use borrow.Author.Tests.{leb-true, leb-false}
+use Rattle.text.proofs.Clash.{clash}
 use Rattle.case.specs.declared.Case.{Case}
 use Rattle.case.specs.Bounds.{Bounds}
 use Rattle.case.specs.Fault.{withFault}
@@ -39,7 +39,7 @@ left false b e = e
 
 pub right : (a b : Bool) → (a && b) ≡ true → b ≡ true
 right true b e = e
-right false b e = let z : _≡_ {A = ℕ} 0 1 = cc in absurd (omega arith)
+right false b e = clash cc
 
 -- ---- with less fault current
 
@@ -98,7 +98,7 @@ greatest-is lines (suc n) = go (leb 100 (suc n)) refl (everySafe (suc n) lines) 
     go : (a : Bool) → leb 100 (suc n) ≡ a → (b : Bool) → everySafe (suc n) lines ≡ b → {F : ℕ} → Greatest lines n F
         → Greatest lines (suc n) (cond (a && b) (suc n) F)
     go true l true e g = record { most = omega arith; own = inr (leb-true 100 (suc n) l, e); above = λ f k h s. h }
-    go true l false e g = passed (λ k s. let z : _≡_ {A = ℕ} 0 1 = cc in omega arith) g
+    go true l false e g = passed (λ k s. clash cc) g
     go false l b e g = passed (λ k s. omega (arith, leb-false 100 (suc n) l)) g
 
 module _ {lines : List Case} {F : ℕ} (b : EveryBounds lines) (g : Greatest lines 80000 F) where
@@ -153,10 +153,12 @@ module _ {c : Case} {cs : List Case} {F G : ℕ} (u : UpTo (c ∷ []) F) (v : Up
             (v .safe f h (omega (arith, min-le-right F G)));
         greatest =
             λ f h e.
-            lesser-of (λ x. f ≤ x) (u .greatest f h (rw (left (isSafe (withFault f c)) (everySafe f cs) e))) (v .greatest f h (right (isSafe (withFault f c)) _ e));
+            lesser-of (λ x. f ≤ x) (u .greatest f h (rw (left (isSafe (withFault f c)) (everySafe f cs) e)))
+            (v .greatest f h (right (isSafe (withFault f c)) _ e));
       }
 
-pub common-step : {c : Case} (cs : List Case) → Bounds c → EveryBounds cs → commonFault (c ∷ cs) ≡ min (commonFault (c ∷ [])) (commonFault cs)
+pub common-step : {c : Case} (cs : List Case) → Bounds c → EveryBounds cs
+    → commonFault (c ∷ cs) ≡ min (commonFault (c ∷ [])) (commonFault cs)
 unfolding EveryBounds
 common-step {c} cs b d =
     up-to-one (common-up-to (c ∷ cs) (b, d)) (up-to-both (common-up-to (c ∷ []) (b, tt)) (common-up-to cs d))

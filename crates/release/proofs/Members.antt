@@ -1,5 +1,4 @@
 -- The lines of a station are the value lines that name it; what the counts of 0 and the tests say of each of them.
--- Assumes nothing.
 use Prim.Native.Nat.{ℕ, zero, suc, _≤_, _<_}
 use mathlib.Core.Path.{_≡_, refl}
 use mathlib.Core.Bool.{Bool, true, false, cond, not, _&&_, _||_}
@@ -8,6 +7,7 @@ use native.Mathlib.Omega.{arith}
 use lib.Dec.{eqb}
 use lib.ListN.{length, getD}
 use borrow.Author.Tests.{eqb-true, eq-eqb}
+use Rattle.text.proofs.Clash.{clash}
 use Rattle.case.specs.declared.Case.{Case}
 use Rattle.case.specs.Case.{caseOf}
 use Rattle.case.specs.Bounds.{Bounds}
@@ -31,7 +31,8 @@ member-later m = record { place = suc (m .place); within = omega (arith, m .with
 -- ---- the lines of a station
 
 module _ (station : ℕ) where
-  pub line-member : (cs : List Case) (j : ℕ) → j < length cs → getD cs j (caseOf []) .station ≡ station → Member (getD cs j (caseOf [])) (linesOf station cs)
+  pub line-member : (cs : List Case) (j : ℕ) → j < length cs → getD cs j (caseOf []) .station ≡ station
+      → Member (getD cs j (caseOf [])) (linesOf station cs)
   unfolding linesOf
   line-member [] j h e = absurd (omega arith)
   line-member (c ∷ cs) zero h e = rw (eq-eqb (c .station) station e) (record { place = 0; within = omega arith; is = refl })
@@ -50,7 +51,8 @@ module _ (station : ℕ) where
   found-later : {c x : Case} {cs : List Case} → Found cs x → Found (c ∷ cs) x
   found-later f = record { member = member-later (f .member); own = f .own }
 
-  pub member-line : (cs : List Case) (x : Case) (k : ℕ) → k < length (linesOf station cs) → getD (linesOf station cs) k (caseOf []) ≡ x → Found cs x
+  pub member-line : (cs : List Case) (x : Case) (k : ℕ) → k < length (linesOf station cs) → getD (linesOf station cs) k (caseOf []) ≡ x
+      → Found cs x
   unfolding linesOf
   member-line [] x k h e = absurd (omega arith)
   member-line (c ∷ cs) x k h e = go (eqb (c .station) station) refl k h e (λ i l q. member-line cs x i l q)
@@ -92,7 +94,8 @@ unfolding one
 none-counted true e = absurd (omega arith)
 none-counted false e = refl
 
-pub count-none : (test : Case → Bool) (cs : List Case) → countOf test cs ≡ 0 → (k : ℕ) → k < length cs → test (getD cs k (caseOf [])) ≡ false
+pub count-none : (test : Case → Bool) (cs : List Case) → countOf test cs ≡ 0 → (k : ℕ) → k < length cs
+    → test (getD cs k (caseOf [])) ≡ false
 unfolding countOf
 count-none test [] e k h = absurd (omega arith)
 count-none test (c ∷ cs) e zero h = none-counted (test c) (omega arith)
@@ -108,10 +111,11 @@ pub record Seasoned (season : ℕ) (cs : List Case) : Type 0 where
 
 pub has-line : (season : ℕ) (cs : List Case) → hasLine season cs ≡ true → Seasoned season cs
 unfolding hasLine
-has-line season [] e = let z : _≡_ {A = ℕ} 0 1 = cc in absurd (omega arith)
+has-line season [] e = clash cc
 has-line season (c ∷ cs) e = go (eqb (c .season) season) refl e (λ h. has-line season cs h)
   where
-    go : (t : Bool) → eqb (c .season) season ≡ t → (t || hasLine season cs) ≡ true → (hasLine season cs ≡ true → Seasoned season cs) → Seasoned season (c ∷ cs)
+    go : (t : Bool) → eqb (c .season) season ≡ t → (t || hasLine season cs) ≡ true → (hasLine season cs ≡ true → Seasoned season cs)
+        → Seasoned season (c ∷ cs)
     go true t h later = record { place = 0; within = omega arith; season-is = eqb-true (c .season) season t }
     go false t h later =
         let m = later h in
@@ -126,7 +130,8 @@ season-none seasons cs e (suc (suc (suc zero))) l h = omega arith
 season-none seasons cs e (suc (suc (suc (suc zero)))) l h = omega arith
 season-none seasons cs e (suc (suc (suc (suc (suc i))))) l h = absurd (omega arith)
 
-pub season-has-line : (seasons : ℕ) (cs : List Case) → missing seasons cs ≡ 0 → (i : ℕ) → 1 ≤ i → i ≤ 4 → licensed i seasons ≡ true → hasLine i cs ≡ true
+pub season-has-line : (seasons : ℕ) (cs : List Case) → missing seasons cs ≡ 0 → (i : ℕ) → 1 ≤ i → i ≤ 4 → licensed i seasons ≡ true
+    → hasLine i cs ≡ true
 unfolding without
 season-has-line seasons cs e i l h t = go (hasLine i cs) refl
   where
@@ -137,18 +142,19 @@ season-has-line seasons cs e i l h t = go (hasLine i cs) refl
     go true q = refl
     go false q =
         let none : true ≡ false = (rw (t, q) at (none-counted (licensed i seasons && not (hasLine i cs)) counted)) in
-        let z : _≡_ {A = ℕ} 0 1 = cc in
-        absurd (omega arith)
+        clash cc
 
 -- ---- every line answered safe
 
-pub every-safe-at : (f : ℕ) (cs : List Case) → everySafe f cs ≡ true → (k : ℕ) → k < length cs → isSafe (withFault f (getD cs k (caseOf []))) ≡ true
+pub every-safe-at : (f : ℕ) (cs : List Case) → everySafe f cs ≡ true → (k : ℕ) → k < length cs
+    → isSafe (withFault f (getD cs k (caseOf []))) ≡ true
 unfolding everySafe
 every-safe-at f [] e k h = absurd (omega arith)
 every-safe-at f (c ∷ cs) e zero h = left (isSafe (withFault f c)) (everySafe f cs) e
 every-safe-at f (c ∷ cs) e (suc k) h = every-safe-at f cs (right (isSafe (withFault f c)) (everySafe f cs) e) k (omega arith)
 
-pub at-every-safe : (f : ℕ) (cs : List Case) → ((k : ℕ) → k < length cs → isSafe (withFault f (getD cs k (caseOf []))) ≡ true) → everySafe f cs ≡ true
+pub at-every-safe : (f : ℕ) (cs : List Case) → ((k : ℕ) → k < length cs → isSafe (withFault f (getD cs k (caseOf []))) ≡ true)
+    → everySafe f cs ≡ true
 unfolding everySafe
 at-every-safe f [] h = refl
 at-every-safe f (c ∷ cs) h = rw (h 0 (omega arith)) (at-every-safe f cs (λ k l. h (suc k) (omega arith)))

@@ -1,5 +1,4 @@
 -- The pairs of a licence: how many, which numbers each has, and the search for the first that is wrong.
--- Assumes nothing.
 use Prim.Native.Nat.{ℕ, zero, suc, _+_, _*_, _/_, _≤_, _<_}
 use mathlib.Core.Path.{_≡_, refl, sym, _∙_}
 use mathlib.Core.Bool.{Bool, true, false, cond, _||_}
@@ -70,7 +69,8 @@ module _ {s : List ℕ} {k : ℕ} (a : Searching s k) where
   pub searching-found : k < length s / 2 → (wrongAt s k ≡ 0 → ⊥) → At (k + 1) (wrongAt s k) ≡ firstWrong [] 1 (pairsOf s)
   unfolding firstWrong wrongAt
   searching-found h n =
-      sym (a .passed ∙ rw (pairs-at s k h) (one-found (wrongStation (earlier s k) (getD s (2 * k) 0)) (wrongSeasons (getD s (2 * k + 1) 0)) _ n))
+      sym (a .passed ∙ rw (pairs-at s k h) (one-found (wrongStation (earlier s k) (getD s (2 * k) 0)) (wrongSeasons (getD s (2 * k + 1) 0))
+      _ n))
 
   pub searching-step : k < length s / 2 → wrongAt s k ≡ 0 → Searching s (k + 1)
   unfolding firstWrong wrongAt earlier
@@ -78,7 +78,8 @@ module _ {s : List ℕ} {k : ℕ} (a : Searching s k) where
       record {
         passed =
             a .passed ∙ rw (pairs-at s k h)
-            (none-found (wrongStation (earlier s k) (getD s (2 * k) 0)) (wrongSeasons (getD s (2 * k + 1) 0)) _ e ∙ rw (add-one (k + 1), add-one k));
+            (none-found (wrongStation (earlier s k) (getD s (2 * k) 0)) (wrongSeasons (getD s (2 * k + 1) 0)) _ e
+            ∙ rw (add-one (k + 1), add-one k));
       }
 
   pub searching-end : length s / 2 ≤ k → Nothing ≡ firstWrong [] 1 (pairsOf s)

@@ -1,6 +1,5 @@
--- What the eight numbers in the table say of the sheet: a released station, the fault current reported, and that a station is released exactly when the
--- five counts are 0.
--- Assumes nothing.
+-- What the eight numbers in the table say of the sheet: a released station, the fault current reported, and that a station is released
+-- exactly when the five counts are 0.
 use Prim.Native.Nat.{ℕ, _+_, _/_, _<_}
 use mathlib.Core.Path.{_≡_, refl, sym, ap, _∙_}
 use mathlib.Core.Bool.{Bool, true, false, cond}
@@ -50,7 +49,8 @@ choice {z} a b c d e h = go (eqb (a + b + c + d + e) 0) h
 zero-is : {a : ℕ} → pos a ≡ pos 0 → a ≡ 0
 zero-is e = cc
 
-module _ {s licence : List ℕ} {before after : List ℤ} {n : ℕ} (a : ReleaseAnswered s licence before after (Pairs n)) (k : ℕ) (h : k < n) where
+module _ {s licence : List ℕ} {before after : List ℤ} {n : ℕ} (a : ReleaseAnswered s licence before after (Pairs n)) (k : ℕ)
+    (h : k < n) where
   known : Counted s licence n
   known = counted s licence (length before) n (sym (a .answer-is))
 
@@ -65,7 +65,7 @@ module _ {s licence : List ℕ} {before after : List ℤ} {n : ℕ} (a : Release
   unfolding stationNumbers
   numbers-are =
       let l : k < length licence / 2 = omega (arith, known .count) in
-      filled .pair k (omega (arith, release-count licence (cases s), known .count)) ∙ release-at licence (cases s) k l
+      filled .parts k (omega (arith, release-count licence (cases s), known .count)) ∙ release-at licence (cases s) k l
 
   number-is : (place : ℕ) → numberAt after k place ≡ getD (numbersOf (stationAt licence k) (seasonsAt licence k) own) place (pos 0)
   number-is place = ap (λ (l : List ℤ). getD l place (pos 0)) numbers-are
@@ -98,7 +98,8 @@ module _ {s licence : List ℕ} {before after : List ℤ} {n : ℕ} (a : Release
   pub released-means : numberAt after k 1 ≡ pos 1 → ReleasedStation s (stationAt licence k) (seasonsAt licence k)
   released-means e =
       let z = sum-is-none e in
-      station-released s (stationAt licence k) bounded-cases (seasonsAt licence k) (omega arith) (omega arith) (omega arith) (omega arith) (omega arith)
+      station-released s (stationAt licence k) bounded-cases (seasonsAt licence k) (omega arith) (omega arith) (omega arith) (omega arith)
+      (omega arith)
 
   -- "Released exactly when the five counts are 0"
   pub released-none : numberAt after k 1 ≡ pos 1 → NothingFound after k

@@ -1,5 +1,4 @@
 -- The lines of a station among the stored values, taken from the last to the first.
--- Assumes nothing.
 use Prim.Native.Nat.{ℕ, suc, _+_, _-_, _*_, _≤_, _<_}
 use mathlib.Core.Path.{_≡_, sym, ap, _∙_}
 use mathlib.Core.Bool.{Bool, true, false, cond}
@@ -41,7 +40,8 @@ module _ (values : List ℕ) (n station : ℕ) where
     from-next : drop i (storedCases values n) ≡ here ∷ drop (suc i) (storedCases values n)
     from-next =
         let l : i < length (storedCases values n) = omega (arith, cases-count values n) in
-        drop-cons (storedCases values n) i (caseOf []) l ∙ ap (λ (c : Case). c ∷ drop (suc i) (storedCases values n)) (stored-case values n i h)
+        drop-cons (storedCases values n) i (caseOf []) l ∙ ap (λ (c : Case). c ∷ drop (suc i) (storedCases values n))
+        (stored-case values n i h)
 
     station-is : here .station ≡ getD values (nameCount * i) 0
     station-is =
@@ -62,7 +62,8 @@ unfolding linesOf
 lines-few station [] = omega arith
 lines-few station (c ∷ cs) = go (eqb (c .station) station) (lines-few station cs)
   where
-    go : (t : Bool) → length (linesOf station cs) ≤ length cs → length (cond t (c ∷ linesOf station cs) (linesOf station cs)) ≤ suc (length cs)
+    go : (t : Bool) → length (linesOf station cs) ≤ length cs
+        → length (cond t (c ∷ linesOf station cs) (linesOf station cs)) ≤ suc (length cs)
     go true h = omega arith
     go false h = omega arith
 
@@ -89,7 +90,10 @@ module _ {values : List ℕ} {n station i : ℕ} {first : Case} (a : First value
 
   pub first-other : (getD values (nameCount * (i - 1)) 0 ≡ station → ⊥) → First values n station (i - 1) first
   first-other e =
-      record { within = omega (arith, a .within); is = rw (lines-other values n station (i - 1) (omega (arith, a .within)) e, after) (a .is) }
+      record {
+        within = omega (arith, a .within);
+        is = rw (lines-other values n station (i - 1) (omega (arith, a .within)) e, after) (a .is);
+      }
 
 pub first-end : {values : List ℕ} {n station i : ℕ} {first : Case} → First values n station i first → i ≤ 0
     → first ≡ firstLine (linesOf station (storedCases values n))
@@ -105,7 +109,18 @@ pub record Counting (values : List ℕ) (n station : ℕ) (yard : Case) (i : ℕ
 
 pub counting-start : (values : List ℕ) (n station : ℕ) (yard : Case)
     → Counting values n station yard n
-    (record { lines = 0; first = false; second = false; third = false; fourth = false; «not_safe» = 0; undecided = 0; other = 0; small = 0; fault = 80000 })
+    (record {
+      lines = 0;
+      first = false;
+      second = false;
+      third = false;
+      fourth = false;
+      «not_safe» = 0;
+      undecided = 0;
+      other = 0;
+      small = 0;
+      fault = 80000;
+    })
 unfolding EveryBounds
 counting-start values n station yard =
     let e = lines-end values n station in
@@ -126,7 +141,8 @@ module _ {values : List ℕ} {n station : ℕ} {yard : Case} {i : ℕ} {t : Tall
         → Counting values n station yard (i - 1) (addLine yard c t)
     unfolding EveryBounds
     counting-own {c} b e q =
-        let l : linesFrom values n station (i - 1) ≡ c ∷ linesFrom values n station i = lines-own values n station (i - 1) inside e ∙ rw (next, q) in
+        let l : linesFrom values n station (i - 1) ≡ c ∷ linesFrom values n station i =
+        lines-own values n station (i - 1) inside e ∙ rw (next, q) in
         record {
           within = omega (arith, a .within);
           few = rw l (omega (arith, a .few));
@@ -136,7 +152,8 @@ module _ {values : List ℕ} {n station : ℕ} {yard : Case} {i : ℕ} {t : Tall
 
     pub counting-other : (getD values (nameCount * (i - 1)) 0 ≡ station → ⊥) → Counting values n station yard (i - 1) t
     counting-other e =
-        let l : linesFrom values n station (i - 1) ≡ linesFrom values n station i = lines-other values n station (i - 1) inside e ∙ rw next in
+        let l : linesFrom values n station (i - 1) ≡ linesFrom values n station i =
+        lines-other values n station (i - 1) inside e ∙ rw next in
         record { within = omega (arith, a .within); few = rw l (omega (arith, a .few)); bounded = rw l (a .bounded); is = rw l (a .is) }
 
 pub counting-end : {values : List ℕ} {n station : ℕ} {yard : Case} {i : ℕ} {t : Tally} → Counting values n station yard i t → i ≤ 0

@@ -1,5 +1,4 @@
 -- A station by its lines: what five counts of 0 say of every line, and what the fault current reported says.
--- Assumes nothing.
 use Prim.Native.Nat.{ℕ, _≤_, _<_}
 use mathlib.Core.Path.{_≡_, refl, sym, _∙_}
 use mathlib.Core.Bool.{Bool, true, false, cond}
@@ -9,6 +8,7 @@ use native.Mathlib.Omega.{arith}
 use lib.Dec.{eqb}
 use lib.ListN.{length, getD}
 use borrow.Author.Tests.{eqb-true, ltb-false, not-false}
+use Rattle.text.proofs.Clash.{clash}
 use Rattle.case.specs.declared.Case.{Case}
 use Rattle.case.specs.Case.{caseOf}
 use Rattle.case.specs.Bounds.{Bounds}
@@ -21,20 +21,22 @@ use Rattle.row.proofs.Right.{right-row}
 use Rattle.yards.specs.Yards.{isSafe}
 use Rattle.sheet.specs.Answer.{cases}
 use Rattle.headroom.specs.Headroom.{InRange}
-use Rattle.release.specs.Lines.{linesOf, countOf, missing, answeredUnsafe, answeredUndecided, sameYard, otherYard, tooSmall, firstLine}
+use Rattle.release.specs.Lines.{linesOf, countOf, missing, answeredUnsafe, answeredUndecided, sameYard, otherYard, tooSmall}
+use Rattle.release.specs.Lines.{firstLine}
 use Rattle.release.specs.Fault.{everySafe, commonFault, stationFault}
 use Rattle.release.specs.Tally.{EveryBounds}
 use Rattle.release.specs.Meaning.{lineAt, LineOf, SeasonLine, OneYard, ReleasedStation, SafeThroughout, FaultReported}
 use Rattle.release.proofs.Faults.{left, right, test-safe, safe-test, UpTo, common-up-to}
-use Rattle.release.proofs.Members.{Member, line-member, Found, member-line, every-at, lines-bounds, count-none, Seasoned, has-line, season-has-line, every-safe-at, at-every-safe}
+use Rattle.release.proofs.Members.{Member, line-member, Found, member-line, every-at, lines-bounds, count-none, Seasoned, has-line}
+use Rattle.release.proofs.Members.{season-has-line, every-safe-at, at-every-safe}
 
 -- ---- the tests of a line
 
 answered-safe : (v : Verdict) → eqb (verdictNumber v) 2 ≡ false → eqb (verdictNumber v) 3 ≡ false → v ≡ Safe
 unfolding verdictNumber
 answered-safe Safe u d = refl
-answered-safe Unsafe u d = let z : _≡_ {A = ℕ} 0 1 = cc in absurd (omega arith)
-answered-safe Undecided u d = let z : _≡_ {A = ℕ} 0 1 = cc in absurd (omega arith)
+answered-safe Unsafe u d = clash cc
+answered-safe Undecided u d = clash cc
 
 same-first : (yard c : Case) → otherYard yard c ≡ false → sameYard yard c ≡ true
 unfolding otherYard
@@ -113,7 +115,8 @@ module _ (s : List ℕ) (station : ℕ) (bounded : EveryBounds (cases s)) where
     safe-at : (j : ℕ) → LineOf s station j → rowOf (lineAt s j) .verdict ≡ Safe
     unfolding answeredUnsafe answeredUndecided
     safe-at j l =
-        answered-safe (rowOf (lineAt s j) .verdict) (not-passed answeredUnsafe no-unsafe j l) (not-passed answeredUndecided no-undecided j l)
+        answered-safe (rowOf (lineAt s j) .verdict) (not-passed answeredUnsafe no-unsafe j l)
+        (not-passed answeredUndecided no-undecided j l)
 
     first-yard : (j : ℕ) → LineOf s station j → OneYard (firstLine lines) (lineAt s j)
     first-yard j l = yard-is (firstLine lines) (lineAt s j) (same-first _ _ (not-passed (otherYard (firstLine lines)) no-other j l))
@@ -139,7 +142,8 @@ module _ (s : List ℕ) (station : ℕ) (bounded : EveryBounds (cases s)) where
   every-line : (f : ℕ) → SafeThroughout s station f → everySafe f lines ≡ true
   every-line f h = at-every-safe f lines (λ k l. at k l (member-line station (cases s) (getD lines k (caseOf [])) k l refl))
     where
-      at : (k : ℕ) → k < length lines → Found station (cases s) (getD lines k (caseOf [])) → isSafe (withFault f (getD lines k (caseOf []))) ≡ true
+      at : (k : ℕ) → k < length lines → Found station (cases s) (getD lines k (caseOf []))
+          → isSafe (withFault f (getD lines k (caseOf []))) ≡ true
       at k l g =
           let own : LineOf s station (g .member .place) = record { within = g .member .within; own = rw (g .member .is) (g .own) } in
           rw (g .member .is) at (safe-test (lineAt s (g .member .place)) f (h (g .member .place) own))

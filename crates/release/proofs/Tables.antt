@@ -1,22 +1,18 @@
 -- The table: eight numbers a pair, one pair after the other.
--- Assumes nothing.
 use Prim.Native.Nat.{ℕ, zero, suc, _+_, _*_, _-_, _/_, _≤_, _<_}
 use mathlib.Core.Path.{_≡_, refl, _∙_}
-use mathlib.Core.Logic.{_⊎_, inl, inr}
 use mathlib.Core.List.{List, [], _∷_}
-use native.Mathlib.Nat.{eq-or-lt-of-le}
 use native.Mathlib.Omega.{arith}
 use lib.IntN.{ℤ}
-use lib.ListN.{length, getD, set, drop, length-map}
+use lib.ListN.{length, getD, set, length-map}
 use borrow.Rule.Slice.PartMut.{putMid}
-use Rattle.tables.specs.Parts.{partAt, Written}
-use Rattle.tables.proofs.Writing.{put-written, part-kept, rest-kept}
+use Rattle.tables.specs.Parts.{Written}
+use Rattle.tables.proofs.Writing.{put-written}
 use Rattle.case.specs.declared.Case.{Case}
 use Rattle.release.specs.declared.Tally.{Tally}
 use Rattle.release.specs.Licence.{pairsOf}
 use Rattle.release.specs.Pair.{pairLength, stationNumbers, releaseOf}
 use Rattle.release.specs.Tally.{eight}
-use Rattle.release.specs.Answer.{Filled}
 use Rattle.release.proofs.Pairs.{pair-count}
 
 pub eight-set : (l : List ℤ) (a b c d e f g h : ℤ) → length l ≡ pairLength
@@ -37,31 +33,10 @@ unfolding eight
 eight-long station noLine t = refl
 
 -- eight numbers put in the place of pair i
-pub pair-written : (i : ℕ) (t part : List ℤ) (station noLine : ℕ) (y : Tally) → pairLength * i + pairLength ≤ length t → part ≡ eight station noLine y
+pub pair-written : (i : ℕ) (t part : List ℤ) (station noLine : ℕ) (y : Tally) → pairLength * i + pairLength ≤ length t
+    → part ≡ eight station noLine y
     → Written pairLength i (eight station noLine y) t (putMid (pairLength * i) (pairLength * i + pairLength - pairLength * i) t part)
 pair-written i t part station noLine y h e = rw e (put-written pairLength i t (eight station noLine y) h (eight-long station noLine y))
-
--- ---- the pass that fills it: the first n pairs are written, and nothing past them
-
-pub record FilledTo (pairs : List (List ℤ)) (n : ℕ) (before after : List ℤ) : Type 0 where
-  pub size : length after ≡ length before
-  pub pair : (i : ℕ) → i < n → partAt pairLength after i ≡ getD pairs i []
-  pub rest : drop (pairLength * n) after ≡ drop (pairLength * n) before
-
-pub filled-start : (pairs : List (List ℤ)) (t : List ℤ) → FilledTo pairs 0 t t
-filled-start pairs t = record { size = refl; pair = λ i h. absurd (omega arith); rest = refl }
-
-pub filled-step : {pairs : List (List ℤ)} {n : ℕ} {part t u w : List ℤ} → FilledTo pairs n t u → Written pairLength n part u w → part ≡ getD pairs n []
-    → FilledTo pairs (n + 1) t w
-filled-step {pairs} {n} {part} {t} {u} {w} f r p =
-    record { size = r .size ∙ f .size; pair = λ i h. at i (eq-or-lt-of-le (omega arith)); rest = rest-kept t r (f .rest) }
-  where
-    at : (i : ℕ) → (i ≡ n) ⊎ (i < n) → partAt pairLength w i ≡ getD pairs i []
-    at i (inl e) = rw (e, r .part-is) p
-    at i (inr h) = part-kept i r h ∙ f .pair i h
-
-pub filled-end : {pairs : List (List ℤ)} {n : ℕ} {t u : List ℤ} → FilledTo pairs n t u → n ≡ length pairs → Filled pairs t u
-filled-end f e = record { size = f .size; pair = λ i h. f .pair i (omega arith); rest = rw (← e) (f .rest) }
 
 -- ---- the numbers of pair k
 

@@ -1,13 +1,12 @@
 -- The answer to a sheet, a licence and a table, and what it leaves in the table: one claim over every three of them.
--- Assumes nothing.
-use Prim.Native.Nat.{ℕ, _*_, _<_}
+use Prim.Native.Nat.{ℕ, _*_}
 use mathlib.Core.Path.{_≡_}
 use mathlib.Core.Bool.{cond}
 use mathlib.Core.List.{List, []}
 use lib.Dec.{ltb}
 use lib.IntN.{ℤ}
-use lib.ListN.{length, getD, drop}
-use Rattle.tables.specs.Parts.{partAt}
+use lib.ListN.{length, getD}
+use Rattle.tables.specs.Parts as parts
 use Rattle.case.specs.declared.Case.{Case}
 use Rattle.case.specs.Columns.{columns}
 use Rattle.judgement.specs.declared.Judgement.{Judgement}
@@ -46,10 +45,8 @@ unfoldable pub releaseAnswer : List ℕ → List ℕ → ℕ → Released
 releaseAnswer s licence room = afterSheet (licenceAnswer licence room) (judgement columns s)
 
 -- "For each pair in the licence's order eight numbers"; "numbers past the last keep what they held"
-pub record Filled (pairs : List (List ℤ)) (before after : List ℤ) : Type 0 where
-  pub size : length after ≡ length before
-  pub pair : (i : ℕ) → i < length pairs → partAt pairLength after i ≡ getD pairs i []
-  pub rest : drop (pairLength * length pairs) after ≡ drop (pairLength * length pairs) before
+abbrev pub Filled : List (List ℤ) → List ℤ → List ℤ → Type 0
+Filled pairs before after = parts.Filled pairLength (λ i part. part ≡ getD pairs i []) (length pairs) before after
 
 -- the numbers of the cases of a sheet; "any refusal leaves the table"
 unfoldable pub TableAfter : List Case → List ℕ → List ℤ → List ℤ → Released → Type 0
@@ -61,8 +58,8 @@ pub record LinesReleased (cs : List Case) (licence : List ℕ) (before after : L
   pub answer-is : r ≡ licenceAnswer licence (length before)
   pub table-is : TableAfter cs licence before after r
 
--- the answer and what it leaves in the table. Two wrong programs: one whose refusal writes breaks `table-is`; one that refuses a wrong pair with 21 breaks
--- `answer-is`.
+-- the answer and what it leaves in the table. Two wrong programs: one whose refusal writes breaks `table-is`; one that refuses a wrong pair
+-- with 21 breaks `answer-is`.
 pub record ReleaseAnswered (s licence : List ℕ) (before after : List ℤ) (r : Released) : Type 0 where
   pub answer-is : r ≡ releaseAnswer s licence (length before)
   pub table-is : TableAfter (cases s) licence before after r

@@ -1,5 +1,4 @@
 -- The checks of a licence by the index of a pair: number 2k is its station, number 2k + 1 its seasons.
--- Assumes nothing.
 use Prim.Native.Nat.{ℕ, zero, suc, _+_, _*_}
 use mathlib.Core.Bool.{cond}
 use mathlib.Core.List.{List, [], _∷_}

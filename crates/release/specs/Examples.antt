@@ -1,5 +1,4 @@
 -- The licence's answer, the lines of a station and the seasons without a line computed.
--- Assumes nothing.
 use Prim.Native.Nat.{ℕ}
 use mathlib.Core.Path.{_≡_, refl}
 use mathlib.Core.List.{List, [], _∷_, map}
@@ -46,7 +45,8 @@ right = refl
 -- document 01's sample station in seasons 1 and 2, and another station
 abbrev line : ℕ → ℕ → ℕ → Case
 line station season depth =
-    caseOf (station ∷ season ∷ 400 ∷ 2500 ∷ 102 ∷ 500 ∷ 500 ∷ 500 ∷ 70 ∷ 3180 ∷ 600 ∷ 10 ∷ 11 ∷ 11 ∷ 7000 ∷ depth ∷ 100 ∷ 0 ∷ 0 ∷ 0 ∷ 1 ∷ 60 ∷ [])
+    caseOf (station ∷ season ∷ 400 ∷ 2500 ∷ 102 ∷ 500 ∷ 500 ∷ 500 ∷ 70 ∷ 3180 ∷ 600 ∷ 10 ∷ 11 ∷ 11 ∷ 7000 ∷ depth ∷ 100 ∷ 0 ∷ 0 ∷ 0 ∷ 1 ∷ 60
+    ∷ [])
 
 abbrev lines : List Case
 lines = line 7 1 500 ∷ line 9 3 500 ∷ line 7 2 600 ∷ []

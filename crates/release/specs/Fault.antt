@@ -1,5 +1,4 @@
 -- "the greatest fault current at which, put into every line of the station, every line is answered safe (0 where none, or no line)".
--- Assumes nothing.
 use Prim.Native.Nat.{ℕ, zero, suc}
 use mathlib.Core.Bool.{Bool, true, cond, _&&_}
 use mathlib.Core.List.{List, [], _∷_}

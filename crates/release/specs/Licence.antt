@@ -1,5 +1,5 @@
--- The licence: "a slice of 32-bit numbers, pairs of a station and its seasons as a number 1..15 (season i counts 2^(i−1))", and its refusals 21 and 22.
--- Assumes nothing.
+-- The licence: "a slice of 32-bit numbers, pairs of a station and its seasons as a number 1..15 (season i counts 2^(i−1))", and its
+-- refusals 21 and 22.
 use Prim.Native.Nat.{ℕ, suc, _-_, _/_, _%_, _^_}
 use mathlib.Core.Bool.{Bool, false, cond, not, _&&_, _||_}
 use mathlib.Core.List.{List, [], _∷_}
@@ -37,7 +37,8 @@ wrongStation earlier station = not (leb 1 station && leb station 65535) || among
 unfoldable pub wrongSeasons : ℕ → Bool
 wrongSeasons seasons = not (leb 1 seasons && leb seasons 15)
 
--- "22 with the first such pair's place from 1 as line", the station as column 1 and the seasons as column 2, after the stations of earlier pairs
+-- "22 with the first such pair's place from 1 as line", the station as column 1 and the seasons as column 2, after the stations of earlier
+-- pairs
 unfoldable pub firstWrong : List ℕ → ℕ → List Pair → Wrong
 firstWrong earlier place [] = Nothing
 firstWrong earlier place (p ∷ ps) =

@@ -1,5 +1,4 @@
 -- The lines of a station, and what is counted of them: "of all lines of the station, licensed or not".
--- Assumes nothing.
 use Prim.Native.Nat.{ℕ, _+_, _*_}
 use mathlib.Core.Bool.{Bool, false, cond, not, _&&_, _||_}
 use mathlib.Core.List.{List, [], _∷_}

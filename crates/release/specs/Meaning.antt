@@ -1,5 +1,4 @@
 -- What the eight numbers say of the sheet, in words of its lines and of exact values: proofs/ReleasedStations.antt shows that it holds.
--- Assumes nothing.
 use Prim.Native.Nat.{ℕ, _+_, _*_, _≤_, _<_}
 use mathlib.Core.Path.{_≡_}
 use mathlib.Core.Bool.{true}
@@ -57,8 +56,8 @@ pub record OneYard (c d : Case) : Type 0 where
   pub place : c .place ≡ d .place
   pub metal : c .metal ≡ d .metal
 
--- "of a released station every season of the licence has a line, and in every line of it, for one and the same yard, the exact mesh and step voltages are at
--- or below what is tolerable"; and no conductor is too small for the row's size
+-- "of a released station every season of the licence has a line, and in every line of it, for one and the same yard, the exact mesh and
+-- step voltages are at or below what is tolerable"; and no conductor is too small for the row's size
 pub record ReleasedStation (s : List ℕ) (station seasons : ℕ) : Type 0 where
   pub every-season : (i : ℕ) → 1 ≤ i → i ≤ 4 → licensed i seasons ≡ true → SeasonLine s station i
   pub one-yard : (i j : ℕ) → LineOf s station i → LineOf s station j → OneYard (lineAt s i) (lineAt s j)

@@ -1,5 +1,4 @@
 -- The eight numbers of a pair of the licence.
--- Assumes nothing.
 use Prim.Native.Nat.{ℕ, _+_}
 use mathlib.Core.Bool.{cond}
 use mathlib.Core.List.{List, [], _∷_, map}
@@ -18,9 +17,9 @@ pairLength = 8
 unfoldable pub released : ℕ → ℕ → ℕ → ℕ → ℕ → ℕ
 released noLine unsafe undecided other small = cond (eqb (noLine + unsafe + undecided + other + small) 0) 1 2
 
--- of a station with its seasons and its lines: "station; 1 released or 2 held; how many seasons of the licence have no line; of all lines of the station,
--- licensed or not, how many are answered unsafe; how many undecided; how many describe another yard than its first line; how many have a conductor too
--- small for the row's size; and the greatest fault current"
+-- of a station with its seasons and its lines: "station; 1 released or 2 held; how many seasons of the licence have no line; of all lines
+-- of the station, licensed or not, how many are answered unsafe; how many undecided; how many describe another yard than its first line;
+-- how many have a conductor too small for the row's size; and the greatest fault current"
 unfoldable pub numbersOf : ℕ → ℕ → List Case → List ℤ
 numbersOf station seasons lines =
     pos station

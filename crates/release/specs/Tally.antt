@@ -1,5 +1,4 @@
 -- What is counted of a station's lines, line by line from the last to the first.
--- Assumes nothing.
 use Prim.Native.Nat.{ℕ, _+_, _<_, _^_, min}
 use mathlib.Core.Bool.{Bool, cond, not, _&&_, _||_}
 use mathlib.Core.List.{List, [], _∷_}

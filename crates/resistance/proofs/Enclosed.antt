@@ -1,5 +1,4 @@
 -- The resistance's ends include the exact value's ends: each line follows the formula's line.
--- Assumes nothing.
 use Prim.Native.Nat.{_*_, _^_}
 use mathlib.Core.Path.{refl}
 use native.Mathlib.Omega.{arith}
@@ -122,4 +121,5 @@ module _ {c : Case} (b : Bounds c) where
       encloses-outward {u = ten 9} (ten 6) 1000 refl
       (encloses-times (c .soil)
       (quantity-sum (quantity-quotient one q-total) (quantity-quotient q-shape q-width) .consistent)
-      (encloses-sum (quantity-quotient one q-total .consistent) (quantity-quotient q-shape q-width .consistent) first-encloses second-encloses))
+      (encloses-sum (quantity-quotient one q-total .consistent) (quantity-quotient q-shape q-width .consistent) first-encloses
+      second-encloses))

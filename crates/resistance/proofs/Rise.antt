@@ -1,5 +1,4 @@
 -- The potential rise: its ends, its width and what it encloses.
--- Assumes nothing.
 use Prim.Native.Nat.{ℕ, _+_, _*_, _/_, _^_, _≤_, _<_}
 use mathlib.Core.Path.{refl}
 use native.Mathlib.Omega.{arith}
@@ -50,7 +49,8 @@ module _ {c : Case} (b : Bounds c) where
   unfolding potentialRise riseEnds mV μΩ μA ten _·x_
   rise-encloses =
       encloses-same (product-turned (IG c workDepth) (resistance c workDepth))
-      (encloses-product (ten 3) (10 ^ 9) refl (quantity-resistance b .consistent) (quantity-IG b .consistent) (resistance-encloses b) (current-encloses b))
+      (encloses-product (ten 3) (10 ^ 9) refl (quantity-resistance b .consistent) (quantity-IG b .consistent) (resistance-encloses b)
+      (current-encloses b))
 
   pub rise-wide : Wide (resistanceEnds c) (currentEnds c) (10 ^ 9)
   rise-wide = wide-fits (10 ^ 9) 179 (lit< tt) (lit< tt) (lit≤ tt) (lit< tt) (resistance-span b) (current-span b)
@@ -66,7 +66,8 @@ module _ {c : Case} (b : Bounds c) where
         b = ceilDiv (s .b * t .b) (10 ^ 9);
         is = rw (s .is, t .is) (natural-product (s .order) (t .order) p);
         near =
-            near (t .a) (t .b) (s .a) (s .b) _ _ (relative-span s (resistance-near b)) (s .from) (s .to) (relative-span t (current-relative b))
+            near (t .a) (t .b) (s .a) (s .b) _ _ (relative-span s (resistance-near b)) (s .from) (s .to)
+            (relative-span t (current-relative b))
             (floorDiv-above (s .a * t .a) p) (ceilDiv-below (s .b * t .b) p);
       }
 

@@ -1,5 +1,4 @@
 -- Sizes and widths of the resistance's ends. The widths of spans are coarse for a short side: `per-soil-near` has the one that counts.
--- Assumes nothing.
 use Prim.Native.Nat.{ℕ, _*_, _^_, _≤_}
 use native.Mathlib.Omega.{arith}
 use native.Mathlib.Nat.{mul-le-mul, mul-le-mul-left}
@@ -8,7 +7,8 @@ use lib.Dec.{lit≤, lit<}
 use lib.IntN.{pos}
 use Rattle.interval.specs.Operations.{point, scaledOf, quotientOf}
 use Rattle.interval.specs.Span.{Span, Relative}
-use Rattle.interval.proofs.Span.{span-natural, span-point, span-wider, span-sum, span-scaled, span-outward, span-product, span-divide, span-quotient}
+use Rattle.interval.proofs.Span.{span-natural, span-point, span-wider, span-sum, span-scaled, span-outward, span-product, span-divide}
+use Rattle.interval.proofs.Span.{span-quotient}
 use Rattle.interval.proofs.Relatives.{relative-add, relative-divided}
 use Rattle.enclosure.specs.SquareRoot.{rootPair}
 use Rattle.enclosure.proofs.RootSpan.{root-span}
@@ -39,7 +39,8 @@ module _ {c : Case} (b : Bounds c) where
       let x = x-bounds b in
       let y = y-bounds b in
       by-place (λ i. Span i 2500000 720000001 1) (equalCounts c)
-      (λ e. span-wider (span-point (1000 * sideX c) (mul-le-mul-left 1000 (x .low)) (mul-le-mul-left 1000 (x .high))) (lit≤ tt) (lit≤ tt) (lit≤ tt))
+      (λ e. span-wider (span-point (1000 * sideX c) (mul-le-mul-left 1000 (x .low)) (mul-le-mul-left 1000 (x .high))) (lit≤ tt) (lit≤ tt)
+      (lit≤ tt))
       (λ e. area-span _ _ (omega arith) (omega arith) (omega arith) (omega arith))
 
   pub depth-scaled : Span (scaledOf rootTwenty (c .depth)) 1118033988500 11180339887500 2500
@@ -118,7 +119,8 @@ module _ {c : Case} (b : Bounds c) where
 
   pub soil-scaled : Span (scaledOf (perSoilEnds c) (c .soil)) 5100000 1500000000000 270010000
   soil-scaled =
-      span-wider (span-scaled (c .soil) per-soil-span) (omega (arith, b .soil .low)) (omega (arith, b .soil .high)) (omega (arith, b .soil .high))
+      span-wider (span-scaled (c .soil) per-soil-span) (omega (arith, b .soil .low)) (omega (arith, b .soil .high))
+      (omega (arith, b .soil .high))
 
   pub resistance-span : Span (resistanceEnds c) 5100 1500000000 300000
   unfolding resistanceEnds

@@ -1,5 +1,4 @@
 -- The resistance's and the potential rise's ends are no further apart than document 01 allows.
--- Assumes nothing.
 use Prim.Native.Nat.{ℕ, _+_, _*_, _/_, _≤_, _<_}
 use native.Mathlib.Omega.{arith}
 use native.Mathlib.Nat.{mul-le-mul-right}
@@ -37,7 +36,8 @@ resistance-near {c} b =
           (floorDiv-above (s .a * k) (lit< tt));
     }
 
-within-allowed : (a b : ℕ) → 10000 * b ≤ 10001 * a + 10000 * 2 → AtMost (resistanceWidth (reported μΩ (natural a b))) (reported μΩ (natural a b))
+within-allowed : (a b : ℕ) → 10000 * b ≤ 10001 * a + 10000 * 2
+    → AtMost (resistanceWidth (reported μΩ (natural a b))) (reported μΩ (natural a b))
 unfolding resistanceWidth reported μΩ ten over natural decimal _·f_ _+f_ _−f_ neg
 within-allowed a b h = record { apart = record { le = omega arith } }
 

@@ -1,6 +1,5 @@
 -- The driest soil decides, by the exact values: were the case with the lower resistivity unsafe, one of its voltages would be above what is
 -- tolerable at some depth, and so with the higher resistivity.
--- Assumes nothing.
 use Prim.Native.Nat.{ℕ, _≤_}
 use mathlib.Core.Path.{_≡_, sym, ap, _∙_}
 use mathlib.Core.Logic.{⊎-elim}

@@ -1,6 +1,5 @@
 -- No more of the fault current enters the grid, no longer shock, no lighter body, all else equal: the ends of mesh and step voltage fall or
 -- stay, those of the tolerable voltages rise or stay, so a safe yard stays safe.
--- Assumes nothing.
 use Prim.Native.Nat.{ℕ, _*_, _≤_}
 use mathlib.Core.Path.{_≡_, refl, ap, _∙_}
 use Rattle.interval.specs.declared.Interval.{Interval}
@@ -54,7 +53,8 @@ module _ {c : Case} (b : Bounds c) where
       → caseVerdict c ≡ Safe → caseVerdict (eased fault split shock body c) ≡ Safe
   unfolding caseVerdict
   eased-safe fault split shock body h z t w e =
-      safe-eases (touch-rises b fault split shock body z t w) (limit-rises b fault split shock body z t w) (mesh-below b fault split shock body h)
+      safe-eases (touch-rises b fault split shock body z t w) (limit-rises b fault split shock body z t w)
+      (mesh-below b fault split shock body h)
       (step-below b fault split shock body h) e
 
   -- the theorem, for a shock time in its range

@@ -1,5 +1,4 @@
 -- The row of a case within its bounds is right: the ends are right reports, and the verdict is true of the exact values.
--- Assumes nothing.
 use mathlib.Core.Path.{_≡_, refl}
 use Rattle.exact.specs.Reported.{reported, AtMost, Reports}
 use Rattle.enclosure.proofs.Reporting.{reports}
@@ -10,7 +9,8 @@ use Rattle.formulas.specs.Tolerable as Tolerable
 use Rattle.formulas.specs.Mesh as Mesh
 use Rattle.formulas.specs.Resistance as R
 use Rattle.formulas.specs.Step as Step
-use Rattle.formulas.proofs.Consistent.{consistent-touch, consistent-tolerable-step, consistent-mesh, consistent-step, quantity-resistance, consistent-rise}
+use Rattle.formulas.proofs.Consistent.{consistent-touch, consistent-tolerable-step, consistent-mesh, consistent-step, quantity-resistance}
+use Rattle.formulas.proofs.Consistent.{consistent-rise}
 use Rattle.decrement.proofs.Right.{factor-reports}
 use Rattle.current.proofs.GridCurrent.{current-reports}
 use Rattle.tolerable.specs.Ends.{touchEnds, stepEnds}

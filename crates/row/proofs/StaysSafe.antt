@@ -1,5 +1,4 @@
 -- Less fault current, all else equal, is no worse, so a safe yard stays safe and is never answered unsafe.
--- Assumes nothing.
 use mathlib.Core.Path.{_≡_, ap, _∙_}
 use native.Mathlib.Omega.{arith}
 use native.Mathlib.Nat.{mul-le-mul-right}

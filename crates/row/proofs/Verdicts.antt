@@ -1,12 +1,10 @@
 -- What the verdict of four pairs says of the exact values that they enclose.
--- Assumes nothing.
 use mathlib.Core.Path.{_≡_, refl}
-use mathlib.Core.Bool.{Bool, true, false, cond, _&&_, _||_}
+use mathlib.Core.Bool.{Bool, true, false, cond, _&&_}
 use mathlib.Core.Logic.{_⊎_, inl, inr, ⊎-elim}
-use native.Mathlib.Omega.{arith}
-use Prim.Native.Nat.{ℕ}
 use lib.Dec.{T}
 use lib.Signed.{_≤ℤ_, leZ, ltZ, leZ-yes, ltZ-yes}
+use Rattle.text.proofs.Clash.{clash}
 use Rattle.interval.specs.declared.Interval.{Interval}
 use Rattle.exact.specs.Exact.{Exact, Above, AtOrBelow}
 use Rattle.exact.specs.Reported.{Scale}
@@ -14,7 +12,6 @@ use Rattle.exact.specs.Depth.{Consistent}
 use Rattle.case.proofs.Tests.{both, one-of}
 use Rattle.enclosure.specs.Enclosure.{Encloses}
 use Rattle.enclosure.proofs.Verdicts.{encloses-at-or-below, encloses-above}
-use Rattle.row.specs.declared.Verdict.{Verdict}
 use Rattle.row.specs.declared.Verdict.the-variants.{Safe, Unsafe, Undecided}
 use Rattle.row.specs.Verdict.{safe, unsafe, verdict}
 
@@ -22,13 +19,13 @@ use Rattle.row.specs.Verdict.{safe, unsafe, verdict}
 
 safe-tested : (s u : Bool) → cond s Safe (cond u Unsafe Undecided) ≡ Safe → T s
 safe-tested true u e = tt
-safe-tested false true e = let z : _≡_ {A = ℕ} 0 1 = cc in absurd (omega arith)
-safe-tested false false e = let z : _≡_ {A = ℕ} 0 1 = cc in absurd (omega arith)
+safe-tested false true e = clash cc
+safe-tested false false e = clash cc
 
 unsafe-tested : (s u : Bool) → cond s Safe (cond u Unsafe Undecided) ≡ Unsafe → T u
-unsafe-tested true u e = let z : _≡_ {A = ℕ} 0 1 = cc in absurd (omega arith)
+unsafe-tested true u e = clash cc
 unsafe-tested false true e = tt
-unsafe-tested false false e = let z : _≡_ {A = ℕ} 0 1 = cc in absurd (omega arith)
+unsafe-tested false false e = clash cc
 
 -- two tests that pass
 joined : (p q : Bool) → T p → T q → p && q ≡ true

@@ -1,5 +1,4 @@
 -- The verdict and the numbers of a row, computed. Document 01, 'What exact means' and 'The result table'.
--- Assumes nothing.
 use Prim.Native.Nat.{ℕ}
 use mathlib.Core.Path.{_≡_, refl}
 use mathlib.Core.List.{[], _∷_}
@@ -16,7 +15,8 @@ told mesh step = verdictNumber (verdict (natural 10 12) (natural 30 32) mesh ste
 
 -- safe at the limit; mesh, then step, within the ends; mesh at the upper end, then above; step alone above; both above
 pub verdicts : told (natural 8 10) (natural 28 30) ∷ told (natural 8 11) (natural 28 30) ∷ told (natural 1 2) (natural 28 31)
-    ∷ told (natural 12 13) (natural 1 2) ∷ told (natural 13 14) (natural 1 2) ∷ told (natural 1 2) (natural 33 34) ∷ told (natural 13 14) (natural 33 34) ∷ []
+    ∷ told (natural 12 13) (natural 1 2) ∷ told (natural 13 14) (natural 1 2) ∷ told (natural 1 2) (natural 33 34) ∷ told (natural 13 14)
+    (natural 33 34) ∷ []
     ≡ 1 ∷ 3 ∷ 3 ∷ 3 ∷ 2 ∷ 2 ∷ 2 ∷ []
 unfolding verdict safe unsafe verdictNumber natural
 verdicts = refl
@@ -37,6 +37,7 @@ pub order : numbers
       resistance = natural 17 18;
       rise = natural 19 20;
     })
-    ≡ pos 1 ∷ pos 2 ∷ pos 3 ∷ pos 4 ∷ pos 5 ∷ pos 6 ∷ pos 7 ∷ pos 8 ∷ pos 9 ∷ pos 10 ∷ pos 11 ∷ pos 12 ∷ pos 13 ∷ pos 14 ∷ pos 15 ∷ pos 16 ∷ pos 17 ∷ pos 18 ∷ pos 19 ∷ pos 20 ∷ []
+    ≡ pos 1 ∷ pos 2 ∷ pos 3 ∷ pos 4 ∷ pos 5 ∷ pos 6 ∷ pos 7 ∷ pos 8 ∷ pos 9 ∷ pos 10 ∷ pos 11 ∷ pos 12 ∷ pos 13 ∷ pos 14 ∷ pos 15 ∷ pos 16 ∷
+    pos 17 ∷ pos 18 ∷ pos 19 ∷ pos 20 ∷ []
 unfolding numbers natural verdictNumber
 order = refl

@@ -1,13 +1,13 @@
--- Request (n) of document 02: "Show for every case answered safe that the same case with a lower fault current, all else equal, is never answered
--- unsafe, for rectangles and both frequencies." proofs/StaysSafe.antt shows more: it is answered safe.
--- Assumes nothing.
+-- Request (n) of document 02: "Show for every case answered safe that the same case with a lower fault current, all else equal, is never
+-- answered unsafe, for rectangles and both frequencies." proofs/StaysSafe.antt shows more: it is answered safe.
 use Prim.Native.Nat.{_≤_}
 use mathlib.Core.Path.{_≡_}
 use Rattle.case.specs.declared.Case.{Case}
 use Rattle.case.specs.Fault.{withFault}
 use Rattle.case.specs.Key.{underKey}
 
--- d is "the same case with a lower fault current, all else equal" as c. Station and season are aside: two lines of one sheet must differ in them.
+-- d is "the same case with a lower fault current, all else equal" as c. Station and season are aside: two lines of one sheet must differ in
+-- them.
 pub record LessFault (c d : Case) : Type 0 where
   pub all-else : d ≡ underKey (d .station) (d .season) (withFault (d .fault) c)
   pub less : d .fault ≤ c .fault

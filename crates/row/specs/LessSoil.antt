@@ -1,7 +1,6 @@
 -- Beyond documents 01 and 02, the driest soil decides: "For two cases that differ in soil alone (and station and season): where the one
 -- with the higher resistivity is answered safe, the other is never answered unsafe; bare or with a layer." It may be answered undecided,
 -- since the ends are rounded.
--- Assumes nothing.
 use Prim.Native.Nat.{_≤_}
 use mathlib.Core.Path.{_≡_}
 use Rattle.case.specs.declared.Case.{Case}

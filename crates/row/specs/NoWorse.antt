@@ -1,6 +1,5 @@
 -- Beyond documents 01 and 02, no worse: "Safe stays safe when fault times split is lower or the same, shock is shorter or the same and body
 -- is heavier or the same, all else equal." Request (n) is the case of the fault current alone.
--- Assumes nothing.
 use Prim.Native.Nat.{_*_, _≤_}
 use mathlib.Core.Path.{_≡_}
 use Rattle.case.specs.declared.Case.{Case}

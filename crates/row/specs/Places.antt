@@ -1,5 +1,4 @@
 -- Places in a row of the numbers that are read from it again, by the order of `numbers`.
--- Assumes nothing.
 use Prim.Native.Nat.{ℕ}
 
 abbrev pub seasonPlace : ℕ

@@ -1,6 +1,5 @@
 -- What a right row is. Document 01, 'The result table' and 'What exact means', and request (d) of document 02.
 -- The eight pairs of ends are the free part of a row: the rules bind each by exactness and width. All else is an equation.
--- Assumes nothing.
 use Prim.Native.Nat.{ℕ}
 use mathlib.Core.Path.{_≡_, refl}
 use mathlib.Core.Logic.{_⊎_}
@@ -17,7 +16,8 @@ use Rattle.formulas.specs.Tolerable
 use Rattle.formulas.specs.Mesh
 use Rattle.formulas.specs.Step
 use Rattle.formulas.specs.Resistance
-use Rattle.formulas.specs.Width.{mV, μΩ, μA, billionths, factorWidth, currentWidth, tolerableWidth, resistanceWidth, riseWidth, meshWidth, stepWidth}
+use Rattle.formulas.specs.Width.{mV, μΩ, μA, billionths, factorWidth, currentWidth, tolerableWidth, resistanceWidth, riseWidth, meshWidth}
+use Rattle.formulas.specs.Width.{stepWidth}
 use Rattle.row.specs.declared.Row.{Row}
 use Rattle.row.specs.declared.Verdict.{Verdict}
 use Rattle.row.specs.declared.Verdict.the-variants.{Safe, Unsafe}
@@ -42,15 +42,17 @@ pub record RightRow (c : Case) (r : Row) : Type 0 where
   pub resistance : Reports (Resistance.resistance c) μΩ resistanceWidth (r .resistance)
   pub rise : Reports (Resistance.potentialRise c) mV riseWidth (r .rise)
   -- safe and unsafe are true of the exact values
-  pub safe-true : verdictOf r ≡ Safe → AtOrBelow (Mesh.mesh c) (Tolerable.tolerableTouch c) × AtOrBelow (Step.step c) (Tolerable.tolerableStep c)
-  pub unsafe-true : verdictOf r ≡ Unsafe → Above (Mesh.mesh c) (Tolerable.tolerableTouch c) ⊎ Above (Step.step c) (Tolerable.tolerableStep c)
+  pub safe-true : verdictOf r ≡ Safe
+      → AtOrBelow (Mesh.mesh c) (Tolerable.tolerableTouch c) × AtOrBelow (Step.step c) (Tolerable.tolerableStep c)
+  pub unsafe-true : verdictOf r ≡ Unsafe
+      → Above (Mesh.mesh c) (Tolerable.tolerableTouch c) ⊎ Above (Step.step c) (Tolerable.tolerableStep c)
 
 -- request (d): "A row has 20 numbers"
 abbrev pub rowLength : ℕ
 rowLength = 20
 
--- station, season, verdict by its number, size, then the lower and upper ends of the eight pairs; request (d): "after the grid current's lower end
--- stand its upper end and the factor's two ends"
+-- station, season, verdict by its number, size, then the lower and upper ends of the eight pairs; request (d): "after the grid current's
+-- lower end stand its upper end and the factor's two ends"
 unfoldable pub numbers : Row → List ℤ
 numbers r =
     r .station ∷ r .season ∷ pos (verdictNumber (r .verdict)) ∷ r .size

@@ -1,13 +1,12 @@
 -- A sheet whose answer is a count of rows has passed every check, and each of its cases is within its bounds.
--- Assumes nothing.
 use Prim.Native.Nat.{ℕ, _*_}
 use mathlib.Core.Path.{_≡_, refl, ap, _∙_}
 use mathlib.Core.Bool.{Bool, true, false, cond}
 use mathlib.Core.List.{List}
-use native.Mathlib.Omega.{arith}
 use lib.ListN.{length, length-map}
 use lib.Dec.{ltb}
 use borrow.Author.Tests.{ltb-false}
+use Rattle.text.proofs.Clash.{clash}
 use Rattle.text.specs.Text.{fieldsOf}
 use Rattle.case.specs.Columns.{columns, name-count}
 use Rattle.case.specs.Check.{caseFinding}
@@ -21,7 +20,6 @@ use Rattle.judgement.specs.declared.Judgement.the-variants as judged
 use Rattle.judgement.specs.Sheet.{judgement}
 use Rattle.judgement.specs.Accepted.{SoundLine}
 use Rattle.judgement.proofs.Accepted as judging
-use Rattle.sheet.specs.declared.Answer.{Answer}
 use Rattle.sheet.specs.declared.Answer.the-variants.{Rows, Refused}
 use Rattle.sheet.specs.Answer.{tableRefused, answerBy, answer}
 use Rattle.sheet.specs.Accepted.{Accepted}
@@ -33,11 +31,11 @@ record Counted (room n : ℕ) (j : Judgement) : Type 0 where
 
 counted : (room n : ℕ) (j : Judgement) → answerBy room j ≡ Rows n → Counted room n j
 unfolding answerBy tableRefused
-counted room n (judged.Refused k l c) e = let z : _≡_ {A = ℕ} 0 1 = cc in absurd (omega arith)
+counted room n (judged.Refused k l c) e = clash cc
 counted room n (judged.Lines m) e = go (ltb room (rowLength * m)) refl e
   where
     go : (b : Bool) → ltb room (rowLength * m) ≡ b → cond b (Refused 8 0 0) (Rows m) ≡ Rows n → Counted room n (judged.Lines m)
-    go true f h = let z : _≡_ {A = ℕ} 0 1 = cc in absurd (omega arith)
+    go true f h = clash cc
     go false f h = let q : m ≡ n = cc in record { lines = ap judged.Lines q; room-left = rw (← q) f }
 
 pub accepted : (s : List ℕ) (room n : ℕ) → answer s room ≡ Rows n → Accepted s room n

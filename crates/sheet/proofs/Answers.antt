@@ -1,5 +1,4 @@
 -- The claim about a sheet and its table, from the answer and the rows.
--- Assumes nothing.
 use Prim.Native.Nat.{ℕ, _*_, _≤_, _<_}
 use mathlib.Core.Path.{_≡_, refl}
 use mathlib.Core.List.{List}

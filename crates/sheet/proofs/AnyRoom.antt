@@ -1,10 +1,10 @@
 -- The sheet's own question answered in a table with room for the most rows, and what it would answer in another table.
--- Assumes nothing.
 use Prim.Native.Nat.{ℕ, _*_, _≤_, _<_}
 use mathlib.Core.Path.{_≡_, refl, ap, _∙_}
 use mathlib.Core.List.{List}
 use native.Mathlib.Omega.{arith}
 use borrow.Author.Tests.{lt-ltb, le-ltb}
+use Rattle.text.proofs.Clash.{clash}
 use Rattle.case.specs.Columns.{columns}
 use Rattle.row.specs.Row.{rowLength}
 use Rattle.judgement.specs.declared.Judgement.{Judgement}
@@ -26,21 +26,23 @@ module _ (s : List ℕ) (whole : ℕ) (enough : rowLength * mostLines ≤ whole)
   unfolding answer answerBy
   by-judgement {j} e n q = rw (e, q, le-ltb whole (rowLength * n) (omega (arith, within s n (e ∙ q))))
 
-  by-refusal : (number line column : ℕ) → judgement columns s ≡ judged.Refused number line column → answer s whole ≡ Refused number line column
+  by-refusal : (number line column : ℕ) → judgement columns s ≡ judged.Refused number line column
+      → answer s whole ≡ Refused number line column
   unfolding answer answerBy
   by-refusal number line column e = rw e
 
   -- a refusal there is the refusal in every table
-  pub refused-anywhere : {number line column : ℕ} (room : ℕ) → Refused number line column ≡ answer s whole → Refused number line column ≡ answer s room
+  pub refused-anywhere : {number line column : ℕ} (room : ℕ) → Refused number line column ≡ answer s whole
+      → Refused number line column ≡ answer s room
   unfolding answer answerBy
   refused-anywhere {number} {line} {column} room e = go (judgement columns s) refl e
     where
-      go : (j : Judgement) → judgement columns s ≡ j → Refused number line column ≡ answer s whole → Refused number line column ≡ answerBy room j
+      go : (j : Judgement) → judgement columns s ≡ j → Refused number line column ≡ answer s whole
+          → Refused number line column ≡ answerBy room j
       go (judged.Refused k l c) q h = h ∙ rw q
       go (judged.Lines n) q h =
           let r : answer s whole ≡ Rows n = by-judgement q n refl in
-          let z : _≡_ {A = ℕ} 0 1 = cc in
-          absurd (omega arith)
+          clash cc
 
   -- with a count of rows there, the table decides: too short, or the same count
   module _ {n : ℕ} (e : Rows n ≡ answer s whole) where
@@ -50,8 +52,7 @@ module _ (s : List ℕ) (whole : ℕ) (enough : rowLength * mostLines ≤ whole)
         go : (j : Judgement) → judgement columns s ≡ j → j ≡ judged.Lines n
         go (judged.Refused k l c) q =
             let r : answer s whole ≡ Refused k l c = by-refusal k l c q in
-            let z : _≡_ {A = ℕ} 0 1 = cc in
-            absurd (omega arith)
+            clash cc
         go (judged.Lines m) q = let r : answer s whole ≡ Rows m = by-judgement q m refl in let z : m ≡ n = cc in ap judged.Lines z
 
     pub count-most : n ≤ mostLines

@@ -1,5 +1,4 @@
 -- A value line of an accepted sheet: its case is within its bounds, and the number of its verdict stands in the table.
--- Assumes nothing.
 use Prim.Native.Nat.{ℕ, _<_}
 use mathlib.Core.Path.{_≡_, refl, sym, ap}
 use mathlib.Core.List.{List, []}
@@ -41,7 +40,8 @@ module _ {s : List ℕ} {before after : List ℤ} {n : ℕ} (h : Answered s befo
   unfolding cases
   line-bounds =
       let a = accepted s (length before) n (sym (h .answer-is)) .sheet in
-      let k : i < length (valueLines s) = rw (length-map (valueLines s) (λ line. lineCase (columnsOf columns (names s)) (fieldsOf line))) at l in
+      let k : i < length (valueLines s) =
+      rw (length-map (valueLines s) (λ line. lineCase (columnsOf columns (names s)) (fieldsOf line))) at l in
       rw (case-at (columnsOf columns (names s)) (valueLines s) i k) (sound-bounds (a .placed) (a .lines .line i k))
 
   pub filled : Filled (cases s) before after
@@ -50,7 +50,7 @@ module _ {s : List ℕ} {before after : List ℤ} {n : ℕ} (h : Answered s befo
 
   pub line-verdict : verdictAt after i ≡ pos (verdictNumber (caseVerdict (caseAt s i)))
   unfolding numbers rowOf
-  line-verdict = ap (λ row. getD row verdictPlace (pos 0)) (filled .rows i l .is)
+  line-verdict = ap (λ row. getD row verdictPlace (pos 0)) (filled .parts i l .is)
 
 -- ---- a verdict and its number
 

@@ -1,6 +1,5 @@
 -- The cases of stored values: those of the sheet that they were read from.
--- Assumes nothing.
-use Prim.Native.Nat.{ℕ, zero, suc, _≤_, _<_}
+use Prim.Native.Nat.{ℕ, zero, suc, _<_}
 use mathlib.Core.Path.{_≡_, refl, sym, ap, _∙_}
 use mathlib.Core.List.{List, [], _∷_, map}
 use native.Mathlib.Omega.{arith}
@@ -41,12 +40,14 @@ case-at at (l ∷ ls) (suc n) h = case-at at ls n (omega arith)
 
 -- ---- the values of an accepted sheet
 
-cases-map : (at : List ℕ) (ls : List (List ℕ)) → map caseOf (map (λ line. lineValues at (fieldsOf line)) ls) ≡ map (λ line. lineCase at (fieldsOf line)) ls
+cases-map : (at : List ℕ) (ls : List (List ℕ))
+    → map caseOf (map (λ line. lineValues at (fieldsOf line)) ls) ≡ map (λ line. lineCase at (fieldsOf line)) ls
 unfolding lineCase
 cases-map at [] = refl
 cases-map at (l ∷ ls) = ap (λ (m : List Case). caseOf (lineValues at (fieldsOf l)) ∷ m) (cases-map at ls)
 
-module _ {s : List ℕ} {n : ℕ} (values : List ℕ) (a : judged.Accepted columns s n) (stored : Stored columns (columnsOf columns (names s)) (valueLines s) values) where
+module _ {s : List ℕ} {n : ℕ} (values : List ℕ) (a : judged.Accepted columns s n)
+    (stored : Stored columns (columnsOf columns (names s)) (valueLines s) values) where
   part : (i : ℕ) → i < n → partAt nameCount values i ≡ lineValues (columnsOf columns (names s)) (fieldsOf (getD (valueLines s) i []))
   part i h = rw (← name-count) (stored i (omega (arith, a .count)))
 

@@ -1,6 +1,5 @@
--- The answer to every sheet and table length, and the cases of a sheet. Document 01, 'The result table': "The order is 1, 2, 4; then line by
--- line 3, 5, 6, 7; then 8."
--- Assumes nothing.
+-- The answer to every sheet and table length, and the cases of a sheet. Document 01, 'The result table': "The order is 1, 2, 4; then line
+-- by line 3, 5, 6, 7; then 8."
 use Prim.Native.Nat.{ℕ, _*_}
 use mathlib.Core.Bool.{cond}
 use mathlib.Core.List.{List, map}

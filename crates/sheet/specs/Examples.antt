@@ -1,5 +1,4 @@
 -- The answer computed on sheets: document 01's sample, each refusal, and the order of the rules where two are broken at once.
--- Assumes nothing.
 use Prim.Native.Nat.{ℕ}
 use mathlib.Core.Path.{_≡_, refl}
 use mathlib.Core.List.{List, [], _∷_, _++_, map}
@@ -25,7 +24,8 @@ unfolding onFirst linesOf fieldsOf same digit digits plain isValue numberFrom va
 answerOf s room = answer s room
 
 abbrev head : List ℕ
-head = bytes "station,season,soil,layer,thick,shock,clear,wire,body,fault,split,xr,across,along,space,depth,dia,rods,rodlen,place,metal,hz\n"
+head =
+    bytes "station,season,soil,layer,thick,shock,clear,wire,body,fault,split,xr,across,along,space,depth,dia,rods,rodlen,place,metal,hz\n"
 
 abbrev dry : List ℕ
 dry = bytes "7,1,400,2500,102,500,500,500,70,3180,600,10,11,11,7000,500,100,0,0,0,1,60\n"
@@ -73,11 +73,23 @@ examples =
     ∷ row (bytes "station,season,Soil\n") 40 (Refused 2 1 3)
     ∷ row (bytes "station,season,station,nothing\n") 40 (Refused 2 1 3)
     ∷ row (bytes "metal,place\n") 40 (Refused 2 1 3)
-    ∷ row (bytes "station,season,soil,layer,thick,shock,clear,wire,body,fault,split,xr,across,along,space,depth,dia,rods,rodlen,place,metal,hz,soil\n") 40 (Refused 2 1 23)
-    ∷ row (bytes "station,season,soil,layer,thick,shock,clear,wire,body,fault,split,xr,across,along,space,depth,dia,rods,rodlen,place,metal,hz,\n") 40 (Refused 2 1 23)
-    ∷ row (bytes "station,season,soil,layer,thick,ms,body,fault,split,xr,lines,space,depth,dia,rods,rodlen,place,metal\n7,1,400,2500,102,500,70,3180,600,10,11,7000,500,100,0,0,0,1\n") 40 (Refused 2 1 6)
-    ∷ row (bytes "station,season,soil,layer,thick,shock,clear,wire,body,fault,split,xr,lines,space,depth,dia,rods,rodlen,place,metal,hz\n7,1,400,2500,102,500,500,500,70,3180,600,10,11,7000,500,100,0,0,0,1,60\n") 40 (Refused 2 1 13)
-    ∷ row (bytes "station,season,soil,layer,thick,shock,clear,wire,body,fault,split,xr,across,along,space,depth,dia,rods,rodlen,place,metal\n7,1,400,2500,102,500,500,500,70,3180,600,10,11,11,7000,500,100,0,0,0,1\n") 40 (Refused 2 1 22)
+    ∷ row
+    (bytes
+    "station,season,soil,layer,thick,shock,clear,wire,body,fault,split,xr,across,along,space,depth,dia,rods,rodlen,place,metal,hz,soil\n")
+    40 (Refused 2 1 23)
+    ∷ row
+    (bytes
+    "station,season,soil,layer,thick,shock,clear,wire,body,fault,split,xr,across,along,space,depth,dia,rods,rodlen,place,metal,hz,\n") 40
+    (Refused 2 1 23)
+    ∷ row
+    (bytes
+    "station,season,soil,layer,thick,ms,body,fault,split,xr,lines,space,depth,dia,rods,rodlen,place,metal\n7,1,400,2500,102,500,70,3180,600,10,11,7000,500,100,0,0,0,1\n") 40 (Refused 2 1 6)
+    ∷ row
+    (bytes
+    "station,season,soil,layer,thick,shock,clear,wire,body,fault,split,xr,lines,space,depth,dia,rods,rodlen,place,metal,hz\n7,1,400,2500,102,500,500,500,70,3180,600,10,11,7000,500,100,0,0,0,1,60\n") 40 (Refused 2 1 13)
+    ∷ row
+    (bytes
+    "station,season,soil,layer,thick,shock,clear,wire,body,fault,split,xr,across,along,space,depth,dia,rods,rodlen,place,metal\n7,1,400,2500,102,500,500,500,70,3180,600,10,11,11,7000,500,100,0,0,0,1\n") 40 (Refused 2 1 22)
     -- 2 comes before 4
     ∷ row (bytes "\n") 40 (Refused 2 1 1)
     -- 4: no line, and 257 lines, where 256 are not too many
@@ -112,9 +124,15 @@ examples =
     ∷ row sample 39 (Refused 8 0 0)
     ∷ row (head ++ dry ++ dry) 0 (Refused 7 3 0)
     -- names in another order: columns are those of the header
-    ∷ row (bytes "hz,metal,place,rodlen,rods,dia,depth,space,along,across,xr,split,fault,body,wire,clear,shock,thick,layer,soil,season,station\n60,1,0,0,0,100,500,7000,11,11,10,600,3180,70,500,500,500,102,2500,400,1,7\n") 20 (Rows 1)
-    ∷ row (bytes "hz,metal,place,rodlen,rods,dia,depth,space,along,across,xr,split,fault,body,wire,clear,shock,thick,layer,soil,season,station\n60,1,0,0,0,0,249,7000,11,11,10,600,3180,70,500,500,500,102,2500,400,1,7\n") 20 (Refused 5 2 6)
-    ∷ row (bytes "hz,metal,place,rodlen,rods,dia,depth,space,along,across,xr,split,fault,body,wire,clear,shock,thick,layer,soil,season,station\n60,1,0,0,3,100,500,7000,11,11,10,600,3180,70,500,500,500,0,2500,400,1,7\n") 20 (Refused 6 2 19)
+    ∷ row
+    (bytes
+    "hz,metal,place,rodlen,rods,dia,depth,space,along,across,xr,split,fault,body,wire,clear,shock,thick,layer,soil,season,station\n60,1,0,0,0,100,500,7000,11,11,10,600,3180,70,500,500,500,102,2500,400,1,7\n") 20 (Rows 1)
+    ∷ row
+    (bytes
+    "hz,metal,place,rodlen,rods,dia,depth,space,along,across,xr,split,fault,body,wire,clear,shock,thick,layer,soil,season,station\n60,1,0,0,0,0,249,7000,11,11,10,600,3180,70,500,500,500,102,2500,400,1,7\n") 20 (Refused 5 2 6)
+    ∷ row
+    (bytes
+    "hz,metal,place,rodlen,rods,dia,depth,space,along,across,xr,split,fault,body,wire,clear,shock,thick,layer,soil,season,station\n60,1,0,0,3,100,500,7000,11,11,10,600,3180,70,500,500,500,0,2500,400,1,7\n") 20 (Refused 6 2 19)
     ∷ []
 
 right : map (λ e. answerOf (e .sheet) (e .room)) examples ≡ map (λ e. e .answered) examples

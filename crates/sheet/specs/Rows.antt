@@ -1,23 +1,19 @@
 -- Rows written one after the other, from the values of a sheet's lines.
--- Assumes nothing.
-use Prim.Native.Nat.{ℕ, _*_, _<_}
-use mathlib.Core.Path.{_≡_}
+use Prim.Native.Nat.{ℕ, _<_}
 use mathlib.Core.List.{List, [], map}
 use lib.IntN.{ℤ}
-use lib.ListN.{length, getD, drop}
-use Rattle.tables.specs.Parts.{partAt, partsOf}
+use lib.ListN.{getD}
+use Rattle.tables.specs.Parts.{partAt, partsOf, Filled}
 use Rattle.case.specs.declared.Case.{Case}
 use Rattle.case.specs.Case.{caseOf}
 use Rattle.case.specs.Columns.{nameCount}
 use Rattle.case.specs.Bounds.{Bounds}
 use Rattle.row.specs.Row.{rowLength}
-use Rattle.sheet.specs.Table.{rowAt, RowOf}
+use Rattle.sheet.specs.Table.{RowOf}
 
 -- the first n rows are written, and nothing past them
-pub record FilledTo (cs : List Case) (n : ℕ) (before after : List ℤ) : Type 0 where
-  pub size : length after ≡ length before
-  pub rows : (i : ℕ) → i < n → RowOf (getD cs i (caseOf [])) (rowAt after i)
-  pub rest : drop (rowLength * n) after ≡ drop (rowLength * n) before
+abbrev pub FilledTo : List Case → ℕ → List ℤ → List ℤ → Type 0
+FilledTo cs n before after = Filled rowLength (λ i row. RowOf (getD cs i (caseOf [])) row) n before after
 
 -- the cases of n lines of values that stand one after the other
 unfoldable pub storedCases : List ℕ → ℕ → List Case

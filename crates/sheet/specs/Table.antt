@@ -1,11 +1,11 @@
 -- The table after a sheet: one claim over every sheet, every table and every row. Document 01, 'The result table' and 'To the testers'.
--- Assumes nothing.
-use Prim.Native.Nat.{ℕ, _*_, _<_}
+use Prim.Native.Nat.{ℕ}
 use mathlib.Core.Path.{_≡_}
 use mathlib.Core.List.{List, []}
 use lib.IntN.{ℤ}
-use lib.ListN.{length, getD, drop}
+use lib.ListN.{length, getD}
 use Rattle.tables.specs.Parts.{partAt}
+use Rattle.tables.specs.Parts as parts
 use Rattle.case.specs.declared.Case.{Case}
 use Rattle.case.specs.Case.{caseOf}
 use Rattle.row.specs.Row.{RightRow, numbers, rowLength}
@@ -18,24 +18,23 @@ use Rattle.sheet.specs.Answer.{answer, cases}
 abbrev pub rowAt : List ℤ → ℕ → List ℤ
 rowAt table i = partAt rowLength table i
 
--- some numbers are the row of a case, and that row is right. The case asked alone has the same row: claims/specs/Demands.antt, `asked-alone`.
+-- some numbers are the row of a case, and that row is right. The case asked alone has the same row: claims/specs/Demands.antt,
+-- `asked-alone`.
 pub record RowOf (c : Case) (row : List ℤ) : Type 0 where
   pub is : row ≡ numbers (rowOf c)
   pub right : RightRow c (rowOf c)
 
 -- every case has its own row, in order, "Numbers past the last row keep what they held."
-pub record Filled (cs : List Case) (before after : List ℤ) : Type 0 where
-  pub size : length after ≡ length before
-  pub rows : (i : ℕ) → i < length cs → RowOf (getD cs i (caseOf [])) (rowAt after i)
-  pub rest : drop (rowLength * length cs) after ≡ drop (rowLength * length cs) before
+abbrev pub Filled : List Case → List ℤ → List ℤ → Type 0
+Filled cs before after = parts.Filled rowLength (λ i row. RowOf (getD cs i (caseOf [])) row) (length cs) before after
 
 -- "A refusal changes nothing in the table"
 unfoldable pub TableAfter : List ℕ → List ℤ → List ℤ → Answer → Type 0
 TableAfter s before after (Rows count) = Filled (cases s) before after
 TableAfter s before after (Refused number line column) = after ≡ before
 
--- the answer to a sheet and what it leaves in the table. Two wrong programs: one that writes the row of each line over the row before it breaks
--- `table-is`; one that refuses every sheet breaks `answer-is`.
+-- the answer to a sheet and what it leaves in the table. Two wrong programs: one that writes the row of each line over the row before it
+-- breaks `table-is`; one that refuses every sheet breaks `answer-is`.
 pub record Answered (s : List ℕ) (before after : List ℤ) (r : Answer) : Type 0 where
   pub answer-is : r ≡ answer s (length before)
   pub table-is : TableAfter s before after r

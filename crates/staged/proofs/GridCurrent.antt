@@ -1,5 +1,4 @@
 -- The grid's part of a current by a loop over the branches; branches and grid together make the injected current.
--- Assumes nothing.
 use Prim.Native.Nat.{ℕ, _+_, _*_, _≤_, _<_}
 use mathlib.Core.Path.{_≡_, refl, ap, sym, _∙_}
 use mathlib.Core.List.{List, [], _∷_}

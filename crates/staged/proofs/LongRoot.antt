@@ -1,5 +1,4 @@
 -- A root by decimal digits: its start, one digit more, and what keeps it within 64 bits.
--- Assumes nothing.
 use Prim.Native.Nat.{ℕ, _+_, _-_, _*_, _/_, _^_, _≤_, _<_}
 use mathlib.Core.Path.{_≡_}
 use native.Mathlib.Omega.{arith}
@@ -71,7 +70,8 @@ module _ {injected : ℕ} {r : Root} (h : Room injected r) where
 
   pub digit-room : DigitRoom (r .whole) (100 * r .rest) injected
   unfolding Greatest
-  digit-room = record { ten = omega (arith, h .greatest); whole-small = omega (arith, whole-small); fits = omega (arith, product-small, h .most) }
+  digit-room =
+      record { ten = omega (arith, h .greatest); whole-small = omega (arith, whole-small); fits = omega (arith, product-small, h .most) }
 
   -- ---- one digit more
 
@@ -82,5 +82,7 @@ module _ {injected : ℕ} {r : Root} (h : Room injected r) where
 
 -- ---- up to two digits have room for one more
 
-pub room : {grid injected : ℕ} {r : Root} → Squares grid injected → Greatest injected r → (k : ℕ) → k ≤ 10000 → radicand injected r ≡ k * grid → Room injected r
-room s g k h e = record { greatest = g; some = s .some; most = s .most; product = rw e (mul-le-mul (mul-le-mul h (s .grid-most)) (s .most)) }
+pub room : {grid injected : ℕ} {r : Root} → Squares grid injected → Greatest injected r → (k : ℕ) → k ≤ 10000
+    → radicand injected r ≡ k * grid → Room injected r
+room s g k h e =
+    record { greatest = g; some = s .some; most = s .most; product = rw e (mul-le-mul (mul-le-mul h (s .grid-most)) (s .most)) }

@@ -1,5 +1,4 @@
 -- Every answer with a grid current means what it should: branches and grid make the injected current, and the split is the smallest.
--- Assumes nothing.
 use Prim.Native.Nat.{ℕ}
 use mathlib.Core.Path.{_≡_, refl}
 use mathlib.Core.Bool.{Bool, true, false, cond}

@@ -1,5 +1,4 @@
 -- The root of a million times the grid's square with its three digits, rounded up, is the split.
--- Assumes nothing.
 use Prim.Native.Nat.{ℕ, _+_, _*_, _≤_, _<_}
 use mathlib.Core.Path.{_≡_}
 use native.Mathlib.Omega.{arith}
@@ -18,7 +17,8 @@ rises {m} {w} {i} h k =
 not-falls : {m w : ℕ} (i : ℕ) → m ≤ w → m * m * i ≤ w * w * i
 not-falls i h = mul-le-mul-right i (mul-le-mul h h)
 
-module _ {grid injected : ℕ} (r : Root) (s : Squares grid injected) (g : Greatest injected r) (e : radicand injected r ≡ million * grid) where
+module _ {grid injected : ℕ} (r : Root) (s : Squares grid injected) (g : Greatest injected r)
+    (e : radicand injected r ≡ million * grid) where
   pub exact-split : r .rest ≡ 0 → r .whole ≡ splitOf grid injected
   unfolding radicand
   exact-split z =

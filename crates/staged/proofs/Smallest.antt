@@ -1,5 +1,4 @@
 -- The split is enough and no smaller number is; a number with both properties is the split.
--- Assumes nothing.
 use Prim.Native.Nat.{ℕ, zero, suc, _*_, _≤_, _<_}
 use mathlib.Core.Path.{_≡_, refl}
 use mathlib.Core.Bool.{Bool, true, false, cond, not}
@@ -43,7 +42,8 @@ module _ (grid injected : ℕ) (some : 0 < injected) where
   unfolding splitOf enough
   split-least m l = nleb→lt _ _ (smallest-least (enough grid injected) (million * grid) m l)
 
-  pub split-is : (r : ℕ) → million * grid ≤ r * r * injected → ((m : ℕ) → m < r → m * m * injected < million * grid) → r ≡ splitOf grid injected
+  pub split-is : (r : ℕ) → million * grid ≤ r * r * injected → ((m : ℕ) → m < r → m * m * injected < million * grid)
+      → r ≡ splitOf grid injected
   split-is r e l = go (decLt r (splitOf grid injected)) (decLt (splitOf grid injected) r)
     where
       go : Dec (r < splitOf grid injected) → Dec (splitOf grid injected < r) → r ≡ splitOf grid injected

@@ -1,5 +1,4 @@
 -- A test that passed the checks: its parts, and the squares of its grid current and its injected current.
--- Assumes nothing.
 use Prim.Native.Nat.{ℕ, zero, suc, _+_, _*_, _≤_, _<_}
 use mathlib.Core.Path.{_≡_}
 use mathlib.Core.Bool.{false, _&&_}
@@ -58,7 +57,8 @@ module _ {s : List ℤ} (h : Sound s) where
   unfolding gridAnswer gridSquare inPhase quadrature
   answer-is p q e f r = cc (p .is, q .is, injected-is)
 
-  pub squares : (a b : ℤ) → natAbs a ≤ largestGridPart → natAbs b ≤ largestGridPart → Squares (squareOf a b) (squareOf (getD s 0 (pos 0)) (getD s 1 (pos 0)))
+  pub squares : (a b : ℤ) → natAbs a ≤ largestGridPart → natAbs b ≤ largestGridPart
+      → Squares (squareOf a b) (squareOf (getD s 0 (pos 0)) (getD s 1 (pos 0)))
   unfolding squareOf noneInjected largestPart
   squares a b p q =
       record {

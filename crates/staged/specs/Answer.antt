@@ -1,5 +1,4 @@
 -- The answer to a staged test. Request (l) of document 02.
--- Assumes nothing.
 use Prim.Native.Nat.{ℕ}
 use mathlib.Core.Bool.{cond}
 use mathlib.Core.List.{List}

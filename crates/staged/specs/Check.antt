@@ -1,6 +1,5 @@
--- The checks of a staged test's numbers: the injected current's in-phase and quadrature part in signed milliamperes, then those of each branch.
--- Request (l) of document 02.
--- Assumes nothing.
+-- The checks of a staged test's numbers: the injected current's in-phase and quadrature part in signed milliamperes, then those of each
+-- branch. Request (l) of document 02.
 use Prim.Native.Nat.{ℕ, _%_}
 use mathlib.Core.Bool.{Bool, false, not, _&&_, _||_}
 use mathlib.Core.List.{List, [], _∷_}

@@ -1,5 +1,4 @@
 -- The answer to a staged test computed on examples.
--- Assumes nothing.
 use mathlib.Core.Path.{_≡_, refl}
 use mathlib.Core.List.{List, [], _∷_, map}
 use lib.IntN.{ℤ, pos, negsuc}
@@ -43,7 +42,8 @@ refused : map answered (
     ∷ (pos 0 ∷ pos 0 ∷ pos 1 ∷ pos 1 ∷ [])
     ∷ (pos 0 ∷ pos 0 ∷ pos 1000001 ∷ pos 1 ∷ [])
     ∷ (pos 0 ∷ pos 0 ∷ pos 1000001 ∷ [])
-    ∷ []) ≡ Refused 17 0 0 ∷ Refused 17 0 0 ∷ Refused 17 0 0 ∷ Refused 18 0 0 ∷ Refused 18 0 0 ∷ Refused 19 0 0 ∷ Refused 18 0 0 ∷ Refused 17 0 0 ∷ []
+    ∷ []) ≡ Refused 17 0 0 ∷ Refused 17 0 0 ∷ Refused 17 0 0 ∷ Refused 18 0 0 ∷ Refused 18 0 0 ∷ Refused 19 0 0 ∷ Refused 18 0 0 ∷ Refused
+    17 0 0 ∷ []
 unfolding answered
 refused = refl
 
@@ -51,7 +51,8 @@ refused = refl
 at-the-ends : map answered (
     (pos 1000000 ∷ pos 0 ∷ pos 999999 ∷ pos 0 ∷ [])
     ∷ (negsuc 999999 ∷ pos 0 ∷ pos 1000 ∷ pos 0 ∷ [])
-    ∷ (pos 16 ∷ pos 0 ∷ pos 1 ∷ pos 0 ∷ pos 1 ∷ pos 0 ∷ pos 1 ∷ pos 0 ∷ pos 1 ∷ pos 0 ∷ pos 1 ∷ pos 0 ∷ pos 1 ∷ pos 0 ∷ pos 1 ∷ pos 0 ∷ pos 1 ∷ pos 0
+    ∷ (pos 16 ∷ pos 0 ∷ pos 1 ∷ pos 0 ∷ pos 1 ∷ pos 0 ∷ pos 1 ∷ pos 0 ∷ pos 1 ∷ pos 0 ∷ pos 1 ∷ pos 0 ∷ pos 1 ∷ pos 0 ∷ pos 1 ∷ pos 0 ∷
+    pos 1 ∷ pos 0
     ∷ pos 1 ∷ pos 0 ∷ pos 1 ∷ pos 0 ∷ pos 1 ∷ pos 0 ∷ pos 1 ∷ pos 0 ∷ pos 1 ∷ pos 0 ∷ pos 1 ∷ pos 0 ∷ pos 1 ∷ pos 0 ∷ pos 1 ∷ pos 0 ∷ [])
     ∷ []) ≡ Grid (pos 1) (pos 0) 1 ∷ Grid (negsuc 1000999) (pos 0) 1001 ∷ Grid (pos 0) (pos 0) 0 ∷ []
 unfolding answered

@@ -1,6 +1,5 @@
--- How the split is worked within 64 bits: a root by decimal digits. A root is a whole number and the rest that its square times the injected
--- square leaves.
--- Assumes nothing.
+-- How the split is worked within 64 bits: a root by decimal digits. A root is a whole number and the rest that its square times the
+-- injected square leaves.
 use Prim.Native.Nat.{ℕ, _+_, _*_, _^_, _≤_, _<_}
 use mathlib.Core.Path.{_≡_}
 use Rattle.staged.specs.declared.long_root.Root.{Root}

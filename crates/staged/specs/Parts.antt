@@ -1,5 +1,4 @@
 -- What is known of a staged test's numbers once the checks are passed.
--- Assumes nothing.
 use Prim.Native.Nat.{ℕ, _≤_, _<_}
 use mathlib.Core.Path.{_≡_}
 use mathlib.Core.Bool.{false}

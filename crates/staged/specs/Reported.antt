@@ -1,5 +1,4 @@
 -- What a reported grid current and split mean for the numbers of the test. Request (l) of document 02; proofs/Reporting.antt has the law.
--- Assumes nothing.
 use Prim.Native.Nat.{ℕ, _*_, _≤_, _<_}
 use mathlib.Core.Path.{_≡_}
 use mathlib.Core.List.{List}
@@ -8,8 +7,8 @@ use Rattle.staged.specs.Current.{inPhase, quadrature, injected, branches
 use Rattle.staged.specs.Split.{million}
 use Rattle.staged.specs.Answer.{injectedSquare}
 
--- "Branches and grid together make the injected current exactly, part by part", and the split is "the smallest whole per mille whose square times
--- the injected square is not below a million times the grid's square"
+-- "Branches and grid together make the injected current exactly, part by part", and the split is "the smallest whole per mille whose square
+-- times the injected square is not below a million times the grid's square"
 pub record Reported (s : List ℤ) (a b : ℤ) (split : ℕ) : Type 0 where
   pub in-phase-whole : total (branches (inPhase s)) +ℤ a ≡ injected (inPhase s)
   pub quadrature-whole : total (branches (quadrature s)) +ℤ b ≡ injected (quadrature s)

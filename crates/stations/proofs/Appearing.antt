@@ -1,5 +1,4 @@
 -- The pass that finds the stations by first appearance: the lines before i are placed.
--- Assumes nothing.
 use Prim.Native.Nat.{ℕ, zero, suc, _+_, _-_, _≤_, _<_}
 use mathlib.Core.Path.{_≡_, refl, sym, ap, _∙_}
 use mathlib.Core.Logic.{_⊎_, inl, inr, ⊎-elim}
@@ -69,7 +68,8 @@ pub record Placing (table : List ℤ) (n i : ℕ) (known : List ℤ) (places : L
 count-all : (n : ℕ) → n - 0 ≡ n
 count-all n = omega arith
 
-pub placing-start : (table : List ℤ) (n : ℕ) {known : List ℤ} {places : List ℕ} → length known ≡ mostLines → length places ≡ mostLines → Placing table n 0 known places 0
+pub placing-start : (table : List ℤ) (n : ℕ) {known : List ℤ} {places : List ℕ} → length known ≡ mostLines → length places ≡ mostLines
+    → Placing table n 0 known places 0
 placing-start table n p q =
     record {
       most = omega arith;
@@ -82,7 +82,8 @@ placing-start table n p q =
       apart = λ j k h. absurd (omega arith);
     }
 
-module _ {table : List ℤ} {n i : ℕ} {known : List ℤ} {places : List ℕ} {count : ℕ} (a : Placing table n i known places count) (h : i < n) (small : n ≤ mostLines) where
+module _ {table : List ℤ} {n i : ℕ} {known : List ℤ} {places : List ℕ} {count : ℕ} (a : Placing table n i known places count) (h : i < n)
+    (small : n ≤ mostLines) where
   next-row : stationColumn table i (n - i) ≡ stationAt table i ∷ stationColumn table (suc i) (n - suc i)
   unfolding stationColumn
   next-row =
@@ -90,7 +91,8 @@ module _ {table : List ℤ} {n i : ℕ} {known : List ℤ} {places : List ℕ} {
       rw z
 
   -- the line's station is among those found
-  pub placing-known : {p : ℕ} → PlaceOf known count (stationAt table i) p → (p ≡ count → ⊥) → Placing table n (i + 1) known (set places i p) count
+  pub placing-known : {p : ℕ} → PlaceOf known count (stationAt table i) p → (p ≡ count → ⊥)
+      → Placing table n (i + 1) known (set places i p) count
   placing-known {p} q other =
       record {
         most = omega arith;
@@ -147,7 +149,8 @@ module _ {table : List ℤ} {n i : ℕ} {known : List ℤ} {places : List ℕ} {
           ≡ byAppearance (take (suc count) (set known count (stationAt table i))) (stationColumn table (suc i) (n - suc i))
       longer =
           ap (byAppearance (take count known)) next-row ∙ from-new (take count known) _ _ (placed-new (omega arith) q l)
-          ∙ ap (λ (f : List ℤ). byAppearance f (stationColumn table (suc i) (n - suc i))) (sym (take-suc-set known count (stationAt table i) inside))
+          ∙ ap (λ (f : List ℤ). byAppearance f (stationColumn table (suc i) (n - suc i)))
+          (sym (take-suc-set known count (stationAt table i) inside))
 
       here : getD (set places i p) i 0 ≡ p
       here = getD-set-same places i p 0 (omega (arith, a .places-size))
@@ -165,7 +168,8 @@ module _ {table : List ℤ} {n i : ℕ} {known : List ℤ} {places : List ℕ} {
       at-within k (inl e) = rw (e, here) (omega arith)
       at-within k (inr g) = rw (there k g) (omega (arith, a .within k g))
 
-      at-own : (k : ℕ) → (k ≡ i) ⊎ (k < i) → getD (set known count (stationAt table i)) (getD (set places i p) k 0) (pos 0) ≡ stationAt table k
+      at-own : (k : ℕ) → (k ≡ i) ⊎ (k < i)
+          → getD (set known count (stationAt table i)) (getD (set places i p) k 0) (pos 0) ≡ stationAt table k
       at-own k (inl e) = rw (e, here, l) new
       at-own k (inr g) = rw (there k g, old (getD places k 0) (a .within k g)) (a .own k g)
 
@@ -176,7 +180,8 @@ module _ {table : List ℤ} {n i : ℕ} {known : List ℤ} {places : List ℕ} {
       at-apart j k (inr e) (inl f) s = absurd (q .before j (omega arith) (sym (old j e) ∙ s ∙ rw f new))
       at-apart j k (inr e) (inr f) s = a .apart j k e f (sym (old j e) ∙ s ∙ old k f)
 
-pub placing-end : {table : List ℤ} {n i : ℕ} {known : List ℤ} {places : List ℕ} {count : ℕ} → Placing table n i known places count → n ≤ i → Places table n known places count
+pub placing-end : {table : List ℤ} {n i : ℕ} {known : List ℤ} {places : List ℕ} {count : ℕ} → Placing table n i known places count → n ≤ i
+    → Places table n known places count
 unfolding byAppearance stationColumn
 placing-end {table} {n} {i} a h =
     let z : n - i ≡ 0 = omega arith in

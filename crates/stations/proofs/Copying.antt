@@ -1,5 +1,4 @@
 -- The pass that copies the rows: the first i numbers are copied.
--- Assumes nothing.
 use Prim.Native.Nat.{ℕ, _+_, _≤_, _<_}
 use mathlib.Core.Path.{_≡_, refl, sym, ap, _∙_}
 use mathlib.Core.List.{List, _++_}
@@ -27,7 +26,8 @@ module _ {source before : List ℤ} {n i : ℕ} {to : List ℤ} (a : Copying sou
         most = omega arith;
         size = length-set to i (getD source i (pos 0)) ∙ a .size;
         is =
-            ap (λ (l : List ℤ). set l i (getD source i (pos 0))) (a .is) ∙ ap (λ (k : ℕ). set (paste before 0 source i) k (getD source i (pos 0))) (sym (start i))
+            ap (λ (l : List ℤ). set l i (getD source i (pos 0))) (a .is)
+            ∙ ap (λ (k : ℕ). set (paste before 0 source i) k (getD source i (pos 0))) (sym (start i))
             ∙ paste-suc before 0 source i (pos 0) (omega arith) (omega arith) ∙ ap (paste before 0 source) (sym (add-one i));
       }
 

@@ -1,10 +1,8 @@
 -- The marks of stations: a station whose mark is not among them is not among the stations.
--- Assumes nothing.
 use Prim.Native.Nat.{ℕ, _+_, _%_, _≤_, _<_}
-use mathlib.Core.Path.{_≡_, refl, sym, ap, _∙_}
+use mathlib.Core.Path.{_≡_, refl, ap, _∙_}
 use mathlib.Core.Bool.{Bool, true, false, _||_}
 use mathlib.Core.List.{List}
-use native.Mathlib.Nat.{eq-or-lt-of-le}
 use native.Mathlib.Omega.{arith}
 use lib.IntN.{ℤ, pos, natAbs}
 use lib.ListN.{length, getD, set, length-set}
@@ -12,6 +10,7 @@ use lib.Seq.{getD-set-same, getD-set-other}
 use lib.Dec.{eqb}
 use borrow.Author.Count.{below-more}
 use borrow.Author.Tests.{eqb-false}
+use Rattle.text.proofs.Clash.{clash}
 use Rattle.stations.specs.Places.{markOf, NotMarked, Marked, PlaceOf}
 
 -- the mark of a natural number
@@ -30,7 +29,7 @@ marking-start marks count x = record { within = omega arith; none = λ e k h. ab
 
 -- neither of two tests
 neither : (a b : Bool) → a || b ≡ false → (a ≡ false) × (b ≡ false)
-neither true b e = let z : _≡_ {A = ℕ} 0 1 = cc in absurd (omega arith)
+neither true b e = clash cc
 neither false b e = (refl, e)
 
 pub marking-step : {marks : List ℕ} {count x : ℕ} {found : Bool} {i : ℕ} → Marking marks count x found i → i < count
@@ -41,7 +40,8 @@ marking-step {marks} {x = x} {found} {i} a h =
       none = λ e. let n = neither found (eqb (getD marks i 0) x) e in below-more _ _ (a .none (n .0)) (eqb-false (getD marks i 0) x (n .1));
     }
 
-pub marking-end : {marks : List ℕ} {count x : ℕ} {found : Bool} {i : ℕ} → Marking marks count x found i → count ≤ i → found ≡ false → NotMarked marks count x
+pub marking-end : {marks : List ℕ} {count x : ℕ} {found : Bool} {i : ℕ} → Marking marks count x found i → count ≤ i → found ≡ false
+    → NotMarked marks count x
 marking-end a h e = record { none = λ k g. a .none e k (omega (arith, a .within)) }
 
 -- ---- the stations
@@ -50,7 +50,8 @@ pub marked-start : (known : List ℤ) (marks : List ℕ) → Marked known marks 
 marked-start known marks = record { room = omega arith; marks-are = λ k h. absurd (omega arith) }
 
 -- a station whose mark is not there is new
-pub not-marked : {known : List ℤ} {marks : List ℕ} {count : ℕ} {station : ℤ} → Marked known marks count → NotMarked marks count (markOf station)
+pub not-marked : {known : List ℤ} {marks : List ℕ} {count : ℕ} {station : ℤ} → Marked known marks count
+    → NotMarked marks count (markOf station)
     → PlaceOf known count station count
 not-marked m n =
     record {
@@ -60,7 +61,8 @@ not-marked m n =
     }
 
 -- a new station with its mark
-pub marked-more : {known : List ℤ} {marks : List ℕ} {count : ℕ} (station : ℤ) → Marked known marks count → count < length known → count < length marks
+pub marked-more : {known : List ℤ} {marks : List ℕ} {count : ℕ} (station : ℤ) → Marked known marks count → count < length known
+    → count < length marks
     → Marked (set known count station) (set marks count (markOf station)) (count + 1)
 marked-more {known} {marks} {count} station m h l =
     record {
@@ -68,7 +70,11 @@ marked-more {known} {marks} {count} station m h l =
       marks-are =
           below-more _ _
           (λ k g.
-          rw (getD-set-other marks count k (markOf station) 0 (λ e. omega (arith, e)), getD-set-other known count k station (pos 0) (λ e. omega (arith, e)))
+          rw (
+            getD-set-other marks count k (markOf station) 0 (λ e. omega (arith, e)),
+            getD-set-other known count k station (pos 0)
+                (λ e. omega (arith, e)),
+          )
           (m .marks-are k g))
           (rw (getD-set-same marks count (markOf station) 0 l, getD-set-same known count station (pos 0) h));
     }

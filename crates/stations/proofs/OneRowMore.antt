@@ -1,5 +1,4 @@
 -- One row more at the end of some rows: the rows of a station, its counts and its worst season.
--- Assumes nothing.
 use Prim.Native.Nat.{ℕ, suc, _+_}
 use mathlib.Core.Path.{_≡_, refl, sym, ap, _∙_}
 use mathlib.Core.Bool.{Bool, true, false, cond, _||_}
@@ -41,7 +40,8 @@ rows-more station (x ∷ rows) r = go (sameZ station (x .station)) (sameZ statio
     go false true e = e
     go false false e = e
 
-count-more : (v : Verdict) (rows : List Row) (r : Row) → countOf v (rows ++ (r ∷ [])) ≡ countOf v rows + one (eqb (verdictNumber (r .verdict)) (verdictNumber v))
+count-more : (v : Verdict) (rows : List Row) (r : Row)
+    → countOf v (rows ++ (r ∷ [])) ≡ countOf v rows + one (eqb (verdictNumber (r .verdict)) (verdictNumber v))
 unfolding countOf
 count-more v [] r = omega arith
 count-more v (x ∷ rows) r = omega (arith, count-more v rows r)
@@ -65,23 +65,28 @@ some-worst n b = rw (ne-eqb (suc n) 0 (λ e. omega arith))
 
 -- ---- season and mesh end of the highest row
 
-season-more : (rows : List Row) (r : Row) → worstSeason (rows ++ (r ∷ [])) ≡ cond (worst (sumsOf rows) (entryOf r)) (r .season) (worstSeason rows)
+season-more : (rows : List Row) (r : Row)
+    → worstSeason (rows ++ (r ∷ [])) ≡ cond (worst (sumsOf rows) (entryOf r)) (r .season) (worstSeason rows)
 unfolding worstSeason worstMesh worst sumsOf entryOf highest
 season-more [] r = refl
 season-more (x ∷ rows) r =
     ap (λ (y : Row). y .season) (highest-more x rows r) ∙ higher-number (λ y. y .season) (highest x rows) r
-    ∙ ap (λ (b : Bool). cond b (r .season) (highest x rows .season)) (sym (some-worst (length rows) (ltZ (highest x rows .mesh .upper) (r .mesh .upper))))
+    ∙ ap (λ (b : Bool). cond b (r .season) (highest x rows .season))
+    (sym (some-worst (length rows) (ltZ (highest x rows .mesh .upper) (r .mesh .upper))))
 
-mesh-more : (rows : List Row) (r : Row) → worstMesh (rows ++ (r ∷ [])) ≡ cond (worst (sumsOf rows) (entryOf r)) (r .mesh .upper) (worstMesh rows)
+mesh-more : (rows : List Row) (r : Row)
+    → worstMesh (rows ++ (r ∷ [])) ≡ cond (worst (sumsOf rows) (entryOf r)) (r .mesh .upper) (worstMesh rows)
 unfolding worstMesh worst sumsOf entryOf highest
 mesh-more [] r = refl
 mesh-more (x ∷ rows) r =
     ap (λ (y : Row). y .mesh .upper) (highest-more x rows r) ∙ higher-number (λ y. y .mesh .upper) (highest x rows) r
-    ∙ ap (λ (b : Bool). cond b (r .mesh .upper) (highest x rows .mesh .upper)) (sym (some-worst (length rows) (ltZ (highest x rows .mesh .upper) (r .mesh .upper))))
+    ∙ ap (λ (b : Bool). cond b (r .mesh .upper) (highest x rows .mesh .upper))
+    (sym (some-worst (length rows) (ltZ (highest x rows .mesh .upper) (r .mesh .upper))))
 
 -- ---- the sums
 
 pub sums-more : (rows : List Row) (r : Row) → sumsOf (rows ++ (r ∷ [])) ≡ addTo (sumsOf rows) (entryOf r)
 unfolding sumsOf addTo entryOf sameZ verdictNumber
 sums-more rows r =
-    cong-sums (length-append rows (r ∷ [])) (count-more Safe rows r) (count-more Unsafe rows r) (count-more Undecided rows r) (season-more rows r) (mesh-more rows r)
+    cong-sums (length-append rows (r ∷ [])) (count-more Safe rows r) (count-more Unsafe rows r) (count-more Undecided rows r)
+    (season-more rows r) (mesh-more rows r)

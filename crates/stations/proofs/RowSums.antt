@@ -1,5 +1,4 @@
 -- The pass that adds each row at the place of its station.
--- Assumes nothing.
 use Prim.Native.Nat.{ℕ, zero, suc, _+_, _≤_, _<_}
 use mathlib.Core.Path.{_≡_, refl, sym, ap, _∙_}
 use mathlib.Core.Bool.{Bool, true, false, cond}
@@ -78,7 +77,8 @@ module _ {table : List ℤ} {places : List ℕ} {n i : ℕ} {sums : List Sums} (
           → getD (set sums (getD places i 0) s) j none ≡ cond b (addTo (sumsAt table places j i) (entryAt table i)) (sumsAt table places j i)
       go j l true q =
           let same : getD places i 0 ≡ j = eqb-true (getD places i 0) j q in
-          rw (← same) (getD-set-same sums (getD places i 0) s none (omega (arith, a .size)) ∙ e ∙ ap (λ (x : Sums). addTo x (entryAt table i)) (a .at (getD places i 0) p))
+          rw (← same) (getD-set-same sums (getD places i 0) s none (omega (arith, a .size)) ∙ e
+          ∙ ap (λ (x : Sums). addTo x (entryAt table i)) (a .at (getD places i 0) p))
       go j l false q =
           let other : getD places i 0 ≡ j → ⊥ = eqb-false (getD places i 0) j q in
           getD-set-other sums (getD places i 0) j s none (λ x. other (sym x)) ∙ a .at j l

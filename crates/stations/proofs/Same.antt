@@ -1,5 +1,4 @@
 -- Two signed numbers are the same where their bits are.
--- Assumes nothing.
 use Prim.Native.Nat.{ℕ, _≤_}
 use mathlib.Core.Path.{_≡_, refl, sym, ap, _∙_}
 use mathlib.Core.Bool.{Bool, true, false}
@@ -10,6 +9,7 @@ use borrow.Author.Tests.{eqb-true, eq-eqb}
 use mir.Syntax.{w64}
 use mir.Val.{SFits, toZ, ofZ}
 use mir.Facts.{toZ-ofZ}
+use Rattle.text.proofs.Clash.{clash}
 use Rattle.stations.specs.Summary.{sameZ, one}
 
 pub same-refl : (a : ℤ) → sameZ a a ≡ true
@@ -20,8 +20,8 @@ same-refl (negsuc m) = eq-eqb m m refl
 pub same-eq : (a b : ℤ) → sameZ a b ≡ true → a ≡ b
 unfolding sameZ
 same-eq (pos m) (pos n) h = ap pos (eqb-true m n h)
-same-eq (pos m) (negsuc n) h = let z : _≡_ {A = ℕ} 0 1 = cc in absurd (omega arith)
-same-eq (negsuc m) (pos n) h = let z : _≡_ {A = ℕ} 0 1 = cc in absurd (omega arith)
+same-eq (pos m) (negsuc n) h = clash cc
+same-eq (negsuc m) (pos n) h = clash cc
 same-eq (negsuc m) (negsuc n) h = ap negsuc (eqb-true m n h)
 
 agree : (p q : Bool) → (p ≡ true → q ≡ true) → (q ≡ true → p ≡ true) → p ≡ q
@@ -30,7 +30,8 @@ agree false true f g = g refl
 agree false false f g = refl
 
 pub same-bits : {a b : ℤ} → SFits w64 a → SFits w64 b → eqb (ofZ w64 a) (ofZ w64 b) ≡ sameZ a b
-same-bits {a} {b} f g = agree (eqb (ofZ w64 a) (ofZ w64 b)) (sameZ a b) (λ h. there (eqb-true _ _ h)) (λ h. eq-eqb _ _ (ap (ofZ w64) (same-eq a b h)))
+same-bits {a} {b} f g =
+    agree (eqb (ofZ w64 a) (ofZ w64 b)) (sameZ a b) (λ h. there (eqb-true _ _ h)) (λ h. eq-eqb _ _ (ap (ofZ w64) (same-eq a b h)))
   where
     there : ofZ w64 a ≡ ofZ w64 b → sameZ a b ≡ true
     there e =

@@ -1,5 +1,4 @@
 -- Every station of some rows stands once among the stations by first appearance, and no other number does.
--- Assumes nothing.
 use Prim.Native.Nat.{_+_}
 use mathlib.Core.Path.{_≡_, refl, sym, ap, _∙_}
 use mathlib.Core.Bool.{Bool, true, false, cond, _||_}

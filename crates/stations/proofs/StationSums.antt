@@ -1,5 +1,4 @@
 -- What the passes gather at the place of a station is what the station's rows add up to, and so the numbers put are the summary.
--- Assumes nothing.
 use Prim.Native.Nat.{ℕ, zero, suc, _+_, _*_, _≤_, _<_}
 use mathlib.Core.Path.{_≡_, refl, sym, ap, _∙_}
 use mathlib.Core.Bool.{Bool, true, false, cond}
@@ -32,14 +31,17 @@ noRow = rowOf (caseOf [])
 
 -- ---- what is read of a row
 
-number-at : (table row : List ℤ) (i k : ℕ) → k < rowLength → rowAt table i ≡ row → getD table (rowLength * i + k) (pos 0) ≡ getD row k (pos 0)
+number-at : (table row : List ℤ) (i k : ℕ) → k < rowLength → rowAt table i ≡ row
+    → getD table (rowLength * i + k) (pos 0) ≡ getD row k (pos 0)
 number-at table row i k h e =
-    sym (getD-drop (rowLength * i) table k (pos 0)) ∙ sym (getD-take rowLength (drop (rowLength * i) table) k (pos 0) h) ∙ ap (λ (l : List ℤ). getD l k (pos 0)) e
+    sym (getD-drop (rowLength * i) table k (pos 0)) ∙ sym (getD-take rowLength (drop (rowLength * i) table) k (pos 0) h)
+    ∙ ap (λ (l : List ℤ). getD l k (pos 0)) e
 
 entry-of : (table : List ℤ) (i : ℕ) (r : Row) → rowAt table i ≡ numbers r → entryAt table i ≡ entryOf r
 unfolding entryAt entryOf numbers
 entry-of table i r e =
-    cong-entry (number-at table (numbers r) i seasonPlace (omega arith) e) (number-at table (numbers r) i verdictPlace (omega arith) e) (number-at table (numbers r) i meshUpperPlace (omega arith) e)
+    cong-entry (number-at table (numbers r) i seasonPlace (omega arith) e) (number-at table (numbers r) i verdictPlace (omega arith) e)
+    (number-at table (numbers r) i meshUpperPlace (omega arith) e)
   where
     cong-entry : {a b c a′ b′ c′ : ℤ} → a ≡ a′ → b ≡ b′ → c ≡ c′
         → _≡_ {A = Entry} (record { season = a; verdict = b; mesh = c }) (record { season = a′; verdict = b′; mesh = c′ })
@@ -69,9 +71,11 @@ module _ (cs : List Case) (table : List ℤ) (f : (i : ℕ) → i < length cs �
   -- the column of the stations
   column-from : (i k : ℕ) → i + k ≡ length cs → stationColumn table i k ≡ drop i (stationsOf (rowsIn cs))
   unfolding stationColumn
-  column-from i zero e = sym (drop-of-length-le (stationsOf (rowsIn cs)) {i = i} (omega (arith, length-map (rowsIn cs) (λ r. r .station), rows-count)))
+  column-from i zero e =
+      sym (drop-of-length-le (stationsOf (rowsIn cs)) {i = i} (omega (arith, length-map (rowsIn cs) (λ r. r .station), rows-count)))
   column-from i (suc k) e =
-      ap (λ (z : ℤ). z ∷ stationColumn table (suc i) k) (station-is i (omega arith) ∙ sym (List·getD-map (λ r. r .station) (rowsIn cs) i noRow))
+      ap (λ (z : ℤ). z ∷ stationColumn table (suc i) k)
+      (station-is i (omega arith) ∙ sym (List·getD-map (λ r. r .station) (rowsIn cs) i noRow))
       ∙ ap (λ (l : List ℤ). getD (stationsOf (rowsIn cs)) i (noRow .station) ∷ l) (column-from (suc i) k (omega arith))
       ∙ sym (drop-cons (stationsOf (rowsIn cs)) i (noRow .station) (omega (arith, length-map (rowsIn cs) (λ r. r .station), rows-count)))
 
@@ -83,7 +87,8 @@ module _ (cs : List Case) (table : List ℤ) (f : (i : ℕ) → i < length cs �
 
   module _ {known : List ℤ} {places : List ℕ} {count : ℕ} (p : Places table (length cs) known places count) where
     -- a row is of the station at place j where j is its place
-    place-tells : (j i : ℕ) → j < count → i < length cs → sameZ (getD known j (pos 0)) (getD (rowsIn cs) i noRow .station) ≡ eqb (getD places i 0) j
+    place-tells : (j i : ℕ) → j < count → i < length cs
+        → sameZ (getD known j (pos 0)) (getD (rowsIn cs) i noRow .station) ≡ eqb (getD places i 0) j
     place-tells j i l h = ap (sameZ (getD known j (pos 0))) (sym (p .own i h ∙ station-is i h)) ∙ go (eqb (getD places i 0) j) refl
       where
         go : (b : Bool) → eqb (getD places i 0) j ≡ b → sameZ (getD known j (pos 0)) (getD known (getD places i 0) (pos 0)) ≡ b
@@ -98,13 +103,15 @@ module _ (cs : List Case) (table : List ℤ) (f : (i : ℕ) → i < length cs �
         let st = getD known j (pos 0) in
         let more : take (suc i) (rowsIn cs) ≡ take i (rowsIn cs) ++ (r ∷ []) = take-suc (rowsIn cs) i noRow (omega (arith, rows-count)) in
         go (rowsOf st (take i (rowsIn cs))) (eqb (getD places i 0) j) (sums-to j i l (omega arith))
-        ∙ ap (λ (b : Bool). sumsOf (cond b (rowsOf st (take i (rowsIn cs)) ++ (r ∷ [])) (rowsOf st (take i (rowsIn cs))))) (sym (place-tells j i l (omega arith)))
+        ∙ ap (λ (b : Bool). sumsOf (cond b (rowsOf st (take i (rowsIn cs)) ++ (r ∷ [])) (rowsOf st (take i (rowsIn cs)))))
+        (sym (place-tells j i l (omega arith)))
         ∙ ap sumsOf (sym (ap (rowsOf st) more ∙ rows-more st (take i (rowsIn cs)) r))
       where
         go : {s : Sums} (rs : List Row) (b : Bool) → s ≡ sumsOf rs
             → cond b (addTo s (entryAt table i)) s ≡ sumsOf (cond b (rs ++ (getD (rowsIn cs) i noRow ∷ [])) rs)
         go {s} rs true e =
-            ap (λ (x : Sums). addTo x (entryAt table i)) e ∙ ap (addTo (sumsOf rs)) (entry-of table i _ (row-is i (omega arith))) ∙ sym (sums-more rs (getD (rowsIn cs) i noRow))
+            ap (λ (x : Sums). addTo x (entryAt table i)) e ∙ ap (addTo (sumsOf rs)) (entry-of table i _ (row-is i (omega arith)))
+            ∙ sym (sums-more rs (getD (rowsIn cs) i noRow))
         go rs false e = e
 
     station-sums : (j : ℕ) → j < count → sumsAt table places j (length cs) ≡ sumsOf (rowsOf (getD known j (pos 0)) (rowsIn cs))
@@ -114,17 +121,23 @@ module _ (cs : List Case) (table : List ℤ) (f : (i : ℕ) → i < length cs �
 
     -- ---- the numbers put are the summary
 
-    module _ (sums : List Sums) (g : (j : ℕ) → j < mostLines → getD sums j none ≡ sumsAt table places j (length cs)) (small : length cs ≤ mostLines) where
-      sixes-from : (i k : ℕ) → i + k ≡ count → sixes known sums i k ≡ map (λ station. stationNumbers station (rowsOf station (rowsIn cs))) (take k (drop i known))
+    module _ (sums : List Sums) (g : (j : ℕ) → j < mostLines → getD sums j none ≡ sumsAt table places j (length cs))
+        (small : length cs ≤ mostLines) where
+      sixes-from : (i k : ℕ) → i + k ≡ count
+          → sixes known sums i k ≡ map (λ station. stationNumbers station (rowsOf station (rowsIn cs))) (take k (drop i known))
       unfolding sixes six stationNumbers sumsOf
       sixes-from i zero e = refl
       sixes-from i (suc k) e =
-          let one-sum : getD sums i none ≡ sumsOf (rowsOf (getD known i (pos 0)) (rowsIn cs)) = g i (omega (arith, p .most)) ∙ station-sums i (omega arith) in
+          let one-sum : getD sums i none ≡ sumsOf (rowsOf (getD known i (pos 0)) (rowsIn cs)) =
+          g i (omega (arith, p .most)) ∙ station-sums i (omega arith) in
           ap (λ (s : Sums). six (getD known i (pos 0)) s ∷ sixes known sums (suc i) k) one-sum
-          ∙ ap (λ (l : List (List ℤ)). stationNumbers (getD known i (pos 0)) (rowsOf (getD known i (pos 0)) (rowsIn cs)) ∷ l) (sixes-from (suc i) k (omega arith))
-          ∙ ap (λ (l : List ℤ). map (λ station. stationNumbers station (rowsOf station (rowsIn cs))) (take (suc k) l)) (sym (drop-cons known i (pos 0) (omega (arith, p .known-size, p .most))))
+          ∙ ap (λ (l : List (List ℤ)). stationNumbers (getD known i (pos 0)) (rowsOf (getD known i (pos 0)) (rowsIn cs)) ∷ l)
+          (sixes-from (suc i) k (omega arith))
+          ∙ ap (λ (l : List ℤ). map (λ station. stationNumbers station (rowsOf station (rowsIn cs))) (take (suc k) l))
+          (sym (drop-cons known i (pos 0) (omega (arith, p .known-size, p .most))))
 
       pub summary-put : sixes known sums 0 count ≡ summaryOf (rowsIn cs)
       unfolding summaryOf
       summary-put =
-          sixes-from 0 count (omega arith) ∙ ap (map (λ station. stationNumbers station (rowsOf station (rowsIn cs)))) (p .known-are ∙ stations-found)
+          sixes-from 0 count (omega arith) ∙ ap (map (λ station. stationNumbers station (rowsOf station (rowsIn cs))))
+          (p .known-are ∙ stations-found)

@@ -1,5 +1,4 @@
 -- The summary table: six numbers a station, one station after the other.
--- Assumes nothing.
 use Prim.Native.Nat.{ℕ, suc, _+_, _*_, _-_, _≤_, _<_}
 use mathlib.Core.Path.{_≡_, refl, sym, ap, _∙_}
 use mathlib.Core.List.{List, [], _∷_, _++_, append-assoc}
@@ -25,7 +24,8 @@ six-set (u ∷ v ∷ w ∷ x ∷ y ∷ z ∷ []) a b c d e f h = refl
 six-set (u ∷ v ∷ w ∷ x ∷ y ∷ z ∷ r ∷ l) a b c d e f h = absurd (omega arith)
 
 -- a part of six numbers put in the place of station i
-pub put-at : (i : ℕ) (t x y : List ℤ) → x ≡ y → putMid (stationLength * i) (stationLength * i + stationLength - stationLength * i) t x ≡ putAt i y t
+pub put-at : (i : ℕ) (t x y : List ℤ) → x ≡ y
+    → putMid (stationLength * i) (stationLength * i + stationLength - stationLength * i) t x ≡ putAt i y t
 unfolding putAt
 put-at i t x y e = rw (e, post-is (stationLength * i) (stationLength * i + stationLength) t (omega arith))
 
@@ -43,15 +43,18 @@ module _ (i : ℕ) (x t : List ℤ) (long : length x ≡ stationLength) (h : sta
   put-split = sym (append-assoc (take (stationLength * i) t) x (drop (stationLength * i + stationLength) t))
 
   put-take : take (stationLength * (i + 1)) (putAt i x t) ≡ take (stationLength * i) t ++ x
-  put-take = rw put-split (take-at (take (stationLength * i) t ++ x) (drop (stationLength * i + stationLength) t) (stationLength * (i + 1)) front)
+  put-take =
+      rw put-split (take-at (take (stationLength * i) t ++ x) (drop (stationLength * i + stationLength) t) (stationLength * (i + 1)) front)
 
   put-drop : drop (stationLength * (i + 1)) (putAt i x t) ≡ drop (stationLength * i + stationLength) t
-  put-drop = rw put-split (drop-at (take (stationLength * i) t ++ x) (drop (stationLength * i + stationLength) t) (stationLength * (i + 1)) front)
+  put-drop =
+      rw put-split (drop-at (take (stationLength * i) t ++ x) (drop (stationLength * i + stationLength) t) (stationLength * (i + 1)) front)
 
   put-length : length (putAt i x t) ≡ length t
   put-length =
       rw put-split
-      (length-append (take (stationLength * i) t ++ x) (drop (stationLength * i + stationLength) t) ∙ omega (arith, front, length-drop (stationLength * i + stationLength) t))
+      (length-append (take (stationLength * i) t ++ x) (drop (stationLength * i + stationLength) t)
+      ∙ omega (arith, front, length-drop (stationLength * i + stationLength) t))
 
 -- ---- the pass that fills it: the stations before i are written
 
@@ -69,7 +72,8 @@ putting-start stations sums count t =
     let z : count - 0 ≡ count = omega arith in
     record { most = omega arith; size = refl; rest = rw z }
 
-module _ {stations : List ℤ} {sums : List Sums} {count : ℕ} {before : List ℤ} {i : ℕ} {t : List ℤ} (a : Putting stations sums count before i t) where
+module _ {stations : List ℤ} {sums : List Sums} {count : ℕ} {before : List ℤ} {i : ℕ} {t : List ℤ}
+    (a : Putting stations sums count before i t) where
   left-next : i < count → left stations sums count i ≡ six (getD stations i (pos 0)) (getD sums i none) ∷ left stations sums count (i + 1)
   unfolding sixes
   left-next h =
@@ -88,7 +92,8 @@ module _ {stations : List ℤ} {sums : List Sums} {count : ℕ} {before : List �
         size = rw e (put-length i x t z f ∙ a .size);
         rest =
             a .rest ∙ ap (λ (k : List (List ℤ)). take (stationLength * i) t ++ filled k (drop (stationLength * i) t)) (left-next h)
-            ∙ sym (append-assoc (take (stationLength * i) t) x (filled (left stations sums count (i + 1)) (drop stationLength (drop (stationLength * i) t))))
+            ∙ sym (append-assoc (take (stationLength * i) t) x
+            (filled (left stations sums count (i + 1)) (drop stationLength (drop (stationLength * i) t))))
             ∙ rw (e, drop-drop stationLength (stationLength * i) t, put-take i x t z f, put-drop i x t z f);
       }
 
@@ -97,4 +102,5 @@ module _ {stations : List ℤ} {sums : List Sums} {count : ℕ} {before : List �
   putting-end h =
       let z : count - i ≡ 0 = omega arith in
       let none-left : left stations sums count i ≡ [] = rw z in
-      sym (a .rest ∙ ap (λ (k : List (List ℤ)). take (stationLength * i) t ++ filled k (drop (stationLength * i) t)) none-left ∙ take-append-drop (stationLength * i) t)
+      sym (a .rest ∙ ap (λ (k : List (List ℤ)). take (stationLength * i) t ++ filled k (drop (stationLength * i) t)) none-left
+      ∙ take-append-drop (stationLength * i) t)

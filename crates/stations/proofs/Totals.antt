@@ -1,5 +1,4 @@
 -- "The three counts add up to the seasons, and the seasons over all stations to the rows."
--- Assumes nothing.
 use Prim.Native.Nat.{ℕ, zero, suc, _+_, _<_}
 use mathlib.Core.Path.{_≡_, refl, ap, _∙_}
 use mathlib.Core.Bool.{Bool, true, false, cond, _||_}
@@ -19,7 +18,8 @@ use Rattle.stations.proofs.StandsOnce.{stands-once}
 
 -- ---- the three counts
 
-one-verdict : (v : Verdict) → one (eqb (verdictNumber v) (verdictNumber Safe)) + one (eqb (verdictNumber v) (verdictNumber Unsafe)) + one (eqb (verdictNumber v) (verdictNumber Undecided)) ≡ 1
+one-verdict : (v : Verdict)
+    → one (eqb (verdictNumber v) (verdictNumber Safe)) + one (eqb (verdictNumber v) (verdictNumber Unsafe)) + one (eqb (verdictNumber v) (verdictNumber Undecided)) ≡ 1
 unfolding verdictNumber one
 one-verdict Safe = refl
 one-verdict Unsafe = refl
@@ -62,7 +62,8 @@ seasons-more (x ∷ l) r rows = go (sameZ x (r .station)) (seasons-more l r rows
     go true e = omega arith
     go false e = omega arith
 
-seasons-of : (l : List ℤ) (rows : List Row) → ((i : ℕ) → i < length rows → times (getD (stationsOf rows) i (pos 0)) l ≡ 1) → allSeasons l rows ≡ length rows
+seasons-of : (l : List ℤ) (rows : List Row) → ((i : ℕ) → i < length rows → times (getD (stationsOf rows) i (pos 0)) l ≡ 1)
+    → allSeasons l rows ≡ length rows
 seasons-of l [] h = seasons-none l
 seasons-of l (r ∷ rows) h = omega (arith, seasons-more l r rows, h zero (omega arith), seasons-of l rows (λ i g. h (suc i) (omega arith)))
 
@@ -78,4 +79,5 @@ row-among (r ∷ rows) (suc i) h = go (sameZ (getD (stationsOf rows) i (pos 0)) 
 
 pub seasons-add-up : (rows : List Row) → total 1 (summaryOf rows) ≡ length rows
 unfolding summaryOf one
-seasons-add-up rows = seasons-of (stations rows) rows (λ i h. stands-once (getD (stationsOf rows) i (pos 0)) rows ∙ ap one (row-among rows i h))
+seasons-add-up rows =
+    seasons-of (stations rows) rows (λ i h. stands-once (getD (stationsOf rows) i (pos 0)) rows ∙ ap one (row-among rows i h))

@@ -1,5 +1,4 @@
 -- The stations that a sheet is answered with lie within the summary table.
--- Assumes nothing.
 use Prim.Native.Nat.{ℕ, _*_, _≤_}
 use mathlib.Core.Path.{_≡_, refl, sym, ap, _∙_}
 use mathlib.Core.Bool.{Bool, true, false, cond}
@@ -9,6 +8,7 @@ use lib.Dec.{ltb}
 use lib.IntN.{ℤ}
 use lib.ListN.{length, drop, length-drop}
 use borrow.Author.Tests.{ltb-false}
+use Rattle.text.proofs.Clash.{clash}
 use Rattle.row.specs.declared.Row.{Row}
 use Rattle.sheet.specs.declared.Answer.{Answer}
 use Rattle.sheet.specs.declared.Answer.the-variants as sheet
@@ -25,11 +25,12 @@ record Counted (room : ℕ) (rows : List Row) (m : ℕ) : Type 0 where
 
 counted : (room : ℕ) (rows : List Row) (a : Answer) (n m : ℕ) → Summary n m ≡ answerAfter room rows a → Counted room rows m
 unfolding answerAfter summaryRefused
-counted room rows (sheet.Refused k l c) n m e = let z : _≡_ {A = ℕ} 0 1 = cc in absurd (omega arith)
+counted room rows (sheet.Refused k l c) n m e = clash cc
 counted room rows (sheet.Rows k) n m e = go (ltb room (stationLength * length (stations rows))) refl e
   where
-    go : (b : Bool) → ltb room (stationLength * length (stations rows)) ≡ b → Summary n m ≡ cond b (Refused 20 0 0) (Summary k (length (stations rows))) → Counted room rows m
-    go true f h = let z : _≡_ {A = ℕ} 0 1 = cc in absurd (omega arith)
+    go : (b : Bool) → ltb room (stationLength * length (stations rows)) ≡ b
+        → Summary n m ≡ cond b (Refused 20 0 0) (Summary k (length (stations rows))) → Counted room rows m
+    go true f h = clash cc
     go false f h =
         let q : m ≡ length (stations rows) = cc in
         record { count = q; fits = rw q (ltb-false room (stationLength * length (stations rows)) f) }
@@ -40,9 +41,15 @@ filled-length : (rows : List Row) (l : List ℤ) (before : List ℤ) → station
 unfolding filled stationNumbers
 filled-length rows [] before h = refl
 filled-length rows (x ∷ l) before h =
-    omega (arith, filled-length rows l (drop stationLength before) (omega (arith, length-drop stationLength before)), length-drop stationLength before)
+    omega (
+      arith,
+      filled-length rows l (drop stationLength before) (omega (arith, length-drop stationLength before)),
+      length-drop
+          stationLength before,
+    )
 
-module _ {s : List ℕ} {rowsBefore rowsAfter before after : List ℤ} {r : Summed} {n m : ℕ} (a : SummaryAnswered s rowsBefore rowsAfter before after r) (e : r ≡ Summary n m) where
+module _ {s : List ℕ} {rowsBefore rowsAfter before after : List ℤ} {r : Summed} {n m : ℕ}
+    (a : SummaryAnswered s rowsBefore rowsAfter before after r) (e : r ≡ Summary n m) where
   tables : Summarised s n rowsBefore rowsAfter before after
   unfolding TablesAfter
   tables = rw e at (a .tables-are)

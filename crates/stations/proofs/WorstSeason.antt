@@ -1,6 +1,5 @@
 -- The season named belongs to a row of the station whose upper mesh end no row of the station exceeds and no earlier one equals.
--- Assumes nothing.
-use Prim.Native.Nat.{ℕ, zero, suc, _≤_, _<_}
+use Prim.Native.Nat.{ℕ, zero, suc, _<_}
 use mathlib.Core.Path.{_≡_, refl, sym, ap, _∙_}
 use mathlib.Core.Bool.{Bool, true, false, cond, _||_}
 use mathlib.Core.List.{List, [], _∷_, map}
@@ -8,9 +7,11 @@ use native.Mathlib.Omega.{arith}
 use lib.IntN.{ℤ, pos}
 use lib.ListN.{length, getD}
 use lib.Signed.{ltZ, _≤ℤ_, _<ℤ_, ltZ-no, ≤ℤ-refl}
+use Rattle.text.proofs.Clash.{clash}
 use Rattle.interval.proofs.Signed.{le-halves, halves-le, lt-halves, halves-lt}
 use Rattle.row.specs.declared.Row.{Row}
-use Rattle.stations.specs.Summary.{sameZ, one, among, stationsOf, rowsOf, higher, highest, worstSeason, stations, stationNumbers, summaryOf}
+use Rattle.stations.specs.Summary.{sameZ, one, among, stationsOf, rowsOf, higher, highest, worstSeason, stations, stationNumbers}
+use Rattle.stations.specs.Summary.{summaryOf}
 use Rattle.stations.specs.Meaning.{times, numberOf, HighestAt, WorstSeason}
 use Rattle.stations.proofs.Same.{same-refl}
 use Rattle.stations.proofs.StandsOnce.{stands-once}
@@ -37,7 +38,8 @@ record HighestRow (none x : Row) (rows : List Row) : Type 0 where
   is : highest x rows ≡ getD (x ∷ rows) line none
 
 -- the second row is higher than the first
-highest-later : {none x y : Row} {rows : List Row} → x .mesh .upper <ℤ y .mesh .upper → (r : HighestRow none y rows) → HighestAt (x ∷ y ∷ rows) none (suc (r .line))
+highest-later : {none x y : Row} {rows : List Row} → x .mesh .upper <ℤ y .mesh .upper → (r : HighestRow none y rows)
+    → HighestAt (x ∷ y ∷ rows) none (suc (r .line))
 highest-later {none} {x} {y} {rows} h r =
     record {
       within = omega (arith, r .at .within);
@@ -48,7 +50,8 @@ highest-later {none} {x} {y} {rows} h r =
     below : x .mesh .upper <ℤ getD (y ∷ rows) (r .line) none .mesh .upper
     below = lt-le h (r .at .highest zero (omega arith))
 
-    at-highest : (j : ℕ) → j < suc (suc (length rows)) → getD (x ∷ y ∷ rows) j none .mesh .upper ≤ℤ getD (y ∷ rows) (r .line) none .mesh .upper
+    at-highest : (j : ℕ) → j < suc (suc (length rows))
+        → getD (x ∷ y ∷ rows) j none .mesh .upper ≤ℤ getD (y ∷ rows) (r .line) none .mesh .upper
     at-highest zero l = weaken below
     at-highest (suc j) l = r .at .highest j (omega arith)
 
@@ -72,12 +75,14 @@ module _ {none x : Row} (y : Row) {rows : List Row} (h : y .mesh .upper ≤ℤ x
   past-within zero l = omega arith
   past-within (suc k) l = omega arith
 
-  at-highest : (j : ℕ) → j < suc (suc (length rows)) → getD (x ∷ y ∷ rows) j none .mesh .upper ≤ℤ getD (x ∷ rows) (r .line) none .mesh .upper
+  at-highest : (j : ℕ) → j < suc (suc (length rows))
+      → getD (x ∷ y ∷ rows) j none .mesh .upper ≤ℤ getD (x ∷ rows) (r .line) none .mesh .upper
   at-highest zero l = r .at .highest zero (omega arith)
   at-highest (suc zero) l = le-le h (r .at .highest zero (omega arith))
   at-highest (suc (suc j)) l = r .at .highest (suc j) (omega arith)
 
-  at-earlier : (k j : ℕ) → ((j : ℕ) → j < k → getD (x ∷ rows) j none .mesh .upper <ℤ getD (x ∷ rows) (r .line) none .mesh .upper) → j < past k
+  at-earlier : (k j : ℕ) → ((j : ℕ) → j < k → getD (x ∷ rows) j none .mesh .upper <ℤ getD (x ∷ rows) (r .line) none .mesh .upper)
+      → j < past k
       → getD (x ∷ y ∷ rows) j none .mesh .upper <ℤ getD (x ∷ rows) (r .line) none .mesh .upper
   unfolding past
   at-earlier zero j e l = absurd (omega arith)
@@ -95,14 +100,16 @@ module _ {none x : Row} (y : Row) {rows : List Row} (h : y .mesh .upper ≤ℤ x
 
 highest-row : (none x : Row) (rows : List Row) → HighestRow none x rows
 unfolding highest higher
-highest-row none x [] = record { line = 0; at = record { within = omega arith; highest = only; earlier = λ j l. absurd (omega arith) }; is = refl }
+highest-row none x [] =
+    record { line = 0; at = record { within = omega arith; highest = only; earlier = λ j l. absurd (omega arith) }; is = refl }
   where
     only : (j : ℕ) → j < 1 → getD (x ∷ []) j none .mesh .upper ≤ℤ x .mesh .upper
     only zero l = ≤ℤ-refl (x .mesh .upper)
     only (suc j) l = absurd (omega arith)
 highest-row none x (y ∷ rows) = go (ltZ (x .mesh .upper) (y .mesh .upper)) refl (highest-row none x rows) (highest-row none y rows)
   where
-    go : (b : Bool) → ltZ (x .mesh .upper) (y .mesh .upper) ≡ b → HighestRow none x rows → HighestRow none y rows → HighestRow none x (y ∷ rows)
+    go : (b : Bool) → ltZ (x .mesh .upper) (y .mesh .upper) ≡ b → HighestRow none x rows → HighestRow none y rows
+        → HighestRow none x (y ∷ rows)
     go true e p q =
         record {
           line = suc (q .line);
@@ -129,10 +136,11 @@ worst-season none (x ∷ rows) h =
 -- a station has a row
 some-row : (x : ℤ) (rows : List Row) → among x (stationsOf rows) ≡ true → 0 < length (rowsOf x rows)
 unfolding among rowsOf
-some-row x [] e = let z : _≡_ {A = ℕ} 0 1 = cc in absurd (omega arith)
+some-row x [] e = clash cc
 some-row x (r ∷ rows) e = go (sameZ x (r .station)) e (some-row x rows)
   where
-    go : (b : Bool) → b || among x (stationsOf rows) ≡ true → (among x (stationsOf rows) ≡ true → 0 < length (rowsOf x rows)) → 0 < length (cond b (r ∷ rowsOf x rows) (rowsOf x rows))
+    go : (b : Bool) → b || among x (stationsOf rows) ≡ true → (among x (stationsOf rows) ≡ true → 0 < length (rowsOf x rows))
+        → 0 < length (cond b (r ∷ rowsOf x rows) (rowsOf x rows))
     go true h rest = omega arith
     go false h rest = rest h
 

@@ -1,5 +1,5 @@
--- The answer of the station summary, and what it leaves in the two tables: one claim over every sheet and every two tables. Document 02 (m).
--- Assumes nothing.
+-- The answer of the station summary, and what it leaves in the two tables: one claim over every sheet and every two tables. Document 02
+-- (m).
 use Prim.Native.Nat.{ℕ, _*_}
 use mathlib.Core.Path.{_≡_}
 use mathlib.Core.Bool.{cond}
@@ -49,8 +49,8 @@ unfoldable pub TablesAfter : List ℕ → List ℤ → List ℤ → List ℤ →
 TablesAfter s rowsBefore rowsAfter before after (Summary count stations) = Summarised s count rowsBefore rowsAfter before after
 TablesAfter s rowsBefore rowsAfter before after (Refused number line column) = Untouched rowsBefore rowsAfter before after
 
--- the answer and what it leaves in both tables. Three wrong programs: one that names the later line on a tie, and one that refuses with 20 after the rows
--- are written, break `tables-are`; one that tests the summary table before the table of rows breaks `answer-is`.
+-- the answer and what it leaves in both tables. Three wrong programs: one that names the later line on a tie, and one that refuses with 20
+-- after the rows are written, break `tables-are`; one that tests the summary table before the table of rows breaks `answer-is`.
 pub record SummaryAnswered (s : List ℕ) (rowsBefore rowsAfter before after : List ℤ) (r : Summed) : Type 0 where
   pub answer-is : r ≡ summaryAnswer s (length rowsBefore) (length before)
   pub tables-are : TablesAfter s rowsBefore rowsAfter before after r

@@ -1,5 +1,4 @@
 -- The summary computed: stations scattered over the lines, a tie, four seasons.
--- Assumes nothing.
 use Prim.Native.Nat.{ℕ}
 use mathlib.Core.Path.{_≡_, refl}
 use mathlib.Core.List.{[], _∷_}
@@ -9,7 +8,8 @@ use Rattle.row.specs.declared.Row.{Row}
 use Rattle.row.specs.declared.Verdict.{Verdict}
 use Rattle.row.specs.declared.Verdict.the-variants.{Safe, Unsafe, Undecided}
 use Rattle.row.specs.Verdict.{verdictNumber}
-use Rattle.stations.specs.Summary.{sameZ, one, among, byAppearance, stations, rowsOf, countOf, higher, highest, worstSeason, stationNumbers, summaryOf, filled}
+use Rattle.stations.specs.Summary.{sameZ, one, among, byAppearance, stations, rowsOf, countOf, higher, highest, worstSeason}
+use Rattle.stations.specs.Summary.{stationNumbers, summaryOf, filled}
 
 -- a row of which the summary reads these: station, season, verdict, lower and upper mesh end
 abbrev row : ℕ → ℕ → Verdict → ℕ → ℕ → Row

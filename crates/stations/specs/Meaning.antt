@@ -1,5 +1,4 @@
 -- What document 02 (m) says of the summary, in its own words: proofs/StandsOnce.antt, Totals.antt and WorstSeason.antt show that it holds.
--- Assumes nothing.
 use Prim.Native.Nat.{ℕ, _+_, _<_}
 use mathlib.Core.Path.{_≡_}
 use mathlib.Core.List.{List, [], _∷_}

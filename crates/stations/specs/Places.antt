@@ -1,5 +1,4 @@
 -- The stations of a table of rows, and the place of each row's station among them.
--- Assumes nothing.
 use Prim.Native.Nat.{ℕ, zero, suc, _*_, _%_, _≤_, _<_}
 use mathlib.Core.Path.{_≡_}
 use mathlib.Core.List.{List, [], _∷_}

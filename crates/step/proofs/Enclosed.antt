@@ -1,5 +1,4 @@
 -- The step voltage's ends include the exact value's ends.
--- Assumes nothing.
 use Prim.Native.Nat.{ℕ, _+_, _*_, _^_}
 use mathlib.Core.Path.{refl}
 use native.Mathlib.Omega.{arith}
@@ -62,5 +61,6 @@ module _ {c : Case} (b : Bounds c) where
       encloses-same
       (factor-last (consistent-exactly (ρ c)) (consistent-Ks b) (quantity-Ki b .consistent) (quantity-IG b .consistent) (s .consistent)
       (s .positive) (lit≤ tt))
-      (encloses-product {u = ten 3} {v = ten 7} (ten 3) (10 ^ 7) refl (consistent-quotient (s .positive) (drive-consistent b) (s .consistent))
+      (encloses-product {u = ten 3} {v = ten 7} (ten 3) (10 ^ 7) refl
+      (consistent-quotient (s .positive) (drive-consistent b) (s .consistent))
       (consistent-Ks b) driven-encloses (factor-encloses b))

@@ -1,5 +1,4 @@
 -- The ends of Ks include the exact value's ends.
--- Assumes nothing.
 use Prim.Native.Nat.{ℕ, _+_, _-_, _*_, _^_, _<_}
 use mathlib.Core.Path.{_≡_, refl, ap}
 use native.Mathlib.Omega.{arith}
@@ -108,7 +107,8 @@ module _ {c : Case} (b : Bounds c) where
       → Encloses ((exactly (whole 1) −x x) ÷x exactly (D c)) (ten 9) (quotientOf (differenceOf (point (pos (10 ^ 9))) i) (point (pos (c .space))) 1000)
   unfolding D ten
   rest-encloses k e =
-      encloses-quotient (ten 9) 1000 refl (span-divisor (lit≤ tt) (space-span b) .0) (consistent-difference (one .consistent) k) (consistent-exactly (D c))
+      encloses-quotient (ten 9) 1000 refl (span-divisor (lit≤ tt) (space-span b) .0) (consistent-difference (one .consistent) k)
+      (consistent-exactly (D c))
       (encloses-difference (one .consistent) k (encloses-whole 1 (ten 9) refl) e)
       (encloses-count (pos (c .space)) (ten 3) (decimal-over (c .space) 3))
 

@@ -1,5 +1,4 @@
 -- Sizes and widths of the ends of Ks and of its parts.
--- Assumes nothing.
 use Prim.Native.Nat.{ℕ, _-_, _*_, _^_, _≤_, _<_}
 use mathlib.Core.Path.{_≡_}
 use mathlib.Core.Bool.{false}
@@ -52,7 +51,8 @@ module _ {c : Case} (b : Bounds c) where
   square-span : Span (perMetre (powerOfTwo c - 1) (powerOfTwo c * c .space)) 0 400000000 1
   square-span =
       let p : ℕ = powerOfTwo c in
-      per-metre-span (p - 1) (p * c .space) 400000000 (omega (arith, divisor-bounds .low)) (omega (arith, mul-le-mul-left p (b .space .low)))
+      per-metre-span (p - 1) (p * c .space) 400000000 (omega (arith, divisor-bounds .low))
+      (omega (arith, mul-le-mul-left p (b .space .low)))
 
   -- 1 − 0.5^(n−2) of unequal counts
   pub rest-span : equalCounts c ≡ false → Span (differenceOf (point (pos (10 ^ 9))) (halfPowerEnds (numberOf c))) 0 (10 ^ 9) 2120

@@ -1,5 +1,4 @@
 -- Quotients of whole numbers: as fractions, they lie between their ends rounded outward.
--- Assumes nothing.
 use Prim.Native.Nat.{ℕ, _*_, _<_}
 use mathlib.Core.Path.{_≡_, ap}
 use native.Mathlib.Omega.{arith}

@@ -1,5 +1,4 @@
 -- Sizes and widths of ρ·Ki·IG/LS.
--- Assumes nothing.
 use Prim.Native.Nat.{ℕ, _+_, _*_, _/_, _≤_, _<_}
 use mathlib.Core.Path.{_≡_}
 use native.Mathlib.Omega.{arith}
@@ -62,7 +61,8 @@ module _ {c : Case} (b : Bounds c) where
   pub driven-near : 1870000 * drivenHigh ≤ 1870001 * drivenLow + 1870000 * 4
   unfolding drivenLow drivenHigh
   driven-near =
-      near (low b * 1) (high b * 1) (conductorLength c) (50 * stepLength c) _ _ (omega (arith, drive-near b)) (omega (arith, length-bounds .low))
+      near (low b * 1) (high b * 1) (conductorLength c) (50 * stepLength c) _ _ (omega (arith, drive-near b))
+      (omega (arith, length-bounds .low))
       (omega (arith, length-from))
       (ceilDiv-below (high b * 1) length-pos) (floorDiv-above (low b * 1) length-pos)
 
@@ -75,4 +75,6 @@ module _ {c : Case} (b : Bounds c) where
   driven-most = ceilDiv-by (high b * 1) length-pos (omega (arith, drive-by-length b, length-from))
 
   pub driven-span : Span (drivenEnds c) 0 112101542400 60000
-  driven-span = rw driven-is (span-natural drivenLow drivenHigh (omega arith) driven-order driven-most (omega (arith, driven-near, driven-order, driven-most)))
+  driven-span =
+      rw driven-is (span-natural drivenLow drivenHigh (omega arith) driven-order driven-most
+      (omega (arith, driven-near, driven-order, driven-most)))

@@ -1,5 +1,4 @@
 -- The step voltage's ends are no further apart than allowed: 1/100,000 of ρ·Ki·IG/LS, with Ki of na and IG its upper end, plus 10 mV.
--- Assumes nothing.
 use Prim.Native.Nat.{ℕ, _+_, _*_, _^_, _≤_, _<_}
 use native.Mathlib.Omega.{arith}
 use native.Mathlib.Nat.{mul-le-mul-left, mul-le-mul-right}

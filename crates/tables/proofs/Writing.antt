@@ -1,5 +1,4 @@
 -- Writing part i of a table changes only its own part.
--- Assumes nothing.
 use Prim.Native.Nat.{ℕ, zero, suc, _+_, _*_, _-_, _≤_, _<_}
 use mathlib.Core.Path.{_≡_, refl, sym, ap, subst, _∙_}
 use mathlib.Core.List.{List, [], _∷_, _++_}
@@ -42,14 +41,16 @@ pub part-before : (width i j : ℕ) → j < i → width * j + width ≤ width * 
 part-before width i j h = omega (arith, mul-le-mul-left width h)
 
 -- the parts before part i are kept
-pub part-kept : {A : Type 0} {width i : ℕ} {part t u : List A} (j : ℕ) → Written width i part t u → j < i → partAt width u j ≡ partAt width t j
+pub part-kept : {A : Type 0} {width i : ℕ} {part t u : List A} (j : ℕ) → Written width i part t u → j < i
+    → partAt width u j ≡ partAt width t j
 part-kept {A} {width} {i} {t = t} {u} j w h =
     let l = part-before width i j h in
     sym (part-of-front width (width * j) (width * i) u l) ∙ ap (λ (s : List A). take width (drop (width * j) s)) (w .front)
     ∙ part-of-front width (width * j) (width * i) t l
 
 -- what lies past part i is kept, where what lies past the parts before it was
-pub rest-kept : {A : Type 0} {width n : ℕ} {part u w : List A} (t : List A) → Written width n part u w → drop (width * n) u ≡ drop (width * n) t
+pub rest-kept : {A : Type 0} {width n : ℕ} {part u w : List A} (t : List A) → Written width n part u w
+    → drop (width * n) u ≡ drop (width * n) t
     → drop (width * (n + 1)) w ≡ drop (width * (n + 1)) t
 rest-kept {width = width} {n} {u = u} {w} t r f =
     ap (λ (k : ℕ). drop k w) next ∙ r .back ∙ sym (drop-drop width (width * n) u) ∙ ap (drop width) f ∙ drop-drop width (width * n) t

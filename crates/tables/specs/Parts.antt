@@ -1,6 +1,5 @@
 -- A table divided into parts of equal width: the rows of a table of results, the lines of a store of values.
--- Assumes nothing.
-use Prim.Native.Nat.{ℕ, zero, suc, _+_, _*_}
+use Prim.Native.Nat.{ℕ, zero, suc, _+_, _*_, _<_}
 use mathlib.Core.Path.{_≡_}
 use mathlib.Core.List.{List, [], _∷_}
 use lib.ListN.{length, take, drop}
@@ -20,3 +19,9 @@ pub record Written {A : Type 0} (width i : ℕ) (part before after : List A) : T
   pub part-is : partAt width after i ≡ part
   pub front : take (width * i) after ≡ take (width * i) before
   pub back : drop (width * i + width) after ≡ drop (width * i + width) before
+
+-- the first n parts are written, each right for its place, and nothing past them
+pub record Filled {A : Type 0} (width : ℕ) (Right : ℕ → List A → Type 0) (n : ℕ) (before after : List A) : Type 0 where
+  pub size : length after ≡ length before
+  pub parts : (i : ℕ) → i < n → Right i (partAt width after i)
+  pub rest : drop (width * n) after ≡ drop (width * n) before

@@ -1,5 +1,4 @@
 -- A turn of a loop over the fields of a line: rest holds the fields that are left, and the first of them ends at e.
--- Assumes nothing.
 use Prim.Native.Nat.{ℕ, _+_, _-_, _≤_, _<_}
 use mathlib.Core.Path.{_≡_, sym, ap, _∙_}
 use mathlib.Core.Logic.{⊎-elim}

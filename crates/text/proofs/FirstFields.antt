@@ -1,5 +1,4 @@
 -- The first field of a line by the digits at its front.
--- Assumes nothing.
 use Prim.Native.Nat.{ℕ, _+_, _*_, _-_, _%_, _^_, _≤_, _<_}
 use mathlib.Core.Path.{_≡_, refl, sym, ap, _∙_}
 use mathlib.Core.Bool.{Bool, true, false, _&&_}
@@ -67,7 +66,8 @@ module _ {s : List ℕ} {n i : ℕ} (a : Front s n i) where
   pub front-fits : n ≤ 999999
   front-fits = omega (arith, a .small, pow-le-pow-right {n = 10} (omega arith) (a .few))
 
-  pub front-step : {d : ℕ} → i < length s → i < 6 → d ≤ 9 → getD s i 0 ≡ d + 48 → (i ≡ 1 → getD s 0 0 ≡ 48 → ⊥) → Front s (n * 10 + d) (i + 1)
+  pub front-step : {d : ℕ} → i < length s → i < 6 → d ≤ 9 → getD s i 0 ≡ d + 48 → (i ≡ 1 → getD s 0 0 ≡ 48 → ⊥)
+      → Front s (n * 10 + d) (i + 1)
   unfolding valueOf
   front-step {d} h few l e z =
       let b = getD s i 0 in
@@ -108,7 +108,8 @@ module _ {s : List ℕ} {n i : ℕ} (a : Front s n i) where
 
 -- a value at the front of the first k bytes of a line, which are more than a value's, is at the front of the line
 pub front-whole : (k : ℕ) (line : List ℕ) {e n : ℕ} → IsFront (take k line) e n → 6 < k → k ≤ length line → IsFront line e n
-front-whole k line {e} f h l = record { few = f .few; ends = ends; held = λ o. f .held o ∙ ap fieldValue (take-take e k line (omega (arith, f .few))) }
+front-whole k line {e} f h l =
+    record { few = f .few; ends = ends; held = λ o. f .held o ∙ ap fieldValue (take-take e k line (omega (arith, f .few))) }
   where
     ends : 1 ≤ e → e ≡ indexOf 44 line
     ends o = f .ends o ∙ sym (index-part 44 k line l (omega (arith, f .few, f .ends o)))

@@ -1,5 +1,4 @@
 -- The form of a value, by its length and its first byte.
--- Assumes nothing.
 use Prim.Native.Nat.{ℕ, _≤_, _<_}
 use mathlib.Core.Path.{_≡_}
 use mathlib.Core.Bool.{and-false, and-true}
@@ -22,7 +21,8 @@ module _ (t : List ℕ) where
 
   pub form-zero : 1 < length t → length t ≤ 6 → getD t 0 0 ≡ 48 → Wrong ≡ fieldValue t
   unfolding fieldValue isValue plain
-  form-zero h k e = rw (le-leb 1 (length t) (omega arith), le-leb (length t) 6 k, lt-leb (length t) 1 h, eq-eqb _ 48 e, and-false (digits t))
+  form-zero h k e =
+      rw (le-leb 1 (length t) (omega arith), le-leb (length t) 6 k, lt-leb (length t) 1 h, eq-eqb _ 48 e, and-false (digits t))
 
   pub form-one : 1 ≤ length t → length t ≤ 1 → digitsValue t ≡ fieldValue t
   unfolding fieldValue isValue digitsValue plain

@@ -1,3 +1,4 @@
+pub mod Clash
 pub mod Searching
 pub mod Comparing
 pub mod Digits

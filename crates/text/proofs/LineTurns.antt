@@ -1,5 +1,4 @@
 -- A turn of a loop over lines: rest holds the lines that are left, the first of them ends at e, and the others begin at r.
--- Assumes nothing.
 use Prim.Native.Nat.{ℕ, suc, _+_, _-_, _≤_, _<_}
 use mathlib.Core.Path.{_≡_, sym, ap, _∙_}
 use mathlib.Core.Logic.{⊎-elim}
@@ -12,12 +11,13 @@ use lib.ListN.{length, getD, take, drop, length-drop, drop-of-length-le}
 use lib.Seq.{drop-cons}
 use Rattle.text.specs.Text.{indexOf, linesOf}
 use Rattle.text.proofs.Searching.{index-within}
-use Rattle.text.proofs.Lines.{lines-next, lines-none}
+use Rattle.text.proofs.Lines.{lines-next}
 use Rattle.text.specs.Parts.{Skipped}
 use Rattle.text.proofs.FieldTurns.{part-end}
 
 -- what is left after a part is shorter, whatever byte ends the part
-pub skipped-shorter : (rest : List ℕ) {e r : ℕ} → 0 < length rest → Skipped e (length rest) r → length (take (length rest - r) (drop r rest)) < length rest
+pub skipped-shorter : (rest : List ℕ) {e r : ℕ} → 0 < length rest → Skipped e (length rest) r
+    → length (take (length rest - r) (drop r rest)) < length rest
 skipped-shorter rest {e} {r} some s = rw (part-end rest r) (go (decLe (length rest) e))
   where
     go : Dec (length rest ≤ e) → length (drop r rest) < length rest

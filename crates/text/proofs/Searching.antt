@@ -1,5 +1,4 @@
 -- The search for a byte: what holds while it has not been met before index i.
--- Assumes nothing.
 use Prim.Native.Nat.{ℕ, zero, suc, _+_, _≤_, _<_}
 use mathlib.Core.Path.{_≡_, refl, sym, ap, _∙_}
 use mathlib.Core.Bool.{Bool, true, false, cond, _||_}
@@ -10,6 +9,7 @@ use lib.ListN.{length, getD, take, drop, length-drop, drop-of-length-le}
 use lib.Seq.{drop-cons, drop-drop}
 use lib.Dec.{eqb}
 use borrow.Author.Tests.{eq-eqb, ne-eqb}
+use Rattle.text.proofs.Clash.{clash}
 use Rattle.text.specs.Text.{indexOf}
 use Rattle.text.specs.Parts.{Passed}
 
@@ -52,16 +52,17 @@ pub record Holding (b : ℕ) (s : List ℕ) (found : Bool) (i : ℕ) : Type 0 wh
 pub holding-start : (b : ℕ) (s : List ℕ) → Holding b s false 0
 holding-start b s = record { most = omega arith; none = λ e. searching-start b s }
 
-pub holding-step : {b : ℕ} {s : List ℕ} {found : Bool} {i : ℕ} → Holding b s found i → i < length s → Holding b s (found || eqb (getD s i 0) b) (i + 1)
+pub holding-step : {b : ℕ} {s : List ℕ} {found : Bool} {i : ℕ} → Holding b s found i → i < length s
+    → Holding b s (found || eqb (getD s i 0) b) (i + 1)
 holding-step {b} {s} {found} {i} a h = record { most = omega arith; none = λ e. go found (eqb (getD s i 0) b) refl (a .none) e }
   where
     go : (f t : Bool) → eqb (getD s i 0) b ≡ t → (f ≡ false → Passed b s i) → (f || t) ≡ false → Passed b s (i + 1)
-    go true t p n e = let z : _≡_ {A = ℕ} 0 1 = cc in absurd (omega arith)
-    go false true p n e = let z : _≡_ {A = ℕ} 0 1 = cc in absurd (omega arith)
+    go true t p n e = clash cc
+    go false true p n e = clash cc
     go false false p n e = searching-step (n refl) h (λ q. absurd (other (sym (eq-eqb _ _ q) ∙ p)))
       where
         other : true ≡ false → ⊥
-        other q = let z : _≡_ {A = ℕ} 0 1 = cc in omega arith
+        other q = clash cc
 
 -- a text whose first k bytes are not b
 index-past : (b k : ℕ) (s : List ℕ) → k ≤ length s → k ≤ indexOf b (take k s) → indexOf b s ≡ k + indexOf b (drop k s)
@@ -70,7 +71,8 @@ index-past b zero s h l = omega arith
 index-past b (suc k) [] h l = absurd (omega arith)
 index-past b (suc k) (x ∷ s) h l = step (eqb x b) (λ m. index-past b k s (omega arith) m) l
   where
-    step : (t : Bool) → (k ≤ indexOf b (take k s) → indexOf b s ≡ k + indexOf b (drop k s)) → suc k ≤ cond t zero (suc (indexOf b (take k s)))
+    step : (t : Bool) → (k ≤ indexOf b (take k s) → indexOf b s ≡ k + indexOf b (drop k s))
+        → suc k ≤ cond t zero (suc (indexOf b (take k s)))
         → cond t zero (suc (indexOf b s)) ≡ suc k + indexOf b (drop k s)
     step true next m = absurd (omega arith)
     step false next m = omega (arith, next (omega arith))
@@ -88,9 +90,15 @@ index-part b (suc k) (x ∷ s) h l = step (eqb x b) (λ m. index-part b k s (ome
     step false next m = ap suc (next (omega arith))
 
 -- a part of k bytes from i on, none of them b
-pub part-passed : {b : ℕ} {s : List ℕ} {i : ℕ} (k : ℕ) → Passed b s i → i + k ≤ length s → Passed b (take k (drop i s)) k → Passed b s (i + k)
+pub part-passed : {b : ℕ} {s : List ℕ} {i : ℕ} (k : ℕ) → Passed b s i → i + k ≤ length s → Passed b (take k (drop i s)) k
+    → Passed b s (i + k)
 part-passed {b} {s} {i} k a h p =
     record {
       within = h;
-      passed = a .passed ∙ rw (← drop-drop k i s) (omega (arith, index-past b k (drop i s) (omega (arith, length-drop i s)) (omega (arith, p .passed))));
+      passed =
+          a .passed ∙ rw (← drop-drop k i s) (omega (
+            arith,
+            index-past b k (drop i s) (omega (arith, length-drop i s))
+                (omega (arith, p .passed)),
+          ));
     }

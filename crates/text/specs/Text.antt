@@ -1,5 +1,4 @@
 -- Bytes into lines and fields. Document 01, 'The sheet': "A line ends with one byte 10. Fields are parted by one comma."
--- Assumes nothing.
 use Prim.Native.Nat.{ℕ, zero, suc}
 use Prim.Native.Char.{code}
 use Prim.Native.String.{String, [] as ends, _∷_ as _then_}

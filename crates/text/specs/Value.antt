@@ -1,5 +1,4 @@
 -- Values. Document 01, 'The sheet': "A value is one to six decimal digits; 0 is the only value that may start with 0."
--- Assumes nothing.
 use Prim.Native.Nat.{ℕ, _+_, _*_, _-_}
 use mathlib.Core.Bool.{Bool, true, not, cond, _&&_, _||_}
 use mathlib.Core.List.{List, [], _∷_}

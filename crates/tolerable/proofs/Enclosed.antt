@@ -1,20 +1,16 @@
 -- The tolerable voltages' ends include the exact values' ends.
--- Assumes nothing.
-use Prim.Native.Nat.{ℕ, _+_, _*_, _^_, _≤_, _<_}
-use mathlib.Core.Path.{_≡_, refl, ap}
+use Prim.Native.Nat.{ℕ, _+_, _*_, _^_}
+use mathlib.Core.Path.{_≡_, refl}
 use mathlib.Core.Bool.{Bool, true, false, cond}
 use native.Mathlib.Omega.{arith}
 use native.Mathlib.Nat.{zero-lt-suc}
 use lib.Dec.{lit≤, eqb}
-use lib.IntN.{ℤ, pos}
-use Rattle.interval.specs.Operations.{natural, point, sumOf, scaledOf, quotientOf}
-use Rattle.interval.specs.Span.{Span}
-use Rattle.interval.specs.Root.{RootEnds}
-use Rattle.interval.specs.declared.Interval.{Interval}
+use lib.IntN.{pos}
+use Rattle.interval.specs.Operations.{natural}
 use Rattle.interval.proofs.Natural.{point-natural, natural-sum, natural-scaled}
 use Rattle.interval.proofs.Span.{span-divisor}
 use Rattle.exact.specs.Fraction.{Fraction, _≤f_, _≈f_, whole, decimal, _+f_, _·f_}
-use Rattle.exact.specs.Exact.{Exact, exactly, _÷x_}
+use Rattle.exact.specs.Exact.{exactly, _÷x_}
 use Rattle.exact.specs.Reported.{Scale, ten, over, reported}
 use Rattle.exact.proofs.Order.{trans≤, refl≤, refl≈, sym≈, nonneg}
 use Rattle.exact.proofs.Sums.{mono+}
@@ -22,7 +18,6 @@ use Rattle.exact.proofs.Products.{mul≤, mul-left≤, cong·}
 use Rattle.exact.proofs.Points.{Point}
 use Rattle.exact.proofs.Consistency.{consistent-exactly}
 use Rattle.enclosure.specs.Enclosure.{Encloses}
-use Rattle.enclosure.specs.SquareRoot.{squareRoot, rootPair}
 use Rattle.enclosure.proofs.SquareRoot.{pair-ends}
 use Rattle.enclosure.proofs.Basics.{encloses-exactly, encloses-decimal}
 use Rattle.enclosure.proofs.Quotients.{encloses-quotient}
@@ -33,7 +28,7 @@ use Rattle.formulas.specs.Tolerable.{Q, k, rootTime, tolerableTouch, tolerableS
 use Rattle.formulas.specs.Width.{mV}
 use Rattle.formulas.proofs.Positive.{decimal-nonneg}
 use Rattle.formulas.proofs.Consistent.{quantity-rootTime}
-use Rattle.tolerable.specs.Ends.{layerEnds, bodyFactor, timeRoot, topEnds, tolerableEnds, touchEnds, stepEnds}
+use Rattle.tolerable.specs.Ends.{bodyFactor, timeRoot, topEnds, tolerableEnds, touchEnds, stepEnds}
 use Rattle.tolerable.proofs.Layer.{layer-span}
 use Rattle.tolerable.proofs.Surface.{layer-point}
 use Rattle.tolerable.proofs.Spans.{time-span}
@@ -70,7 +65,8 @@ grows : (share : Fraction) {p q f g : Fraction} → whole 0 ≤f share → whole
 grows share n m h e = trans≤ (mul≤ m (mono+ (refl≤ (whole 1000)) (mul-left≤ n h))) (cong· (refl≈ _) e .to)
 
 module _ {c : Case} (b : Bounds c) where
-  top-is : (weight : ℕ) → topEnds c weight ≡ natural ((2000000 + layer-span b .a * weight) * bodyFactor c) ((2000000 + layer-span b .b * weight) * bodyFactor c)
+  top-is : (weight : ℕ)
+      → topEnds c weight ≡ natural ((2000000 + layer-span b .a * weight) * bodyFactor c) ((2000000 + layer-span b .b * weight) * bodyFactor c)
   unfolding topEnds
   top-is weight =
       let s = layer-span b in

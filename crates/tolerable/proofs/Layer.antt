@@ -1,19 +1,16 @@
 -- The layer effect: its ends are natural numbers, and Q lies between them.
--- Assumes nothing.
 use Prim.Native.Nat.{ℕ, _+_, _*_, _/_, _≤_, _<_}
-use mathlib.Core.Path.{_≡_, refl, sym, ap, _∙_}
-use mathlib.Core.Bool.{Bool, true, false, cond}
+use mathlib.Core.Path.{_≡_, ap}
+use mathlib.Core.Bool.{cond}
 use mathlib.Core.Logic.{_⊎_, inl, inr, ⊎-elim}
 use native.Mathlib.Omega.{arith}
-use native.Mathlib.Nat.{mul-le-mul-right, mul-le-mul-left}
+use native.Mathlib.Nat.{mul-le-mul-right}
 use lib.Dec.{eqb}
 use borrow.Author.Tests.{ne-eqb}
 use lib.IntN.{ℤ, pos, _-ℤ_}
-use Rattle.interval.specs.Signed.{plus, minus}
 use Rattle.interval.specs.Whole.{floorZ, ceilZ, ceilDiv}
 use Rattle.interval.specs.Operations.{natural, point, size, differenceOf, outwardOf}
 use Rattle.interval.specs.Span.{Span}
-use Rattle.interval.specs.declared.Interval.{Interval}
 use Rattle.interval.proofs.Signed.{difference-is, floor-below, floor-above}
 use Rattle.interval.proofs.Rounding.{ceilDiv-by, ceil-above, ceil-below, floor-is, ceil-is}
 use Rattle.interval.proofs.Sizes.{size-point, size-difference}
@@ -72,7 +69,8 @@ pub layer-span : {c : Case} → Bounds c → Span (layerEnds c) 0 10000000 1
 unfolding layerEnds
 layer-span {c} b =
     by-surface (λ i. Span i 0 10000000 1) (b .surface)
-    (λ z. span-wider (span-point (1000 * c .soil) {l = 0} {h = 10000000} (omega arith) (omega (arith, b .soil .high))) (omega arith) (omega arith) (omega arith))
+    (λ z. span-wider (span-point (1000 * c .soil) {l = 0} {h = 10000000} (omega arith) (omega (arith, b .soil .high))) (omega arith)
+    (omega arith) (omega arith))
     (λ l.
     let d : ℕ = 2 * c .thick + 90 in
     let p : 0 < d = omega arith in

@@ -1,5 +1,4 @@
 -- A shorter shock or a heavier body, all else equal but fault current and split: the ends of the tolerable voltages rise or stay.
--- Assumes nothing.
 use Prim.Native.Nat.{ℕ, _*_, _^_, _≤_}
 use mathlib.Core.Path.{_≡_}
 use mathlib.Core.Bool.{Bool, true, false, cond}
@@ -25,7 +24,8 @@ body-rises a b (inl e) h = rw e (least (eqb b 50))
     least false = lit≤ tt
 body-rises a b (inr e) h = rw (e, ne-eqb b 50 (λ z. omega arith)) (lit≤ tt)
 
-module _ {c : Case} (b : Bounds c) (fault split shock body : ℕ) (least : 9 ≤ shock) (shorter : shock ≤ c .shock) (heavier : c .body ≤ body) where
+module _ {c : Case} (b : Bounds c) (fault split shock body : ℕ) (least : 9 ≤ shock) (shorter : shock ≤ c .shock)
+    (heavier : c .body ≤ body) where
   abbrev other : Case
   other = eased fault split shock body c
 
@@ -36,7 +36,8 @@ module _ {c : Case} (b : Bounds c) (fault split shock body : ℕ) (least : 9 ≤
   tolerable-rises : (weight : ℕ) → Below (tolerableEnds c weight) (tolerableEnds other weight)
   unfolding tolerableEnds timeRoot
   tolerable-rises weight =
-      below-divided (top-rises weight) 50000 (lit< tt) (root-span (shock * 10 ^ 13) 9000000 200000000 (omega arith) (omega (arith, b .shock .high)))
+      below-divided (top-rises weight) 50000 (lit< tt)
+      (root-span (shock * 10 ^ 13) 9000000 200000000 (omega arith) (omega (arith, b .shock .high)))
       (root-below (shock * 10 ^ 13) (c .shock * 10 ^ 13) (mul-le-mul-right (10 ^ 13) shorter))
 
   pub touch-rises : Below (touchEnds c) (touchEnds other)

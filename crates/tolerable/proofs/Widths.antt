@@ -1,18 +1,14 @@
 -- The tolerable voltages' ends are no further apart than document 01 allows: 1/10,000 of the lower end plus 10 mV.
--- Assumes nothing.
 use Prim.Native.Nat.{ℕ, _+_, _*_, _/_, _≤_, _<_}
-use mathlib.Core.Path.{_≡_, refl}
 use native.Mathlib.Omega.{arith}
 use native.Mathlib.Nat.{mul-le-mul-left, mul-le-mul-right, le-trans, lt-of-mul-lt-mul-right, le-of-suc-le-suc}
 use lib.Dec.{lit≤}
-use lib.IntN.{pos}
 use Rattle.interval.specs.Whole.{ceilDiv}
-use Rattle.interval.specs.Operations.{natural, quotientOf}
-use Rattle.interval.specs.Span.{Span, Relative}
-use Rattle.interval.specs.declared.Interval.{Interval}
+use Rattle.interval.specs.Operations.{natural}
+use Rattle.interval.specs.Span.{Relative}
 use Rattle.interval.proofs.Natural.{natural-quotient}
 use Rattle.interval.proofs.Rounding.{floorDiv-above, ceilDiv-below}
-use Rattle.exact.specs.Fraction.{_≤f_, decimal, _+f_, neg, _−f_, _·f_}
+use Rattle.exact.specs.Fraction.{decimal, _+f_, neg, _−f_, _·f_}
 use Rattle.exact.specs.Reported.{ten, over, reported, AtMost}
 use Rattle.case.specs.declared.Case.{Case}
 use Rattle.case.specs.Bounds.{Bounds}
@@ -52,7 +48,8 @@ tolerable-near {c} b weight h =
     }
 
 -- the width of document 01 from the width in whole millivolts
-within-allowed : (a b : ℕ) → 10000 * b ≤ 10001 * a + 10000 * 10 → AtMost (tolerableWidth (reported mV (natural a b))) (reported mV (natural a b))
+within-allowed : (a b : ℕ) → 10000 * b ≤ 10001 * a + 10000 * 10
+    → AtMost (tolerableWidth (reported mV (natural a b))) (reported mV (natural a b))
 unfolding tolerableWidth reported mV ten over natural decimal _·f_ _+f_ _−f_ neg
 within-allowed a b h = record { apart = record { le = omega arith } }
 

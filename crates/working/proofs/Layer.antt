@@ -1,5 +1,4 @@
 -- Cs as one fraction: that it lies between its ends, and that Q is Cs times the surface's resistivity.
--- Assumes nothing.
 use Prim.Native.Nat.{ℕ, _+_, _*_, _^_, _≤_, _<_}
 use mathlib.Core.Path.{_≡_, refl}
 use mathlib.Core.Logic.{⊎-elim}
@@ -141,4 +140,5 @@ module _ {c : Case} (b : Bounds c) where
       (λ l.
       let p : 0 < full c = omega (arith, full-bounds l .low) in
       span-divide (full c) (10 ^ 9) 300000000 6450000000000000 0 p (omega (arith, derated-least l))
-      (omega (arith, derated-most l, full-bounds l .low)) (omega arith) (span-point (derated c) {l = derated c} {h = 6450000} (omega arith) (derated-most l)))
+      (omega (arith, derated-most l, full-bounds l .low)) (omega arith)
+      (span-point (derated c) {l = derated c} {h = 6450000} (omega arith) (derated-most l)))

@@ -1,5 +1,4 @@
 -- Least values of Kii, Km and Ks, so that their widths may be told as a share of them.
--- Assumes nothing.
 use Prim.Native.Nat.{ℕ, zero, suc, _+_, _*_, _/_, _^_, _≤_, _<_}
 use mathlib.Core.Path.{_≡_, ap}
 use native.Mathlib.Omega.{arith}
@@ -83,7 +82,8 @@ power-least b h =
 -- ---- Kii
 
 -- of unequal counts
-power-span : {i : Interval} {l w width : ℕ} → Span i l 1400000000 w → Span (expPair i) 0 1000000000 width → Span (expPair i) 100000000 1000000000 width
+power-span : {i : Interval} {l w width : ℕ} → Span i l 1400000000 w → Span (expPair i) 0 1000000000 width
+    → Span (expPair i) 100000000 1000000000 width
 unfolding expPair expEnds natural
 power-span s e = span-from (ap (λ j. expPair j .lower) (s .is)) (power-least (s .b) (s .to)) e
 
@@ -95,7 +95,8 @@ unfolding innerEnds
 inner-least {a} {b} h =
     by-place (λ i. Span i 0 1000000000 610 → Span i 100000000 1000000000 610) (eqb a b)
     (λ e s.
-    span-wider (span-quotient 1000000000 249999999 1000000000 1 (lit< tt) (lit≤ tt) (lit≤ tt) (lit≤ tt) one-span (line-root-span (h .across))) (lit≤ tt)
+    span-wider (span-quotient 1000000000 249999999 1000000000 1 (lit< tt) (lit≤ tt) (lit≤ tt) (lit≤ tt) one-span
+    (line-root-span (h .across))) (lit≤ tt)
     (lit≤ tt) (lit≤ tt))
     (λ e s. power-span (exponent-span h e) s) (inner-span h)
 

@@ -1,5 +1,4 @@
 -- The working of a case within its bounds is right, and the answer to a record.
--- Assumes nothing.
 use Prim.Native.Nat.{ℕ, _*_}
 use mathlib.Core.Path.{_≡_, refl, sym, _∙_}
 use lib.Dec.{lit≤}
@@ -36,7 +35,8 @@ use Rattle.step.proofs.Enclosed.{length-is}
 use Rattle.working.specs.declared.Quantities.{Quantities}
 use Rattle.working.specs.declared.Worked.the-variants as worked
 use Rattle.working.specs.Ends.{workingOf}
-use Rattle.working.specs.Working.{millionth, hundredThousandth, drivenWidth, RightWorking, workingAnswer, RightWorked, WorkingAnswered}
+use Rattle.working.specs.Working.{millionth, hundredThousandth, drivenWidth, RightWorking, workingAnswer, RightWorked}
+use Rattle.working.specs.Working.{WorkingAnswered}
 use Rattle.working.proofs.Layer.{factor-encloses, effect-is-derated, factor-span}
 use Rattle.working.proofs.Leasts.{Kii-span, Km-span, Ks-span}
 use Rattle.working.proofs.Widths.{millionth-narrow, hundred-thousandth-narrow, point-narrow, mesh-length-narrow, driven-narrow}
@@ -49,18 +49,28 @@ right-working {c} b =
       cs = reports millionth (consistent-exactly _) (factor-encloses b) (millionth-narrow (ten 9) (lit≤ tt) (factor-span b));
       root-time = reports millionth (quantity-rootTime b .consistent) (time-encloses b) (millionth-narrow (ten 8) (lit≤ tt) (time-span b));
       side = reports millionth (quantity-s b .consistent) (side-encloses b) (millionth-narrow (ten 6) (lit≤ tt) (side-span b));
-      lc = reports millionth (consistent-exactly _) (length-encloses (conductorLength c) (conductor-is c)) (point-narrow (ten 6) (1000 * conductorLength c));
+      lc =
+          reports millionth (consistent-exactly _) (length-encloses (conductorLength c) (conductor-is c))
+          (point-narrow (ten 6) (1000 * conductorLength c));
       lr = reports millionth (consistent-exactly _) (length-encloses (rodLength c) (rod-is c)) (point-narrow (ten 6) (1000 * rodLength c));
-      lt = reports millionth (consistent-exactly _) (length-encloses (totalLength c) (total-is c)) (point-narrow (ten 6) (1000 * totalLength c));
+      lt =
+          reports millionth (consistent-exactly _) (length-encloses (totalLength c) (total-is c))
+          (point-narrow (ten 6) (1000 * totalLength c));
       lm = reports millionth (m .consistent) (mesh-length-encloses b) (mesh-length-narrow b);
-      ls = reports millionth (consistent-exactly _) (encloses-count (pos (50 * stepLength c)) (ten 6) (length-is c)) (point-narrow (ten 6) (50 * stepLength c));
+      ls =
+          reports millionth (consistent-exactly _) (encloses-count (pos (50 * stepLength c)) (ten 6) (length-is c))
+          (point-narrow (ten 6) (50 * stepLength c));
       n = reports millionth (quantity-n b .consistent) (n-encloses b) (millionth-narrow (ten 7) (lit≤ tt) (n-span (counts b)));
       ki = reports millionth (quantity-Ki b .consistent) (Ki-encloses b) (millionth-narrow (ten 10) (lit≤ tt) (Ki-span (counts b)));
-      kii = reports hundredThousandth (quantity-Kii b .consistent) (ME.kii-encloses b) (hundred-thousandth-narrow (ten 9) (lit≤ tt) (Kii-span b));
+      kii =
+          reports hundredThousandth (quantity-Kii b .consistent) (ME.kii-encloses b)
+          (hundred-thousandth-narrow (ten 9) (lit≤ tt) (Kii-span b));
       kh = reports millionth (quantity-Kh b .consistent) (ME.depth-encloses b) (millionth-narrow (ten 9) (lit≤ tt) (depth-span b));
       km = reports hundredThousandth (consistent-Km b) (ME.factor-encloses b) (hundred-thousandth-narrow (ten 7) (lit≤ tt) (Km-span b));
       ks = reports hundredThousandth (consistent-Ks b) (SE.factor-encloses b) (hundred-thousandth-narrow (ten 7) (lit≤ tt) (Ks-span b));
-      driven = reports drivenWidth (consistent-quotient (m .positive) (drive-consistent b) (m .consistent)) (driven-encloses b) (driven-narrow b);
+      driven =
+          reports drivenWidth (consistent-quotient (m .positive) (drive-consistent b) (m .consistent)) (driven-encloses b)
+          (driven-narrow b);
       layer-effect = effect-is-derated b;
       mesh-follows = refl;
     }

@@ -1,5 +1,4 @@
 -- The pairs of a working are no wider than allowed.
--- Assumes nothing.
 use Prim.Native.Nat.{ℕ, _+_, _*_, _^_, _≤_}
 use native.Mathlib.Omega.{arith}
 use native.Mathlib.Nat.{mul-le-mul-right}
@@ -25,7 +24,8 @@ module _ (u : Scale) (a b : ℕ) where
   share-near e h = record { apart = record { le = omega (arith, mul-le-mul-right (u .count * u .count) h) } }
 
 -- ends at most w apart, from 1,000,000·w on
-pub millionth-narrow : (u : Scale) {i : Interval} {l h w : ℕ} → w * 10 ^ 6 ≤ l → Span i l h w → AtMost (millionth (reported u i)) (reported u i)
+pub millionth-narrow : (u : Scale) {i : Interval} {l h w : ℕ} → w * 10 ^ 6 ≤ l → Span i l h w
+    → AtMost (millionth (reported u i)) (reported u i)
 unfolding millionth reported natural
 millionth-narrow u few s = rw (s .is) (share-near u (s .a) (s .b) 6 (omega (arith, s .near, s .from)))
 

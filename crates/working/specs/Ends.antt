@@ -1,6 +1,5 @@
 -- The working of a case by the names of its ends. All but Cs are the ends that its row is worked from. Names for the free part: callers use
 -- their laws.
--- Assumes nothing.
 use Prim.Native.Nat.{ℕ, _+_, _*_, _^_}
 use mathlib.Core.Bool.{cond}
 use lib.Dec.{eqb}

@@ -1,5 +1,4 @@
 -- The derating factor of the surface layer. IEEE Std 80-2013, equation 27.
--- Assumes nothing.
 use mathlib.Core.Bool.{cond}
 use lib.Dec.{eqb}
 use Rattle.exact.specs.Fraction.{Fraction, whole, decimal, _+f_, _−f_, _·f_, _÷f_}

@@ -1,5 +1,4 @@
 -- What a right working is: the quantities that IEEE Std 80-2013, Annex B, prints of a case between its record and its row.
--- Assumes nothing.
 use mathlib.Core.Path.{_≡_}
 use Rattle.interval.specs.Operations.{productOf}
 use Rattle.exact.specs.Fraction.{Fraction, _≈f_, decimal, _+f_, _·f_}
@@ -69,8 +68,8 @@ unfoldable pub RightWorked : Case → Worked → Type 0
 RightWorked c (Is w) = RightWorking c w
 RightWorked c (Refused number line column) = Unit {0}
 
--- the answer by the name of its working, and what holds of it. Two wrong programs: one that refuses every record breaks `answer`; one whose Cs is 1
--- with a layer too, by that name, breaks `right`.
+-- the answer by the name of its working, and what holds of it. Two wrong programs: one that refuses every record breaks `answer`; one whose
+-- Cs is 1 with a layer too, by that name, breaks `right`.
 pub record WorkingAnswered (c : Case) (r : Worked) : Type 0 where
   pub answer : r ≡ workingAnswer c
   pub right : RightWorked c r

@@ -1,5 +1,4 @@
 -- A pass over the m lines of k numbers of a table: those before line i are passed, and `rest` holds the numbers of the others.
--- Assumes nothing.
 use Prim.Native.Nat.{ℕ, suc, _+_, _*_, _-_, _≤_, _<_}
 use mathlib.Core.Path.{_≡_, ap, _∙_}
 use mathlib.Core.List.{List, [], _∷_}

@@ -1,5 +1,4 @@
 -- Lines and fields into bytes. Document 01, 'The sheet': "A line ends with one byte 10. Fields are parted by one comma."
--- Assumes nothing.
 use Prim.Native.Nat.{ℕ}
 use mathlib.Core.Bool.{Bool, true, not, _&&_}
 use mathlib.Core.List.{List, [], _∷_, _++_, map}

@@ -1,5 +1,4 @@
 -- What holds of an answer: an answer that is no refusal is the search's, over yards that are sound cases.
--- Assumes nothing.
 use Prim.Native.Nat.{ℕ, zero, suc, _<_}
 use mathlib.Core.Path.{_≡_, refl, sym, ap, _∙_}
 use mathlib.Core.Bool.{Bool, true, false, cond, _&&_}
@@ -7,6 +6,7 @@ use mathlib.Core.List.{List, [], _∷_}
 use native.Mathlib.Omega.{arith}
 use lib.Dec.{leb, eqb}
 use lib.ListN.{length, getD}
+use Rattle.text.proofs.Clash.{clash}
 use Rattle.case.specs.declared.Case.{Case}
 use Rattle.case.specs.declared.Judged.{Judged}
 use Rattle.case.specs.declared.Judged.the-variants as judged
@@ -59,10 +59,10 @@ module _ (c : Case) (side : ℕ) (r : FewestLines) (told : (k l m : ℕ) → Ref
 
 module _ {c : Case} {side : ℕ} where
   pub found-searched : {lines rods place : ℕ} → answer c side ≡ Found lines rods place → Searched c side (Found lines rods place)
-  found-searched {lines} {rods} {place} e = searched c side (Found lines rods place) (λ k l m q. let z : _≡_ {A = ℕ} 0 1 = cc in omega arith) e
+  found-searched {lines} {rods} {place} e = searched c side (Found lines rods place) (λ k l m q. clash cc) e
 
   pub none-searched : {tried : ℕ} → answer c side ≡ None tried → Searched c side (None tried)
-  none-searched {tried} e = searched c side (None tried) (λ k l m q. let z : _≡_ {A = ℕ} 0 1 = cc in omega arith) e
+  none-searched {tried} e = searched c side (None tried) (λ k l m q. clash cc) e
 
 -- ---- a yard of the list
 
@@ -72,7 +72,8 @@ every-at P d [] h i l = absurd (omega arith)
 every-at P d (y ∷ ys) h zero l = h .0
 every-at P d (y ∷ ys) h (suc i) l = every-at P d ys (h .1) i (omega arith)
 
-pub tried-at : {c : Case} {side : ℕ} → Bounds (yard c 2500 2 4) → (i : ℕ) → i < length (yards c side) → Tried c side (getD (yards c side) i c)
+pub tried-at : {c : Case} {side : ℕ} → Bounds (yard c 2500 2 4) → (i : ℕ) → i < length (yards c side)
+    → Tried c side (getD (yards c side) i c)
 tried-at {c} {side} b i l = every-at (Tried c side) c (yards c side) (yards-sound c side b) i l
 
 pub answered-yard : {y : Case} → Bounds y → AnsweredYard y
@@ -83,8 +84,7 @@ unfolding isSafe meansSafe
 not-safe y u e =
     let s : caseVerdict y ≡ Safe = sym (row-verdict y) ∙ e in
     let q : true ≡ false = (rw s at u) in
-    let z : _≡_ {A = ℕ} 0 1 = cc in
-    omega arith
+    clash cc
 
 -- ---- the answer is right
 

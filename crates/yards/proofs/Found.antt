@@ -1,10 +1,9 @@
 -- What a found yard is: a case within its bounds whose verdict is safe.
--- Assumes nothing.
 use Prim.Native.Nat.{ℕ, suc}
 use mathlib.Core.Path.{_≡_, refl, _∙_}
 use mathlib.Core.Bool.{Bool, true, false, cond}
 use mathlib.Core.List.{List, [], _∷_}
-use native.Mathlib.Omega.{arith}
+use Rattle.text.proofs.Clash.{clash}
 use Rattle.case.specs.declared.Case.{Case}
 use Rattle.case.specs.Bounds.{Bounds}
 use Rattle.row.specs.declared.Verdict.{Verdict}
@@ -23,17 +22,19 @@ pub record FoundYard (c : Case) (side lines rods : ℕ) : Type 0 where
 pub means-safe : (v : Verdict) → meansSafe v ≡ true → v ≡ Safe
 unfolding meansSafe
 means-safe Safe e = refl
-means-safe Unsafe e = let z : _≡_ {A = ℕ} 0 1 = cc in absurd (omega arith)
-means-safe Undecided e = let z : _≡_ {A = ℕ} 0 1 = cc in absurd (omega arith)
+means-safe Unsafe e = clash cc
+means-safe Undecided e = clash cc
 
-safe-yard : {c : Case} {side : ℕ} (lines rods : ℕ) → Bounds (yard c side lines rods) → isSafe (yard c side lines rods) ≡ true → FoundYard c side lines rods
+safe-yard : {c : Case} {side : ℕ} (lines rods : ℕ) → Bounds (yard c side lines rods) → isSafe (yard c side lines rods) ≡ true
+    → FoundYard c side lines rods
 unfolding isSafe
 safe-yard lines rods b e = record { sound = b; safe = means-safe _ e }
 
 module _ (c : Case) (side : ℕ) where
-  found-in : (t : ℕ) (ys : List Case) {lines rods place : ℕ} → Every (Tried c side) ys → firstSafe t ys ≡ Found lines rods place → FoundYard c side lines rods
+  found-in : (t : ℕ) (ys : List Case) {lines rods place : ℕ} → Every (Tried c side) ys → firstSafe t ys ≡ Found lines rods place
+      → FoundYard c side lines rods
   unfolding firstSafe Every
-  found-in t [] s e = let z : _≡_ {A = ℕ} 0 1 = cc in absurd (omega arith)
+  found-in t [] s e = clash cc
   found-in t (y ∷ ys) {lines} {rods} {place} s e = go (isSafe y) refl e (found-in (suc t) ys (s .1))
     where
       go : (b : Bool) → isSafe y ≡ b → cond b (Found (y .across) (y .rods) (suc t)) (firstSafe (suc t) ys) ≡ Found lines rods place

@@ -1,5 +1,4 @@
 -- What an answer of the search says of its list: the place of the first safe yard, or that none is.
--- Assumes nothing.
 use Prim.Native.Nat.{ℕ, zero, suc, _+_, _<_}
 use mathlib.Core.Path.{_≡_, refl}
 use mathlib.Core.Bool.{Bool, true, false, cond}
@@ -32,8 +31,17 @@ Says d t ys (Refused number line column) = ⊥
 module _ (d : Case) where
   later : (y : Case) (ys : List Case) (t : ℕ) → isSafe y ≡ false → (r : FewestLines) → Says d (suc t) ys r → Says d t (y ∷ ys) r
   unfolding Says
-  later y ys t s (Found lines rods place) (at, e, f) =
-      (suc at, omega arith, record { within = omega (arith, f .within); lines-are = f .lines-are; rods-are = f .rods-are; safe = f .safe; before = none })
+  later y ys t s (Found lines rods place) (at, e, f) = (
+    suc at,
+    omega arith,
+    record {
+      within = omega (arith, f .within);
+      lines-are = f .lines-are;
+      rods-are = f .rods-are;
+      safe = f .safe;
+      before = none;
+    },
+  )
     where
       none : (i : ℕ) → i < suc at → isSafe (getD (y ∷ ys) i d) ≡ false
       none zero h = s
@@ -50,8 +58,20 @@ module _ (d : Case) where
   says t [] = (omega arith, λ i h. absurd (omega arith))
   says t (y ∷ ys) = go (isSafe y) refl (says (suc t) ys)
     where
-      go : (b : Bool) → isSafe y ≡ b → Says d (suc t) ys (firstSafe (suc t) ys) → Says d t (y ∷ ys) (cond b (Found (y .across) (y .rods) (suc t)) (firstSafe (suc t) ys))
-      go true s r = (zero, omega arith, record { within = omega arith; lines-are = refl; rods-are = refl; safe = s; before = λ i h. absurd (omega arith) })
+      go : (b : Bool) → isSafe y ≡ b → Says d (suc t) ys (firstSafe (suc t) ys)
+          → Says d t (y ∷ ys) (cond b (Found (y .across) (y .rods) (suc t)) (firstSafe (suc t) ys))
+      go true s r = (
+        zero,
+        omega arith,
+        record {
+          within = omega arith;
+          lines-are = refl;
+          rods-are = refl;
+          safe = s;
+          before = λ i h.
+              absurd (omega arith);
+        },
+      )
       go false s r = later y ys t s (firstSafe (suc t) ys) r
 
   pub fewest-says : (c : Case) (side : ℕ) → Says d 0 (yards c side) (fewest c side)

@@ -1,6 +1,4 @@
 -- The list of yards, computed on a side of 70 m.
--- Assumes nothing.
-use Prim.Native.Nat.{ℕ}
 use mathlib.Core.Path.{_≡_, refl}
 use mathlib.Core.List.{[], _∷_, map}
 use lib.ListN.{length}
@@ -9,7 +7,7 @@ use Rattle.text.specs.Text.{same}
 use Rattle.case.specs.Columns.{columns, inRange, nameIndex}
 use Rattle.case.specs.Parts.{rangeAt}
 use Rattle.case.specs.Check.{countFrom}
-use Rattle.yards.specs.Yards.{spacing, spaceRange, fits, yard, rodCounts, yardsOf, yardsOver, yardsFrom, yards}
+use Rattle.yards.specs.Yards.{spacing, spaceRange, fits, rodCounts, yardsOf, yardsOver, yardsFrom, yards}
 
 -- 0, 4, 8 up to 40 rods
 rods : rodCounts 0 ≡ 0 ∷ 4 ∷ 8 ∷ 12 ∷ 16 ∷ 20 ∷ 24 ∷ 28 ∷ 32 ∷ 36 ∷ 40 ∷ []

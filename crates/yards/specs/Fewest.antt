@@ -1,5 +1,4 @@
 -- The first safe yard. Document 02 (k).
--- Assumes nothing.
 use Prim.Native.Nat.{ℕ, suc, _≤_, _<_}
 use mathlib.Core.Path.{_≡_}
 use mathlib.Core.Bool.{cond, _&&_}
@@ -33,7 +32,8 @@ mostSide = 720000
 
 -- "15 when the side is out of range; 16 when the rod length is 0"
 unfoldable pub sideAnswer : Case → ℕ → FewestLines
-sideAnswer c side = cond (leb leastSide side && leb side mostSide) (cond (eqb (c .rodlen) 0) (Refused 16 0 0) (fewest c side)) (Refused 15 0 0)
+sideAnswer c side =
+    cond (leb leastSide side && leb side mostSide) (cond (eqb (c .rodlen) 0) (Refused 16 0 0) (fewest c side)) (Refused 15 0 0)
 
 -- "its other values follow document 01's checks for one case, which come first"
 unfoldable pub answer : Case → ℕ → FewestLines
@@ -46,7 +46,8 @@ pub record AnsweredYard (y : Case) : Type 0 where
   pub sound : recordJudged y ≡ Sound
   pub right : RightRow y (rowOf y)
 
--- "stop at the first yard answered safe. The answer gives that yard's line and rod counts."; "The number of yards tried is reported, at most 264"
+-- "stop at the first yard answered safe. The answer gives that yard's line and rod counts."; "The number of yards tried is reported, at
+-- most 264"
 pub record RightFound (c : Case) (side lines rods tried : ℕ) : Type 0 where
   pub answered : AnsweredYard (yard c side lines rods)
   pub safe : rowOf (yard c side lines rods) .verdict ≡ Safe
@@ -64,8 +65,8 @@ RightAnswer c side (Found lines rods tried) = RightFound c side lines rods tried
 RightAnswer c side (None tried) = RightNone c side tried
 RightAnswer c side (Refused number line column) = Unit {0}
 
--- the answer by the list of yards, and what holds of it. Two wrong programs: one that begins with three lines breaks `answer`; one that takes an
--- undecided yard for safe, by that name, breaks `right`.
+-- the answer by the list of yards, and what holds of it. Two wrong programs: one that begins with three lines breaks `answer`; one that
+-- takes an undecided yard for safe, by that name, breaks `right`.
 pub record FewestAnswered (c : Case) (side : ℕ) (r : FewestLines) : Type 0 where
   pub answer : r ≡ answer c side
   pub right : RightAnswer c side r

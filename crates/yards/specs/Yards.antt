@@ -1,5 +1,4 @@
 -- The yards tried for a square side, in order. Document 02 (k).
--- Assumes nothing.
 use Prim.Native.Nat.{ℕ, _*_, _-_, _/_, _%_}
 use mathlib.Core.Bool.{Bool, true, false, cond, _&&_}
 use mathlib.Core.List.{List, [], _∷_, _++_, map}
@@ -82,6 +81,7 @@ meansSafe Undecided = false
 unfoldable pub isSafe : Case → Bool
 isSafe c = meansSafe (caseVerdict c)
 
--- "The case's own counts, spacing, rods and place are not read, nor compared with rodlen": a yard that agrees with the rod length in their stead
+-- "The case's own counts, spacing, rods and place are not read, nor compared with rodlen": a yard that agrees with the rod length in their
+-- stead
 unfoldable pub trial : Case → Case
 trial c = cond (eqb (c .rodlen) 0) (yard c 2500 2 0) (yard c 2500 2 4)

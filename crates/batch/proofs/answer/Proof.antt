@@ -1,5 +1,4 @@
 -- `batch::answer` is safe: the part of the table that is lent lies within it.
--- Assumes nothing.
 use mathlib.Core.Path.{sym}
 use lib.Seq.{length-take-le}
 use borrow.Author.Needs.{needs}

@@ -1,16 +1,9 @@
 -- `may_release` answers true of a safe row alone, and a right row that is safe is so of the exact values.
--- Assumes nothing.
 use Rattle.row.specs.declared.Verdict.the-variants.{Unsafe, Undecided}
 use Rattle.caller.proofs.Release.{refused-held, verdict-held, released, not-unsafe, not-undecided}
 use borrow.Author.Needs.{needs}
 use Rattle.caller.proofs.may_release.Statement.{statement}
 use Rattle.caller.proofs.may_release.Tie as tie
-
-row-requires : tie.Need-row-requires
-row-requires c κs = search needs
-
-enum-known-answer : tie.Need-enum-known-answer
-enum-known-answer c = search needs
 
 enum-told : tie.Need-enum-told
 enum-told c = search needs
@@ -18,35 +11,31 @@ enum-told c = search needs
 returns : tie.Need-returns
 returns c = refused-held (c .before .before .row .ensures) (c .enum-told .given .1)
 
-enum-told-2 : tie.Need-enum-told-2
-enum-told-2 c = search needs
-
-enum-told-3 : tie.Need-enum-told-3
-enum-told-3 c = search needs
-
-enum-told-4 : tie.Need-enum-told-4
-enum-told-4 c = search needs
-
 returns-2 : tie.Need-returns-2
-returns-2 c = let t = c .before .before in released (t .before .before .before .row .ensures) (t .before .answer .given .1) (c .enum-told2 .given .1)
+returns-2 c =
+    let t = c .before .before in released (t .before .before .before .row .ensures) (t .before .answer .given .1) (c .enum-told2 .given .1)
 
 returns-3 : tie.Need-returns-3
-returns-3 c = let t = c .before .before in verdict-held (t .before .before .before .row .ensures) (t .before .answer .given .1) Unsafe (c .enum-told3 .given .1) not-unsafe
+returns-3 c =
+    let t = c .before .before in
+    verdict-held (t .before .before .before .row .ensures) (t .before .answer .given .1) Unsafe (c .enum-told3 .given .1) not-unsafe
 
 returns-4 : tie.Need-returns-4
-returns-4 c = let t = c .before .before in verdict-held (t .before .before .before .row .ensures) (t .before .answer .given .1) Undecided (c .enum-told4 .given .1) not-undecided
+returns-4 c =
+    let t = c .before .before in
+    verdict-held (t .before .before .before .row .ensures) (t .before .answer .given .1) Undecided (c .enum-told4 .given .1) not-undecided
 
 pub may-release-spec : {M : Type 1} → statement M
 may-release-spec =
     tie.close
     (tie.spec
-    row-requires
-    enum-known-answer
+    (λ c κs. search needs)
+    (λ c. search needs)
     enum-told
     returns
-    enum-told-2
-    enum-told-3
-    enum-told-4
+    (λ c. search needs)
+    (λ c. search needs)
+    (λ c. search needs)
     returns-2
     returns-3
     returns-4)

@@ -1,5 +1,4 @@
 -- `carries::answer` is safe: the part of the buffer that is lent lies within it.
--- Assumes nothing.
 use mathlib.Core.Path.{sym}
 use lib.Seq.{length-take-le}
 use borrow.Author.Needs.{needs}

@@ -1,5 +1,4 @@
 -- `carries::at_length` is safe: a length that is not too large is at most that of the buffer.
--- Assumes nothing.
 use borrow.Author.Needs.{needs}
 use Rattle.carries.proofs.at_length.Statement.{statement}
 use Rattle.carries.proofs.at_length.Tie as tie

@@ -1,5 +1,4 @@
 -- `carries::sheet` is safe: the line of lengths is a part of the bytes.
--- Assumes nothing.
 use Rattle.text.proofs.FieldTurns.{part-length}
 use borrow.Author.Needs.{needs}
 use Rattle.carries.proofs.sheet.Statement.{statement}

@@ -1,5 +1,4 @@
 -- `carrying::answer` prints the bytes that were written: they lie within the buffer.
--- Assumes nothing.
 use mathlib.Core.Path.{sym}
 use lib.Seq.{length-take-le}
 use borrow.Author.Needs.{needs}

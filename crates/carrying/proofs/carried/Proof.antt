@@ -1,5 +1,4 @@
 -- `carrying::carried` meets its contract: each form has its own operation.
--- Assumes nothing.
 use borrow.Author.Needs.{needs}
 use Rattle.carrying.proofs.carried.Statement.{statement}
 use Rattle.carrying.proofs.carried.Tie as tie

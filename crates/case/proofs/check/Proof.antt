@@ -1,5 +1,4 @@
 -- `case::check` meets its contract: its columns are the places of the names.
--- Assumes nothing.
 use mathlib.Core.Path.{sym, ap, _∙_}
 use lib.ListN.{length}
 use borrow.Author.Needs.{needs}
@@ -8,15 +7,6 @@ use Rattle.case.specs.Check.{countFrom, ownPlaces, finding, caseFinding,
 use Rattle.case.specs.Parts.{formOf}
 use Rattle.case.proofs.check.Statement.{statement}
 use Rattle.case.proofs.check.Tie as tie
-
-values-of-requires : tie.Need-values-of-requires
-values-of-requires c κs = search needs
-
-slice-aggregate-check-values : tie.Need-slice-aggregate-check-values
-slice-aggregate-check-values c = search needs
-
-slice-aggregate-check-values-2 : tie.Need-slice-aggregate-check-values-2
-slice-aggregate-check-values-2 c = search needs
 
 check-values-requires : tie.Need-check-values-requires
 unfolding formOf
@@ -30,8 +20,8 @@ pub check-spec : {M : Type 1} → statement M
 check-spec =
     tie.close
     (tie.spec
-    values-of-requires
-    slice-aggregate-check-values
-    slice-aggregate-check-values-2
+    (λ c κs. search needs)
+    (λ c. search needs)
+    (λ c. search needs)
     check-values-requires
     returns)

@@ -1,5 +1,4 @@
 -- `case::check_values` meets its contract, by the laws of proofs/Findings.antt.
--- Assumes nothing.
 use mathlib.Core.Path.{refl, sym, _∙_}
 use borrow.Author.Needs.{needs}
 use Rattle.case.proofs.Findings.{out-of-range, all-in-range}
@@ -7,28 +6,18 @@ use Rattle.case.proofs.RangeNumbers.{in-ranges}
 use Rattle.case.proofs.check_values.Statement.{statement}
 use Rattle.case.proofs.check_values.Tie as tie
 
-all-in-range-requires : tie.Need-all-in-range-requires
-all-in-range-requires c κs = search needs
-
-disagreement-requires : tie.Need-disagreement-requires
-disagreement-requires c κs = search needs
-
 returns : tie.Need-returns
 returns c =
-    c .disagreement .ensures ∙ all-in-range _ _ _ (sym (in-ranges _ (c .before .before .all-in-range .ensures (c .before .if1 .taken)))) refl
-
-out-of-range-requires : tie.Need-out-of-range-requires
-out-of-range-requires c κs = search needs
+    c .disagreement .ensures ∙ all-in-range _ _ _ (sym (in-ranges _ (c .before .before .all-in-range .ensures (c .before .if1 .taken))))
+    refl
 
 returns-2 : tie.Need-returns-2
 returns-2 c = out-of-range _ _ _ (c .before .out-of-range .ensures) (c .if2 .taken)
-
-disagreement-requires-2 : tie.Need-disagreement-requires-2
-disagreement-requires-2 c κs = search needs
 
 returns-3 : tie.Need-returns-3
 returns-3 c = c .disagreement2 .ensures ∙ all-in-range _ _ _ (c .before .before .out-of-range .ensures) (c .before .if2 .left)
 
 pub check-values-spec : {M : Type 1} → statement M
 check-values-spec =
-    tie.close (tie.spec all-in-range-requires disagreement-requires returns out-of-range-requires returns-2 disagreement-requires-2 returns-3)
+    tie.close (tie.spec (λ c κs. search needs) (λ c κs. search needs) returns (λ c κs. search needs) returns-2 (λ c κs. search needs)
+    returns-3)

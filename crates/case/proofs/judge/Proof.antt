@@ -1,22 +1,12 @@
 -- `judge` answers number, line and column of the finding.
--- Assumes nothing.
 use mathlib.Core.Path.{sym, _∙_}
 use Rattle.case.specs.Check.{judgedBy, recordJudged}
 use borrow.Author.Needs.{needs}
 use Rattle.case.proofs.judge.Statement.{statement}
 use Rattle.case.proofs.judge.Tie as tie
 
-check-requires : tie.Need-check-requires
-check-requires c κs = search needs
-
 enum-told : tie.Need-enum-told
 enum-told c = search needs
-
-enum-known-column : tie.Need-enum-known-column
-enum-known-column c = search needs
-
-enum-known-column-2 : tie.Need-enum-known-column-2
-enum-known-column-2 c = search needs
 
 returns : tie.Need-returns
 unfolding recordJudged judgedBy
@@ -33,4 +23,4 @@ returns-3 c = rw (sym (c .before .before .before .check .ensures) ∙ c .before 
 pub judge-spec : {M : Type 1} → statement M
 judge-spec =
     tie.close
-    (tie.spec check-requires enum-told enum-known-column enum-known-column-2 returns returns-2 returns-3)
+    (tie.spec (λ c κs. search needs) enum-told (λ c. search needs) (λ c. search needs) returns returns-2 returns-3)

@@ -1,5 +1,4 @@
 -- `case::name_count` meets its contract.
--- Assumes nothing.
 use mathlib.Core.Path.{sym}
 use borrow.Author.Needs.{needs}
 use Rattle.case.specs.Columns.{name-count, former-name-count}
@@ -10,9 +9,6 @@ use Rattle.case.proofs.name_count.Tie as tie
 enum-told : tie.Need-enum-told
 enum-told c = search needs
 
-enum-told-2 : tie.Need-enum-told-2
-enum-told-2 c = search needs
-
 returns : tie.Need-returns
 unfolding formOf
 returns c = rw (c .enum-told .given .1) (sym name-count)
@@ -22,4 +18,4 @@ unfolding formOf
 returns-2 c = rw (c .enum-told2 .given .1) (sym former-name-count)
 
 pub name-count-spec : {M : Type 1} → statement M
-name-count-spec = tie.close (tie.spec enum-told enum-told-2 returns returns-2)
+name-count-spec = tie.close (tie.spec enum-told (λ c. search needs) returns returns-2)

@@ -1,5 +1,4 @@
 -- `carry_to` reads, looks for what the form cannot say, converts and writes: the laws of proofs/Answers.antt and SoundCases.antt.
--- Assumes nothing.
 use Prim.Native.Nat.{ℕ, _*_, _≤_}
 use mathlib.Core.Path.{_≡_, sym, ap, subst, _∙_}
 use mathlib.Core.Bool.{true}
@@ -36,12 +35,6 @@ use Rattle.conversion.proofs.carry_to.Tie as tie
 form-room : (form : Form) (n : ℕ) → n ≤ mostLines → length (formOf form) * n ≤ nameCount * mostLines
 form-room form n h = omega (arith, mul-le-mul-left (length (formOf form)) h, mul-le-mul-right mostLines (form-most form))
 
-other-form-requires : tie.Need-other-form-requires
-other-form-requires c κs = search needs
-
-slice-aggregate-read : tie.Need-slice-aggregate-read
-slice-aggregate-read c = search needs
-
 read-requires : tie.Need-read-requires
 read-requires c κs = form-room _ mostLines (omega arith)
 
@@ -72,19 +65,15 @@ module _ (r : tie.After-read) {n : ℕ} (e : r .read .result ≡ Lines n) where
   unfolding casesIn
   lines-are =
       stored-parts _ lines-accepted
-      (subst (λ f. Stored (formOf f) (columnsOf (formOf f) (names (start r .args .s .now))) (valueLines (start r .args .s .now)) (r .read .last .1 .1 .0)) (r .before .before .other-form .ensures)
+      (subst (λ f. Stored (formOf f) (columnsOf (formOf f) (names (start r .args .s .now))) (valueLines (start r .args .s .now))
+      (r .read .last .1 .1 .0)) (r .before .before .other-form .ensures)
       (r .read .ensures .stored _ e))
 
-change-is : (f : tie.After-first-change) → f .first-change .result ≡ changes (start (f .before .before .before .before .before .before) .args .form) (casesIn (formOf (other (start (f .before .before .before .before .before .before) .args .form))) (start (f .before .before .before .before .before .before) .args .s .now))
+change-is : (f : tie.After-first-change)
+    → f .first-change .result ≡ changes (start (f .before .before .before .before .before .before) .args .form) (casesIn (formOf (other (start (f .before .before .before .before .before .before) .args .form))) (start (f .before .before .before .before .before .before) .args .s .now))
 change-is f =
     let n = f .before .before .before in
     f .first-change .ensures ∙ ap (changes _) (lines-are (n .before .before .before) (n .n .given .1))
-
-enum-known-number : tie.Need-enum-known-number
-enum-known-number c = search needs
-
-enum-known-n : tie.Need-enum-known-n
-enum-known-n c = search needs
 
 slice-aggregate-first-change : tie.Need-slice-aggregate-first-change
 slice-aggregate-first-change c = sym (store-count (c .before .before .before .before .before))
@@ -94,9 +83,6 @@ first-change-requires c κs =
     let n = c .before .before in
     let r = n .before .before .before in
     (omega (arith, from-room r (n .n .given .1), store-count r), lines-accepted r (n .n .given .1) .most)
-
-enum-known-change : tie.Need-enum-known-change
-enum-known-change c = search needs
 
 returns : tie.Need-returns
 returns c =
@@ -110,9 +96,6 @@ enum-told c = search needs
 
 slice-aggregate-convert : tie.Need-slice-aggregate-convert
 slice-aggregate-convert c = sym (store-count (c .before .before .before .before .before .before .before .before .before))
-
-slice-aggregate-convert-2 : tie.Need-slice-aggregate-convert-2
-slice-aggregate-convert-2 c = search needs
 
 convert-requires : tie.Need-convert-requires
 convert-requires c κs =
@@ -130,14 +113,18 @@ source v = lined v .before .before .before
 
 carried-lines : (v : tie.After-convert)
     → partsOf (length (formOf (start (source v) .args .form))) (lined v .n .given .0 .0) (v .convert .last .1 .1 .1 .0) ≡ map (carried (start (source v) .args .form)) (casesIn (formOf (other (start (source v) .args .form))) (start (source v) .args .s .now))
-carried-lines v = v .convert .ensures .lines ∙ ap (map (carried (start (source v) .args .form))) (lines-are (source v) (lined v .n .given .1))
+carried-lines v =
+    v .convert .ensures .lines ∙ ap (map (carried (start (source v) .args .form))) (lines-are (source v) (lined v .n .given .1))
 
 -- they can be written
 writable : (v : tie.After-convert)
     → allLines (length (formOf (start (source v) .args .form))) (partsOf (length (formOf (start (source v) .args .form))) (lined v .n .given .0 .0) (v .convert .last .1 .1 .1 .0)) ≡ true
 writable v =
     rw (carried-lines v)
-    (all-lines (start (source v) .args .form) [] _ (carried-cases (start (source v) .args .form) [] (casesIn (formOf (other (start (source v) .args .form))) (start (source v) .args .s .now)) (accepted-cases (lines-accepted (source v) (lined v .n .given .1)))))
+    (all-lines (start (source v) .args .form) [] _
+    (carried-cases (start (source v) .args .form) []
+    (casesIn (formOf (other (start (source v) .args .form))) (start (source v) .args .s .now))
+    (accepted-cases (lines-accepted (source v) (lined v .n .given .1)))))
 
 slice-aggregate-write-form : tie.Need-slice-aggregate-write-form
 slice-aggregate-write-form c = sym (c .before .before .before .convert .ensures .size)
@@ -157,17 +144,12 @@ written : (w : tie.After-write-form)
     → WrittenFirst (carriedText (start (source (made w)) .args .form) (start (source (made w)) .args .s .now)) (start (source (made w)) .args .buffer .now) (w .write-form .last .1 .0) (w .write-form .result)
 unfolding carriedText
 written w =
-    subst (λ l. WrittenFirst (sheetOf (formOf (start (source (made w)) .args .form)) l) (start (source (made w)) .args .buffer .now) (w .write-form .last .1 .0) (w .write-form .result)) (carried-lines (made w))
+    subst (λ l. WrittenFirst (sheetOf (formOf (start (source (made w)) .args .form)) l) (start (source (made w)) .args .buffer .now)
+    (w .write-form .last .1 .0) (w .write-form .result)) (carried-lines (made w))
     (w .write-form .ensures)
 
 abbrev kept : tie.After-write-form → tie.After-first-change
 kept w = made w .before .before .before .before .before
-
-enum-told-2 : tie.Need-enum-told-2
-enum-told-2 c = search needs
-
-enum-known-k : tie.Need-enum-known-k
-enum-known-k c = search needs
 
 returns-2 : tie.Need-returns-2
 returns-2 c = answered-source _ _ _ (judged-is (c .before .before .before .before)) (c .before .number .given .1)
@@ -198,23 +180,23 @@ pub carry-to-spec : {M : Type 1} → statement M
 carry-to-spec =
     tie.close
     (tie.spec
-    other-form-requires
-    slice-aggregate-read
+    (λ c κs. search needs)
+    (λ c. search needs)
     read-requires
-    enum-known-number
-    enum-known-n
+    (λ c. search needs)
+    (λ c. search needs)
     slice-aggregate-first-change
     first-change-requires
-    enum-known-change
+    (λ c. search needs)
     returns
     enum-told
     slice-aggregate-convert
-    slice-aggregate-convert-2
+    (λ c. search needs)
     convert-requires
     slice-aggregate-write-form
     write-form-requires
-    enum-told-2
-    enum-known-k
+    (λ c. search needs)
+    (λ c. search needs)
     returns-2
     same-length
     returns-3

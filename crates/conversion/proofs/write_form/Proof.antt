@@ -1,5 +1,4 @@
 -- `write_form` writes the form's line of names and the lines of values.
--- Assumes nothing.
 use Prim.Native.Nat.{_*_, _≤_, _<_}
 use mathlib.Core.Path.{_≡_, ap}
 use mathlib.Core.Bool.{true}
@@ -8,15 +7,11 @@ use borrow.Author.Needs.{needs}
 use lib.ListN.{length}
 use Rattle.tables.specs.Parts.{partsOf}
 use Rattle.case.specs.declared.Form.the-variants.{Present, Former}
-use Rattle.case.specs.Parts.{formOf}
 use Rattle.writing.specs.Text.{allLines}
 use Rattle.writing.proofs.Whole.{written-size}
 use Rattle.conversion.proofs.NamesLine.{form-written, some-names}
 use Rattle.conversion.proofs.write_form.Statement.{statement}
 use Rattle.conversion.proofs.write_form.Tie as tie
-
-name-count-requires : tie.Need-name-count-requires
-name-count-requires c κs = search needs
 
 enum-told : tie.Need-enum-told
 enum-told c = search needs
@@ -24,23 +19,15 @@ enum-told c = search needs
 -- the lines can be written
 ready : (c : tie.After-name-count)
     → (0 < c .name-count .result) × ((c .before .before .before .args .n * c .name-count .result ≤ length (c .before .before .before .args .values .now))
-    × (allLines (c .name-count .result) (partsOf (c .name-count .result) (c .before .before .before .args .n) (c .before .before .before .args .values .now)) ≡ true))
+    × (allLines (c .name-count .result) (partsOf (c .name-count .result) (c .before .before .before .args .n)
+    (c .before .before .before .args .values .now)) ≡ true))
 ready c =
     let s = c .before .before .before in
     let e = c .name-count .ensures in
     (omega (arith, e, some-names (s .args .form)), (omega (arith, s .pre .0, ap (λ k. k * s .args .n) e), rw e (s .pre .1 .1)))
 
-slice-aggregate-write-sheet : tie.Need-slice-aggregate-write-sheet
-slice-aggregate-write-sheet c = search needs
-
 write-sheet-requires : tie.Need-write-sheet-requires
 write-sheet-requires c κs = ready (c .before .before .before .before)
-
-enum-told-2 : tie.Need-enum-told-2
-enum-told-2 c = search needs
-
-slice-aggregate-write-sheet-2 : tie.Need-slice-aggregate-write-sheet-2
-slice-aggregate-write-sheet-2 c = search needs
 
 write-sheet-requires-2 : tie.Need-write-sheet-requires-2
 write-sheet-requires-2 c κs = ready (c .before .before .before .before)
@@ -53,7 +40,8 @@ returns c =
     let w = c .before .before in
     let t = w .before .before .before in
     let m = t .before .before in
-    rw (t .enum-told .given .1) (form-written Present (m .before .before .before .args .n) (m .before .before .before .args .values .now) (rw (t .enum-told .given .1) at (m .name-count .ensures)) (w .write-sheet .ensures))
+    rw (t .enum-told .given .1) (form-written Present (m .before .before .before .args .n) (m .before .before .before .args .values .now)
+    (rw (t .enum-told .given .1) at (m .name-count .ensures)) (w .write-sheet .ensures))
 
 same-length-2 : tie.Need-same-length-2
 same-length-2 c = written-size (c .before .before .write-sheet2 .ensures)
@@ -63,18 +51,19 @@ returns-2 c =
     let w = c .before .before in
     let t = w .before .before .before in
     let m = t .before .before in
-    rw (t .enum-told2 .given .1) (form-written Former (m .before .before .before .args .n) (m .before .before .before .args .values .now) (rw (t .enum-told2 .given .1) at (m .name-count .ensures)) (w .write-sheet2 .ensures))
+    rw (t .enum-told2 .given .1) (form-written Former (m .before .before .before .args .n) (m .before .before .before .args .values .now)
+    (rw (t .enum-told2 .given .1) at (m .name-count .ensures)) (w .write-sheet2 .ensures))
 
 pub write-form-spec : {M : Type 1} → statement M
 write-form-spec =
     tie.close
     (tie.spec
-    name-count-requires
+    (λ c κs. search needs)
     enum-told
-    slice-aggregate-write-sheet
+    (λ c. search needs)
     write-sheet-requires
-    enum-told-2
-    slice-aggregate-write-sheet-2
+    (λ c. search needs)
+    (λ c. search needs)
     write-sheet-requires-2
     same-length
     returns

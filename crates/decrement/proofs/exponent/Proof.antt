@@ -1,5 +1,4 @@
 -- `exponent` keeps within 32 and 64 bits by the bounds of what is asked.
--- Assumes nothing.
 use native.Mathlib.Omega.{arith}
 use lib.Dec.{lit<}
 use Rattle.interval.proofs.SpanFits.{scaled-fits, outward-fits}
@@ -10,9 +9,6 @@ use Rattle.decrement.proofs.Spans.{turns-bounds, over-pos, scaled-span}
 use borrow.Author.Needs.{needs}
 use Rattle.decrement.proofs.exponent.Statement.{statement}
 use Rattle.decrement.proofs.exponent.Tie as tie
-
-pi-requires : tie.Need-pi-requires
-pi-requires c κs = search needs
 
 mul-scaled : tie.Need-mul-scaled
 mul-scaled c = record { fits = omega (arith, hz-bounds (c .before .before .pre) .high) }
@@ -26,19 +22,18 @@ cast-scaled c = let h = c .before .before .before .pre in record { fits = omega 
 scaled-requires : tie.Need-scaled-requires
 scaled-requires c κs =
     let h = c .before .before .before .pre in
-    rw (c .before .before .pi .ensures) (scaled-fits 720000 (lit< tt) (lit< tt) (omega (arith, turns-bounds h .high, h .clear .high)) π-span)
+    rw (c .before .before .pi .ensures) (scaled-fits 720000 (lit< tt) (lit< tt) (omega (arith, turns-bounds h .high, h .clear .high))
+    π-span)
 
 mul-outward : tie.Need-mul-outward
 mul-outward c = let h = c .before .before .before .before .before .pre in record { fits = omega (arith, h .xr .high) }
-
-cast-outward : tie.Need-cast-outward
-cast-outward c = search needs
 
 outward-requires : tie.Need-outward-requires
 outward-requires c κs =
     let p = c .before .before .before .before in
     let h = p .before .pre in
-    rw (c .before .scaled .ensures, p .pi .ensures) (outward-fits (over-pos h) (lit< tt) (scaled-span _ (omega (arith, turns-bounds h .high, h .clear .high))))
+    rw (c .before .scaled .ensures, p .pi .ensures)
+    (outward-fits (over-pos h) (lit< tt) (scaled-span _ (omega (arith, turns-bounds h .high, h .clear .high))))
 
 returns : tie.Need-returns
 unfolding exponentEnds
@@ -50,12 +45,12 @@ pub exponent-spec : {M : Type 1} → statement M
 exponent-spec =
     tie.close
     (tie.spec
-    pi-requires
+    (λ c κs. search needs)
     mul-scaled
     mul-scaled-2
     cast-scaled
     scaled-requires
     mul-outward
-    cast-outward
+    (λ c. search needs)
     outward-requires
     returns)

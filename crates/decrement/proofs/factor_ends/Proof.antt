@@ -1,5 +1,4 @@
 -- `factor_ends` takes the roots of the square's ends times 10^9, which keep within 64 bits.
--- Assumes nothing.
 use Prim.Native.Nat.{_+_, _≤_}
 use native.Mathlib.Omega.{arith}
 use mir.Facts.{toZ-ofZ}
@@ -21,26 +20,18 @@ module _ (c : tie.After-square) where
   span : Span (c .square .result) billion 5000000009 811
   span = rw (c .square .ensures) (square-span (c .before .pre))
 
-square-requires : tie.Need-square-requires
-square-requires c κs = search needs
-
 cast-isqrt : tie.Need-cast-isqrt
 cast-isqrt c = let s = c .before .before in natural-cast (span s .a) (held s .0) (read-lower (held s) (span s))
 
 mul-isqrt : tie.Need-mul-isqrt
 mul-isqrt c = let s = c .before .before in rw (read-lower (held s) (span s)) (record { fits = omega (arith, span s .order, span s .to) })
 
-isqrt-requires : tie.Need-isqrt-requires
-isqrt-requires c κs = search needs
-
 cast-isqrt-2 : tie.Need-cast-isqrt-2
 cast-isqrt-2 c = let s = c .before .before .before .before .before in natural-cast (span s .b) (held s .1) (read-upper (held s) (span s))
 
 mul-isqrt-2 : tie.Need-mul-isqrt-2
-mul-isqrt-2 c = let s = c .before .before .before .before .before in rw (read-upper (held s) (span s)) (record { fits = omega (arith, span s .to) })
-
-isqrt-requires-2 : tie.Need-isqrt-requires-2
-isqrt-requires-2 c κs = search needs
+mul-isqrt-2 c =
+    let s = c .before .before .before .before .before in rw (read-upper (held s) (span s)) (record { fits = omega (arith, span s .to) })
 
 -- the roots
 low : (c : tie.After-isqrt) → c .isqrt .result + 1 ≤ 2236068000
@@ -66,19 +57,24 @@ returns c =
     let l = u .before .before .before in
     let s = l .before .before .before in
     let e = s .square .ensures in
-    rw (c .natural .ensures, square-root-is (rw (toZ-ofZ (held s .0), e) at (l .isqrt .ensures)), square-root-is (rw (toZ-ofZ (held s .1), e) at (u .isqrt2 .ensures)))
+    rw (
+      c .natural .ensures,
+      square-root-is (rw (toZ-ofZ (held s .0), e) at (l .isqrt .ensures)),
+      square-root-is
+          (rw (toZ-ofZ (held s .1), e) at (u .isqrt2 .ensures)),
+    )
 
 pub factor-ends-spec : {M : Type 1} → statement M
 factor-ends-spec =
     tie.close
     (tie.spec
-    square-requires
+    (λ c κs. search needs)
     cast-isqrt
     mul-isqrt
-    isqrt-requires
+    (λ c κs. search needs)
     cast-isqrt-2
     mul-isqrt-2
-    isqrt-requires-2
+    (λ c κs. search needs)
     add-natural
     natural-requires
     returns)

@@ -1,5 +1,4 @@
 -- `square` keeps within 64 bits by the spans of its parts.
--- Assumes nothing.
 use mathlib.Core.Path.{_≡_}
 use lib.Dec.{lit≤, lit<}
 use lib.IntN.{pos}
@@ -18,20 +17,11 @@ use Rattle.decrement.proofs.square.Tie as tie
 one : Span (point (pos billion)) 0 billion 0
 one = span-point billion (lit≤ tt) (lit≤ tt)
 
-exponent-requires : tie.Need-exponent-requires
-exponent-requires c κs = search needs
-
-point-requires : tie.Need-point-requires
-point-requires c κs = search needs
-
 quotient-requires : tie.Need-quotient-requires
 quotient-requires c κs =
     let q = c .before in
     rw (c .point .ensures, q .exponent .ensures)
     (quotient-fits (lit< tt) (lit< tt) (lit≤ tt) (span-point 2 {l = 2} {h = 2} (lit≤ tt) (lit≤ tt)) (exponent-span (q .before .pre)))
-
-point-requires-2 : tie.Need-point-requires-2
-point-requires-2 c κs = search needs
 
 exp-pair-requires : tie.Need-exp-pair-requires
 exp-pair-requires c κs =
@@ -42,9 +32,6 @@ difference-requires : tie.Need-difference-requires
 difference-requires c κs =
     let q = c .before .before .before .before in
     rw (c .exp-pair .ensures, c .before .point2 .ensures, q .exponent .ensures) (sum-fits (lit< tt) one (power-span (q .before .pre)))
-
-point-requires-3 : tie.Need-point-requires-3
-point-requires-3 c κs = search needs
 
 ratio : (c : tie.After-quotient) → let s = c .before .before .before .args in c .quotient .result ≡ ratioEnds (s .c)
 unfolding ratioEnds
@@ -67,7 +54,8 @@ sum-requires : tie.Need-sum-requires
 sum-requires c κs =
     let r = c .before .before in
     let q = r .before .before .before in
-    rw (c .wide-product .ensures, c .before .point3 .ensures, rest r, ratio q) (sum-fits (lit< tt) one (product-span (q .before .before .before .pre)))
+    rw (c .wide-product .ensures, c .before .point3 .ensures, rest r, ratio q)
+    (sum-fits (lit< tt) one (product-span (q .before .before .before .pre)))
 
 returns : tie.Need-returns
 unfolding squareEnds
@@ -80,13 +68,13 @@ pub square-spec : {M : Type 1} → statement M
 square-spec =
     tie.close
     (tie.spec
-    exponent-requires
-    point-requires
+    (λ c κs. search needs)
+    (λ c κs. search needs)
     quotient-requires
-    point-requires-2
+    (λ c κs. search needs)
     exp-pair-requires
     difference-requires
-    point-requires-3
+    (λ c κs. search needs)
     wide-product-requires
     sum-requires
     returns)

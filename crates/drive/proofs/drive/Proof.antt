@@ -1,5 +1,4 @@
 -- `drive` multiplies Ki by ρ·IG; the product is wide.
--- Assumes nothing.
 use Rattle.conductors.proofs.NumberSpans.{n-span}
 use Rattle.conductors.proofs.NumberEnclosed.{counts}
 use Rattle.drive.specs.Ends.{driveEnds}

@@ -1,5 +1,4 @@
 -- `soil_current` fits by the bounds of the current and of the soil.
--- Assumes nothing.
 use lib.Dec.{lit<}
 use Rattle.interval.proofs.SpanFits.{scaled-fits}
 use Rattle.current.proofs.GridCurrent.{current-span}
@@ -7,9 +6,6 @@ use Rattle.drive.specs.Ends.{soilCurrent}
 use borrow.Author.Needs.{needs}
 use Rattle.drive.proofs.soil_current.Statement.{statement}
 use Rattle.drive.proofs.soil_current.Tie as tie
-
-cast-scaled : tie.Need-cast-scaled
-cast-scaled c = search needs
 
 scaled-requires : tie.Need-scaled-requires
 scaled-requires c κs =
@@ -21,4 +17,4 @@ unfolding soilCurrent
 returns c = rw (c .scaled .ensures, c .before .before .pre .1)
 
 pub soil-current-spec : {M : Type 1} → statement M
-soil-current-spec = tie.close (tie.spec cast-scaled scaled-requires returns)
+soil-current-spec = tie.close (tie.spec (λ c. search needs) scaled-requires returns)

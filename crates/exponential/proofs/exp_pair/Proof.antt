@@ -1,5 +1,4 @@
 -- `exponential::exp_pair` takes the ends of a pair of exponents.
--- Assumes nothing.
 use borrow.Author.Needs.{needs}
 use mir.Facts.{toZ-ofZ}
 use Rattle.interval.specs.Span.{Span}

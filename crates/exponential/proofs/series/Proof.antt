@@ -1,5 +1,4 @@
 -- `exponential::series` meets its contract: the sum is that of the levels from i on.
--- Assumes nothing.
 use Prim.Native.Nat.{_-_, _*_, _/_, _≤_}
 use mathlib.Core.Path.{_≡_, refl}
 use native.Mathlib.Omega.{arith}

@@ -1,5 +1,4 @@
 -- `on_input` hands over the lines that follow the side.
--- Assumes nothing.
 use Rattle.text.proofs.FieldTurns.{part-length}
 use borrow.Author.Needs.{needs}
 use Rattle.fewest.proofs.on_input.Statement.{statement}

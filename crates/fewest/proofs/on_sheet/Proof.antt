@@ -1,5 +1,4 @@
 -- `on_sheet` hands over the names of the columns of a line of names that is not refused: each column has its own.
--- Assumes nothing.
 use mathlib.Core.Path.{sym, _∙_}
 use borrow.Author.Needs.{needs}
 use Rattle.text.proofs.FieldTurns.{part-length}

@@ -1,5 +1,4 @@
 -- `on_values` hands over one line, whose length is that of its part.
--- Assumes nothing.
 use Rattle.text.proofs.FieldTurns.{part-length}
 use borrow.Author.Needs.{needs}
 use Rattle.fewest.proofs.on_values.Statement.{statement}

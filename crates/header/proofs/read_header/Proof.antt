@@ -1,5 +1,4 @@
 -- `header::read_header` meets its contract: the reading of proofs/HeaderReading.antt.
--- Assumes nothing.
 use Prim.Native.Nat.{_+_, _-_, _≤_, _<_}
 use mathlib.Core.Path.{_≡_, sym, ap, _∙_}
 use mathlib.Core.List.{[]}
@@ -12,7 +11,8 @@ use Rattle.case.specs.Parts.{formOf}
 use Rattle.case.proofs.Findings.{form-most}
 use Rattle.header.specs.declared.names.Found.the-variants.{At}
 use Rattle.header.specs.Parts.{foundName}
-use Rattle.header.proofs.HeaderReading.{HeaderAt, no-columns-count, OrderAt, HeaderTurn, turn-start, header-unknown, header-within, header-room, header-again, header-step, order-step, header-few, header-refused, header-end}
+use Rattle.header.proofs.HeaderReading.{HeaderAt, no-columns-count, OrderAt, HeaderTurn, turn-start, header-unknown, header-within}
+use Rattle.header.proofs.HeaderReading.{header-room, header-again, header-step, order-step, header-few, header-refused, header-end}
 use Rattle.header.proofs.read_header.Statement.{statement}
 use Rattle.header.proofs.read_header.Tie as tie
 
@@ -29,17 +29,8 @@ loop-holds c = let s = c .before .before .before in rw (s .pre .0) (turn-start _
 columns-all : (s : tie.Start Inv-loop μ-loop) → length (s .args .at .now) ≡ length (formOf (s .args .form))
 columns-all s = ap length (s .pre .0) ∙ no-columns-count _
 
-find-requires : tie.Need-find-requires Inv-loop μ-loop
-find-requires c κs = search needs
-
 slice-aggregate-name-of : tie.Need-slice-aggregate-name-of Inv-loop μ-loop
 slice-aggregate-name-of c = part-length 44 _ _ (c .before .find .ensures)
-
-name-of-requires : tie.Need-name-of-requires Inv-loop μ-loop
-name-of-requires c κs = search needs
-
-enum-known-found : tie.Need-enum-known-found Inv-loop μ-loop
-enum-known-found c = search needs
 
 enum-told : tie.Need-enum-told Inv-loop μ-loop
 enum-told c = search needs
@@ -71,14 +62,16 @@ found-is : (c : tie.After-known-told Inv-loop μ-loop)
     ≡ At (c .before .found .given .0 .0)
 found-is c = sym (c .before .before .before .name-of .ensures) ∙ c .before .found .given .1
 
-within : (c : tie.After-known-told Inv-loop μ-loop) → c .before .found .given .0 .0 < length (formOf (c .before .before .before .before .before .before .before .before .before .before .args .form))
+within : (c : tie.After-known-told Inv-loop μ-loop)
+    → c .before .found .given .0 .0 < length (formOf (c .before .before .before .before .before .before .before .before .before .before .args .form))
 within c =
     let m = c .before .before .before in
     let l = m .before .before .before in
     header-within (l .loop .inv .header) (field-first _ _ (m .before .before .find .ensures)) (found-is c)
 
 mul-if1 : tie.Need-mul-if1 Inv-loop μ-loop
-mul-if1 c = omega (arith, within c, form-most (c .before .before .before .before .before .before .before .before .before .before .args .form))
+mul-if1 c =
+    omega (arith, within c, form-most (c .before .before .before .before .before .before .before .before .before .before .args .form))
 
 slice-read-if1 : tie.Need-slice-read-if1 Inv-loop μ-loop
 slice-read-if1 c = omega (arith, within (c .before), c .before .before .before .before .before .before .before .loop .inv .header .count)
@@ -94,7 +87,8 @@ returns-2 c =
     let k = c .before .before in
     let m = k .before .before .before in
     let a = m .before .before .before .loop .inv in
-    header-refused (a .header) (a .named) (header-again (a .header) (field-first _ _ (m .before .before .find .ensures)) (found-is k) (c .if1 .taken))
+    header-refused (a .header) (a .named) (header-again (a .header) (field-first _ _ (m .before .before .find .ensures)) (found-is k)
+    (c .if1 .taken))
 
 -- the turn in which a name without a column gets one
 abbrev turn : (c : tie.Else1 Inv-loop μ-loop) → tie.At-loop Inv-loop μ-loop
@@ -130,27 +124,14 @@ slice-write-order c = omega (arith, room c, turn c .loop .inv .header .first, tu
 add-c : tie.Need-add-c Inv-loop μ-loop
 add-c c = omega (arith, room c, form-most (turn c .before .before .before .before .args .form))
 
-add-rest : tie.Need-add-rest Inv-loop μ-loop
-add-rest c = search needs
-
-sub-rest : tie.Need-sub-rest Inv-loop μ-loop
-sub-rest c = search needs
-
-part-rest-start : tie.Need-part-rest-start Inv-loop μ-loop
-part-rest-start c = search needs
-
-part-rest-end : tie.Need-part-rest-end Inv-loop μ-loop
-part-rest-end c = search needs
-
-loop-less : tie.Need-loop-less Inv-loop μ-loop
-loop-less c = search needs
-
 loop-again : tie.Need-loop-again Inv-loop μ-loop
 loop-again c =
     let k = c .before .before in
     let f = k .before .before .before .before .before .before .before in
     record {
-      header = header-step (turn k .loop .inv .header) (field-next _ _ (f .find .ensures) (c .before .if2 .left)) (found-is (k .before .before)) (k .if1 .left);
+      header =
+          header-step (turn k .loop .inv .header) (field-next _ _ (f .find .ensures) (c .before .if2 .left)) (found-is (k .before .before))
+          (k .if1 .left);
       named = named k;
       short = omega (arith, c .rest .given .2, turn k .loop .inv .short);
     }
@@ -161,7 +142,8 @@ stepped : (c : tie.Then2 Inv-loop μ-loop)
 stepped c =
     let k = c .before in
     let f = k .before .before .before .before .before .before .before in
-    header-step (turn k .loop .inv .header) (field-last _ _ (f .find .ensures) (c .if2 .taken)) (found-is (k .before .before)) (k .if1 .left)
+    header-step (turn k .loop .inv .header) (field-last _ _ (f .find .ensures) (c .if2 .taken)) (found-is (k .before .before))
+    (k .if1 .left)
 
 same-length-5 : tie.Need-same-length-5 Inv-loop μ-loop
 same-length-5 c = stepped (c .before) .count ∙ sym (columns-all (turn (c .before .before) .before .before .before .before))
@@ -190,10 +172,10 @@ read-header-spec =
     Inv-loop
     μ-loop
     loop-holds
-    find-requires
+    (λ c κs. search needs)
     slice-aggregate-name-of
-    name-of-requires
-    enum-known-found
+    (λ c κs. search needs)
+    (λ c. search needs)
     enum-told
     same-length
     same-length-2
@@ -209,11 +191,11 @@ read-header-spec =
     mul-order
     slice-write-order
     add-c
-    add-rest
-    sub-rest
-    part-rest-start
-    part-rest-end
-    loop-less
+    (λ c. search needs)
+    (λ c. search needs)
+    (λ c. search needs)
+    (λ c. search needs)
+    (λ c. search needs)
     loop-again
     same-length-5
     same-length-6

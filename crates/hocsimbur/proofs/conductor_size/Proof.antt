@@ -1,14 +1,10 @@
 -- `conductor_size` answers the size of a sound record, by the factor in its row.
--- Assumes nothing.
 use Rattle.row.specs.Ends.{rowOf}
 use Rattle.hocsimbur.specs.Asked.{factorInRow, sizeByRow}
 use Rattle.hocsimbur.proofs.Answers.{sound-bounds, size-told, size-refused}
 use borrow.Author.Needs.{needs}
 use Rattle.hocsimbur.proofs.conductor_size.Statement.{statement}
 use Rattle.hocsimbur.proofs.conductor_size.Tie as tie
-
-judge-requires : tie.Need-judge-requires
-judge-requires c κs = search needs
 
 enum-told : tie.Need-enum-told
 enum-told c = search needs
@@ -20,9 +16,6 @@ conductor-size-requires : tie.Need-conductor-size-requires
 conductor-size-requires c κs =
     let t = c .before in
     (sound-bounds _ (t .before .before .judge .ensures) (t .enum-told .given .1), c .factor-ends .ensures)
-
-enum-known-number : tie.Need-enum-known-number
-enum-known-number c = search needs
 
 returns : tie.Need-returns
 unfolding sizeByRow factorInRow rowOf
@@ -36,4 +29,4 @@ returns-2 c = size-refused _ (c .before .before .before .judge .ensures) (c .bef
 pub conductor-size-spec : {M : Type 1} → statement M
 conductor-size-spec =
     tie.close
-    (tie.spec judge-requires enum-told factor-ends-requires conductor-size-requires enum-known-number returns returns-2)
+    (tie.spec (λ c κs. search needs) enum-told factor-ends-requires conductor-size-requires (λ c. search needs) returns returns-2)

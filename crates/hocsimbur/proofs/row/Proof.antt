@@ -1,21 +1,14 @@
 -- `row` answers the row of a sound record.
--- Assumes nothing.
 use Rattle.hocsimbur.proofs.Answers.{sound-bounds, row-told, row-refused}
 use borrow.Author.Needs.{needs}
 use Rattle.hocsimbur.proofs.row.Statement.{statement}
 use Rattle.hocsimbur.proofs.row.Tie as tie
-
-judge-requires : tie.Need-judge-requires
-judge-requires c κs = search needs
 
 enum-told : tie.Need-enum-told
 enum-told c = search needs
 
 work-row-requires : tie.Need-work-row-requires
 work-row-requires c κs = sound-bounds _ (c .before .before .judge .ensures) (c .enum-told .given .1)
-
-enum-known-number : tie.Need-enum-known-number
-enum-known-number c = search needs
 
 returns : tie.Need-returns
 returns c = row-told _ (c .before .before .before .judge .ensures) (c .before .enum-told .given .1) (c .work-row .ensures)
@@ -24,4 +17,4 @@ returns-2 : tie.Need-returns-2
 returns-2 c = row-refused _ (c .before .before .before .judge .ensures) (c .before .number .given .1)
 
 pub row-spec : {M : Type 1} → statement M
-row-spec = tie.close (tie.spec judge-requires enum-told work-row-requires enum-known-number returns returns-2)
+row-spec = tie.close (tie.spec (λ c κs. search needs) enum-told work-row-requires (λ c. search needs) returns returns-2)

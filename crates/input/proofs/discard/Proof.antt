@@ -1,5 +1,4 @@
 -- `input::discard` is safe and ends: the measure is the number of turns that are left.
--- Assumes nothing.
 use borrow.Author.Needs.{needs}
 use Rattle.input.proofs.discard.Statement.{statement}
 use Rattle.input.proofs.discard.Tie as tie

@@ -1,13 +1,8 @@
 -- `judgement::judge_values` meets its contract, by the laws of proofs/Whole.antt.
--- Assumes nothing.
-use mathlib.Core.Path.{_∙_}
 use borrow.Author.Needs.{needs}
 use Rattle.judgement.proofs.Whole.{values-none, values-many, values-some}
 use Rattle.judgement.proofs.judge_values.Statement.{statement}
 use Rattle.judgement.proofs.judge_values.Tie as tie
-
-count-lines-requires : tie.Need-count-lines-requires
-count-lines-requires c κs = search needs
 
 returns : tie.Need-returns
 returns c = values-none _ _ _ _ (c .before .count-lines .ensures) _ (c .if1 .taken)
@@ -34,4 +29,4 @@ returns-3 c =
 pub judge-values-spec : {M : Type 1} → statement M
 judge-values-spec =
     tie.close
-    (tie.spec count-lines-requires returns returns-2 check-lines-requires same-length returns-3)
+    (tie.spec (λ c κs. search needs) returns returns-2 check-lines-requires same-length returns-3)

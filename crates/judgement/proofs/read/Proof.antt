@@ -1,5 +1,4 @@
 -- `judgement::read` meets its contract: each form has its own count of names.
--- Assumes nothing.
 use mathlib.Core.Path.{sym}
 use borrow.Author.Needs.{needs}
 use Rattle.case.specs.Columns.{name-count, former-name-count}
@@ -11,26 +10,11 @@ use Rattle.judgement.proofs.read.Tie as tie
 enum-told : tie.Need-enum-told
 enum-told c = search needs
 
-slice-aggregate-read-by : tie.Need-slice-aggregate-read-by
-slice-aggregate-read-by c = search needs
-
-slice-aggregate-read-by-2 : tie.Need-slice-aggregate-read-by-2
-slice-aggregate-read-by-2 c = search needs
-
 read-by-requires : tie.Need-read-by-requires
 unfolding formOf noColumns
 read-by-requires c κs =
     let t = c .before .before .before .enum-told .given .1 in
     (rw t (rw name-count), (rw t (sym name-count), c .before .before .before .before .before .before .before .pre))
-
-enum-told-2 : tie.Need-enum-told-2
-enum-told-2 c = search needs
-
-slice-aggregate-read-by-3 : tie.Need-slice-aggregate-read-by-3
-slice-aggregate-read-by-3 c = search needs
-
-slice-aggregate-read-by-4 : tie.Need-slice-aggregate-read-by-4
-slice-aggregate-read-by-4 c = search needs
 
 read-by-requires-2 : tie.Need-read-by-requires-2
 unfolding formOf noColumns
@@ -55,12 +39,12 @@ read-spec =
     tie.close
     (tie.spec
     enum-told
-    slice-aggregate-read-by
-    slice-aggregate-read-by-2
+    (λ c. search needs)
+    (λ c. search needs)
     read-by-requires
-    enum-told-2
-    slice-aggregate-read-by-3
-    slice-aggregate-read-by-4
+    (λ c. search needs)
+    (λ c. search needs)
+    (λ c. search needs)
     read-by-requires-2
     same-length
     returns

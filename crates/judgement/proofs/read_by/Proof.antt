@@ -1,5 +1,4 @@
 -- `judgement::read_by` meets its contract, by the laws of proofs/Whole.antt.
--- Assumes nothing.
 use mathlib.Core.Path.{_≡_, sym, ap, _∙_}
 use mathlib.Core.Bool.{false}
 use borrow.Author.Needs.{needs}
@@ -13,20 +12,11 @@ use Rattle.judgement.proofs.Whole.{read-text, read-names, read-values}
 use Rattle.judgement.proofs.read_by.Statement.{statement}
 use Rattle.judgement.proofs.read_by.Tie as tie
 
-bad-text-requires : tie.Need-bad-text-requires
-bad-text-requires c κs = search needs
-
 returns : tie.Need-returns
 returns c = read-text _ _ _ (sym (c .before .bad-text .ensures) ∙ c .if1 .taken)
 
-find-requires : tie.Need-find-requires
-find-requires c κs = search needs
-
 slice-aggregate-read-header : tie.Need-slice-aggregate-read-header
 slice-aggregate-read-header c = part-length 10 _ _ (c .before .find .ensures)
-
-read-header-requires : tie.Need-read-header-requires
-read-header-requires c κs = search needs
 
 -- the sheet whose line of names was read
 abbrev start : tie.After-read-header → tie.Start
@@ -53,18 +43,6 @@ returns-2 c =
     let h = c .before .before .before .before .before in
     read-names _ _ (text h) (h .before .before .before .before .find .ensures) (h .read-header .ensures) _ (c .if2 .taken)
 
-skip-requires : tie.Need-skip-requires
-skip-requires c κs = search needs
-
-sub-judge-values : tie.Need-sub-judge-values
-sub-judge-values c = search needs
-
-part-judge-values-start : tie.Need-part-judge-values-start
-part-judge-values-start c = search needs
-
-part-judge-values-end : tie.Need-part-judge-values-end
-part-judge-values-end c = search needs
-
 judge-values-requires : tie.Need-judge-values-requires
 judge-values-requires c κs =
     let e = c .before .before .before .before .before in
@@ -89,24 +67,25 @@ returns-3 c =
     let v = c .before .before in
     let k = v .before .before .before .before .before in
     let h = named v in
-    read-values _ _ (text h) (h .before .before .before .before .find .ensures) (h .read-header .ensures) _ (k .before .if2 .left) (k .skip .ensures) (v .judge-values .ensures)
+    read-values _ _ (text h) (h .before .before .before .before .find .ensures) (h .read-header .ensures) _ (k .before .if2 .left)
+    (k .skip .ensures) (v .judge-values .ensures)
 
 pub read-by-spec : {M : Type 1} → statement M
 read-by-spec =
     tie.close
     (tie.spec
-    bad-text-requires
+    (λ c κs. search needs)
     returns
-    find-requires
+    (λ c κs. search needs)
     slice-aggregate-read-header
-    read-header-requires
+    (λ c κs. search needs)
     same-length
     same-length-2
     returns-2
-    skip-requires
-    sub-judge-values
-    part-judge-values-start
-    part-judge-values-end
+    (λ c κs. search needs)
+    (λ c. search needs)
+    (λ c. search needs)
+    (λ c. search needs)
     judge-values-requires
     same-length-3
     same-length-4

@@ -1,5 +1,4 @@
 -- `rod_length` fits by the bound of the rods.
--- Assumes nothing.
 use mathlib.Core.Path.{refl}
 use lib.Dec.{lit<}
 use Rattle.interval.proofs.Fits.{fits-below}
@@ -8,9 +7,6 @@ use Rattle.lengths.proofs.Lengths.{rodlen-high, rod-bound}
 use borrow.Author.Needs.{needs}
 use Rattle.lengths.proofs.rod_length.Statement.{statement}
 use Rattle.lengths.proofs.rod_length.Tie as tie
-
-cast-result : tie.Need-cast-result
-cast-result c = search needs
 
 cast-result-2 : tie.Need-cast-result-2
 cast-result-2 c = fits-below (rodlen-high (c .before .before .pre)) (lit< tt)
@@ -24,4 +20,4 @@ unfolding rodLength
 returns c = refl
 
 pub rod-length-spec : {M : Type 1} → statement M
-rod-length-spec = tie.close (tie.spec cast-result cast-result-2 mul-result returns)
+rod-length-spec = tie.close (tie.spec (λ c. search needs) cast-result-2 mul-result returns)

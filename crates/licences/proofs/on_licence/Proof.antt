@@ -1,5 +1,4 @@
 -- `licences::on_licence` is safe: the line lies within the portfolio.
--- Assumes nothing.
 use borrow.Author.Needs.{needs}
 use Rattle.text.proofs.FieldTurns.{part-length}
 use Rattle.licences.proofs.on_licence.Statement.{statement}

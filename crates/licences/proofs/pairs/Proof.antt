@@ -1,5 +1,4 @@
 -- `licences::pairs` is safe and ends: each turn leaves eight numbers less.
--- Assumes nothing.
 use Prim.Native.Nat.{_-_, _≤_}
 use mathlib.Core.Path.{sym}
 use native.Mathlib.Omega.{arith}

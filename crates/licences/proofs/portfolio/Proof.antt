@@ -1,5 +1,4 @@
 -- `licences::portfolio` is safe: the parts of the licence and of the table that are lent lie within them.
--- Assumes nothing.
 use mathlib.Core.Path.{sym}
 use lib.Seq.{length-take-le}
 use borrow.Author.Needs.{needs}

@@ -1,5 +1,4 @@
 -- `licences::portfolios` is safe and ends: the measure is what is left of the portfolios.
--- Assumes nothing.
 use lib.ListN.{length}
 use borrow.Author.Needs.{needs}
 use Rattle.text.proofs.LineTurns.{skipped-shorter}

@@ -1,5 +1,4 @@
 -- `line::front_values` meets its contract: the reading of proofs/ValuesReading.antt, where each value is read in one pass.
--- Assumes nothing.
 use Prim.Native.Nat.{_+_, _-_, _≤_, _<_}
 use mathlib.Core.Path.{_≡_, refl}
 use native.Mathlib.Omega.{arith}
@@ -23,27 +22,6 @@ abbrev μ-loop : tie.MeasureT-loop
 loop-holds : tie.Need-loop-holds Inv-loop μ-loop
 loop-holds c = (omega arith, values-start _ _ _)
 
-sub-if1 : tie.Need-sub-if1 Inv-loop μ-loop
-sub-if1 c = search needs
-
-add-e : tie.Need-add-e Inv-loop μ-loop
-add-e c = search needs
-
-sub-front-value : tie.Need-sub-front-value Inv-loop μ-loop
-sub-front-value c = search needs
-
-part-front-value-start : tie.Need-part-front-value-start Inv-loop μ-loop
-part-front-value-start c = search needs
-
-part-front-value-end : tie.Need-part-front-value-end Inv-loop μ-loop
-part-front-value-end c = search needs
-
-front-value-requires : tie.Need-front-value-requires Inv-loop μ-loop
-front-value-requires c κs = search needs
-
-mul-k : tie.Need-mul-k Inv-loop μ-loop
-mul-k c = search needs
-
 -- the turn of the loop, and its start
 abbrev turn : tie.After-shared-slice-known3 Inv-loop μ-loop → tie.Else1 Inv-loop μ-loop
 turn c = c .before .before .before .before .before
@@ -64,25 +42,20 @@ mul-row c = omega (arith, within c)
 slice-write-row : tie.Need-slice-write-row Inv-loop μ-loop
 slice-write-row c = omega (arith, within c, turn c .before .before .loop .inv .1 .count)
 
-add-c : tie.Need-add-c Inv-loop μ-loop
-add-c c = search needs
-
 -- the value is the first field that is left
 front : (c : tie.After-shared-slice-known3 Inv-loop μ-loop)
     → IsFront (drop (turn c .before .before .loop .next) (start c .args .line .now)) (c .before .before .before .front-value .result .end) (c .before .before .before .front-value .result .value)
 front c =
     let next = turn c .before .before .loop .next in
     let k : next + 7 - next ≡ 7 = omega arith in
-    front-whole 7 _ (rw k at (c .before .before .before .front-value .ensures)) (omega arith) (omega (arith, length-drop next (start c .args .line .now), turn c .if1 .left))
+    front-whole 7 _ (rw k at (c .before .before .before .front-value .ensures)) (omega arith)
+    (omega (arith, length-drop next (start c .args .line .now), turn c .if1 .left))
 
 add-next : tie.Need-add-next Inv-loop μ-loop
 add-next c = omega (arith, front (c .before) .few)
 
 add-next-2 : tie.Need-add-next-2 Inv-loop μ-loop
 add-next-2 c = omega (arith, front (c .before) .few, turn (c .before) .if1 .left)
-
-loop-less : tie.Need-loop-less Inv-loop μ-loop
-loop-less c = search needs
 
 loop-again : tie.Need-loop-again Inv-loop μ-loop
 loop-again c =
@@ -93,7 +66,8 @@ loop-again c =
     let some : 1 ≤ e = omega (arith, k .before .if2 .left) in
     let inside : e < length rest = omega (arith, front k .few, turn k .if1 .left, length-drop (l .next) (start k .args .line .now)) in (
       omega (arith, front k .few, turn k .if1 .left),
-      values-step (l .inv .1) (field-after _ _ _ (front k .ends some) inside) (front k .held some) (turn k .before .loop-test .taken) _ (start k .pre) refl,
+      values-step (l .inv .1) (field-after _ _ _ (front k .ends some) inside) (front k .held some) (turn k .before .loop-test .taken) _
+          (start k .pre) refl,
     )
 
 same-length : tie.Need-same-length Inv-loop μ-loop
@@ -121,20 +95,20 @@ front-values-spec =
     Inv-loop
     μ-loop
     loop-holds
-    sub-if1
-    add-e
-    sub-front-value
-    part-front-value-start
-    part-front-value-end
-    front-value-requires
-    mul-k
+    (λ c. search needs)
+    (λ c. search needs)
+    (λ c. search needs)
+    (λ c. search needs)
+    (λ c. search needs)
+    (λ c κs. search needs)
+    (λ c. search needs)
     shared-slice-read-k
     mul-row
     slice-write-row
-    add-c
+    (λ c. search needs)
     add-next
     add-next-2
-    loop-less
+    (λ c. search needs)
     loop-again
     same-length
     returns

@@ -1,5 +1,4 @@
 -- `line::read_values` meets its contract: the reading of proofs/ValuesReading.antt.
--- Assumes nothing.
 use Prim.Native.Nat.{_+_, _≤_, _<_}
 use mathlib.Core.Path.{refl}
 use mathlib.Core.List.{[]}
@@ -22,21 +21,9 @@ abbrev μ-loop : tie.MeasureT-loop
 front-values-requires : tie.Need-front-values-requires Inv-loop μ-loop
 front-values-requires c κs = c .before .before .before .before .pre
 
-sub-rest : tie.Need-sub-rest Inv-loop μ-loop
-sub-rest c = search needs
-
-part-rest-start : tie.Need-part-rest-start Inv-loop μ-loop
-part-rest-start c = search needs
-
-part-rest-end : tie.Need-part-rest-end Inv-loop μ-loop
-part-rest-end c = search needs
-
 -- the fields that are left start where the values at the front end
 loop-holds : tie.Need-loop-holds Inv-loop μ-loop
 loop-holds c = (rw (part-end _ _) (c .before .before .before .front-values .ensures .1), omega (arith, c .rest .given .2))
-
-add-result : tie.Need-add-result Inv-loop μ-loop
-add-result c = search needs
 
 same-length : tie.Need-same-length Inv-loop μ-loop
 same-length c = c .before .loop .inv .0 .count
@@ -44,17 +31,8 @@ same-length c = c .before .loop .inv .0 .count
 returns : tie.Need-returns Inv-loop μ-loop
 returns c = values-many (c .before .loop .inv .0) (field-first (c .before .loop .rest .now) _ refl) (c .if1 .taken)
 
-first-field-requires : tie.Need-first-field-requires Inv-loop μ-loop
-first-field-requires c κs = search needs
-
-enum-known-f : tie.Need-enum-known-f Inv-loop μ-loop
-enum-known-f c = search needs
-
 enum-told : tie.Need-enum-told Inv-loop μ-loop
 enum-told c = search needs
-
-add-result-2 : tie.Need-add-result-2 Inv-loop μ-loop
-add-result-2 c = search needs
 
 same-length-2 : tie.Need-same-length-2 Inv-loop μ-loop
 same-length-2 c = c .before .before .before .before .loop .inv .0 .count
@@ -63,10 +41,8 @@ returns-2 : tie.Need-returns-2 Inv-loop μ-loop
 returns-2 c =
     let m = c .before .before in
     let a = m .before .before .loop .inv .0 in
-    values-refused _ (a .count) (values-wrong a (field-first _ _ (m .first-field .ensures .ends)) (m .first-field .ensures .held) (m .before .if1 .left) (c .enum-told .given .1))
-
-mul-k : tie.Need-mul-k Inv-loop μ-loop
-mul-k c = search needs
+    values-refused _ (a .count) (values-wrong a (field-first _ _ (m .first-field .ensures .ends)) (m .first-field .ensures .held)
+    (m .before .if1 .left) (c .enum-told .given .1))
 
 -- the turn of the loop, and its start
 abbrev turn : tie.After-shared-slice-known3 Inv-loop μ-loop → tie.Else1 Inv-loop μ-loop
@@ -88,29 +64,12 @@ mul-row c = omega (arith, within c)
 slice-write-row : tie.Need-slice-write-row Inv-loop μ-loop
 slice-write-row c = omega (arith, within c, turn c .before .loop .inv .0 .count)
 
-add-c : tie.Need-add-c Inv-loop μ-loop
-add-c c = search needs
-
-add-rest : tie.Need-add-rest Inv-loop μ-loop
-add-rest c = search needs
-
-sub-rest-2 : tie.Need-sub-rest-2 Inv-loop μ-loop
-sub-rest-2 c = search needs
-
-part-rest-start-2 : tie.Need-part-rest-start-2 Inv-loop μ-loop
-part-rest-start-2 c = search needs
-
-part-rest-end-2 : tie.Need-part-rest-end-2 Inv-loop μ-loop
-part-rest-end-2 c = search needs
-
-loop-less : tie.Need-loop-less Inv-loop μ-loop
-loop-less c = search needs
-
 loop-again : tie.Need-loop-again Inv-loop μ-loop
 loop-again c =
     let k = c .before .before in
     let m = k .before .before .before .before .first-field .ensures in (
-      values-step (turn k .before .loop .inv .0) (field-next _ _ (m .ends) (c .before .if2 .left)) (m .held) (turn k .if1 .left) _ (start k .pre) (k .before .before .f .given .1),
+      values-step (turn k .before .loop .inv .0) (field-next _ _ (m .ends) (c .before .if2 .left)) (m .held) (turn k .if1 .left) _
+          (start k .pre) (k .before .before .f .given .1),
       omega (arith, c .rest2 .given .2),
     )
 
@@ -120,10 +79,8 @@ stepped : (c : tie.Then2 Inv-loop μ-loop)
 stepped c =
     let k = c .before in
     let m = k .before .before .before .before .first-field .ensures in
-    values-step (turn k .before .loop .inv .0) (field-last _ _ (m .ends) (c .if2 .taken)) (m .held) (turn k .if1 .left) _ (start k .pre) (k .before .before .f .given .1)
-
-add-result-3 : tie.Need-add-result-3 Inv-loop μ-loop
-add-result-3 c = search needs
+    values-step (turn k .before .loop .inv .0) (field-last _ _ (m .ends) (c .if2 .taken)) (m .held) (turn k .if1 .left) _ (start k .pre)
+    (k .before .before .f .given .1)
 
 same-length-3 : tie.Need-same-length-3 Inv-loop μ-loop
 same-length-3 c = stepped (c .before) .count
@@ -144,31 +101,31 @@ read-values-spec =
     Inv-loop
     μ-loop
     front-values-requires
-    sub-rest
-    part-rest-start
-    part-rest-end
+    (λ c. search needs)
+    (λ c. search needs)
+    (λ c. search needs)
     loop-holds
-    add-result
+    (λ c. search needs)
     same-length
     returns
-    first-field-requires
-    enum-known-f
+    (λ c κs. search needs)
+    (λ c. search needs)
     enum-told
-    add-result-2
+    (λ c. search needs)
     same-length-2
     returns-2
-    mul-k
+    (λ c. search needs)
     shared-slice-read-k
     mul-row
     slice-write-row
-    add-c
-    add-rest
-    sub-rest-2
-    part-rest-start-2
-    part-rest-end-2
-    loop-less
+    (λ c. search needs)
+    (λ c. search needs)
+    (λ c. search needs)
+    (λ c. search needs)
+    (λ c. search needs)
+    (λ c. search needs)
     loop-again
-    add-result-3
+    (λ c. search needs)
     same-length-3
     returns-3
     same-length-4

@@ -1,5 +1,4 @@
 -- `listing::answer` lists the rows that `sheet` answered: an accepted sheet has them in the table.
--- Assumes nothing.
 use Rattle.listing.proofs.Room.{rows-within}
 use borrow.Author.Needs.{needs}
 use Rattle.listing.proofs.answer.Statement.{statement}

@@ -1,5 +1,4 @@
 -- `listing::lines` is safe and ends: what is left of the table holds the rows that are left.
--- Assumes nothing.
 use Prim.Native.Nat.{_*_, _-_, _≤_}
 use mathlib.Core.Path.{sym}
 use native.Mathlib.Omega.{arith}

@@ -1,5 +1,4 @@
 -- `logarithm::is_inside` meets its contract.
--- Assumes nothing.
 use borrow.Author.Tests.{le-leb, lt-leb}
 use Rattle.logarithm.specs.Asked.{inside}
 use Rattle.logarithm.proofs.is_inside.Statement.{statement}

@@ -1,5 +1,4 @@
 -- `logarithm::ln_ends` meets its contract, above and below 1.
--- Assumes nothing.
 use mathlib.Core.Path.{ap, _∙_}
 use native.Mathlib.Omega.{arith}
 use borrow.Author.Tests.{lt-ltb, le-ltb}

@@ -1,5 +1,4 @@
 -- `logarithm::ln_pair` takes the lower end at the pair's lower end, and the upper end at its upper end.
--- Assumes nothing.
 use Prim.Native.Nat.{_≤_}
 use mathlib.Core.Path.{sym, ap, _∙_}
 use native.Mathlib.Omega.{arith}
@@ -52,8 +51,11 @@ natural-requires : tie.Need-natural-requires
 natural-requires c κs =
     let e = c .before .before .before in
     let s = e .before .before .before in
-    rw (e .up-end .ensures, c .up-end2 .ensures, read-lower (held s) (span s), read-upper (held s) (span s))
-    (end-fits {up = 0} (omega arith) (lower-inside s) (s .pre .0) (span s .from), end-fits {up = 1} (omega arith) (upper-inside s) (s .pre .0) (upper-from s))
+    rw (e .up-end .ensures, c .up-end2 .ensures, read-lower (held s) (span s), read-upper (held s) (span s)) (
+      end-fits {up = 0} (omega arith) (lower-inside s) (s .pre .0) (span s .from),
+      end-fits {up = 1} (omega arith) (upper-inside s)
+          (s .pre .0) (upper-from s),
+    )
 
 returns : tie.Need-returns
 returns c =

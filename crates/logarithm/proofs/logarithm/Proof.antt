@@ -1,5 +1,4 @@
 -- `logarithm::logarithm` meets its contract.
--- Assumes nothing.
 use mathlib.Core.Path.{_≡_, sym, ap, _∙_}
 use mathlib.Core.Bool.{true, false}
 use borrow.Author.Needs.{needs}
@@ -24,15 +23,9 @@ lower-outside c = sym (c .before .is-inside2 .ensures) ∙ not-true _ (c .if2 .t
 lower-inside : (c : tie.Else2) → inside (c .before .before .before .before .args .q) ≡ true
 lower-inside c = sym (c .before .is-inside2 .ensures) ∙ not-false _ (c .if2 .left)
 
-is-inside-requires : tie.Need-is-inside-requires
-is-inside-requires c κs = search needs
-
 returns : tie.Need-returns
 unfolding answerOf refused RightPair
 returns c = record { answer = rw (upper-outside c); right = tt }
-
-is-inside-requires-2 : tie.Need-is-inside-requires-2
-is-inside-requires-2 c κs = search needs
 
 returns-2 : tie.Need-returns-2
 unfolding answerOf refused RightPair
@@ -55,4 +48,4 @@ returns-3 c =
 pub logarithm-spec : {M : Type 1} → statement M
 logarithm-spec =
     tie.close
-    (tie.spec is-inside-requires returns is-inside-requires-2 returns-2 ln-ends-requires returns-3)
+    (tie.spec (λ c κs. search needs) returns (λ c κs. search needs) returns-2 ln-ends-requires returns-3)

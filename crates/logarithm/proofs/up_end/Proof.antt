@@ -1,5 +1,4 @@
 -- `logarithm::up_end` meets its contract: its numbers are those of the definition, and small enough.
--- Assumes nothing.
 use native.Mathlib.Omega.{arith}
 use borrow.Author.Needs.{needs}
 use Rattle.logarithm.proofs.EndBounds.{Small, small}
@@ -10,9 +9,6 @@ bounds : (c : tie.After-reduce) → Small (c .reduce .result .times) (c .reduce 
 bounds c =
     let s = c .before in
     rw (c .reduce .ensures) (small (s .pre .1 .0) (s .pre .1 .1 .0) (s .pre .1 .1 .1))
-
-reduce-requires : tie.Need-reduce-requires
-reduce-requires c κs = search needs
 
 add-end : tie.Need-add-end
 add-end c = omega (arith, bounds (c .before) .argument, c .before .before .pre .0)
@@ -26,4 +22,4 @@ returns : tie.Need-returns
 returns c = rw (c .end .ensures, c .before .before .reduce .ensures)
 
 pub up-end-spec : {M : Type 1} → statement M
-up-end-spec = tie.close (tie.spec reduce-requires add-end end-requires returns)
+up-end-spec = tie.close (tie.spec (λ c κs. search needs) add-end end-requires returns)

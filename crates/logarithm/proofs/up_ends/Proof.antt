@@ -1,5 +1,4 @@
 -- `logarithm::up_ends` meets its contract: its numbers are those of the definition, and small enough.
--- Assumes nothing.
 use native.Mathlib.Omega.{arith}
 use native.Mathlib.Nat.{add-zero}
 use borrow.Author.Needs.{needs}
@@ -13,9 +12,6 @@ bounds : (c : tie.After-reduce) → Small (c .reduce .result .times) (c .reduce 
 bounds c =
     let s = c .before in
     rw (c .reduce .ensures) (small (s .pre .0) (s .pre .1 .0) (s .pre .1 .1))
-
-reduce-requires : tie.Need-reduce-requires
-reduce-requires c κs = search needs
 
 end-requires : tie.Need-end-requires
 end-requires c κs = (omega arith, (bounds c .times, omega (arith, bounds c .argument)))
@@ -32,8 +28,11 @@ natural-requires : tie.Need-natural-requires
 natural-requires c κs =
     let e = c .before .before in
     let s = e .before .before in
-    rw (e .end .ensures, c .end2 .ensures, e .before .reduce .ensures)
-    (rw add-zero at (end-fits {up = 0} (omega arith) (s .pre .0) (s .pre .1 .0) (s .pre .1 .1)), end-fits {up = 1} (omega arith) (s .pre .0) (s .pre .1 .0) (s .pre .1 .1))
+    rw (e .end .ensures, c .end2 .ensures, e .before .reduce .ensures) (
+      rw add-zero at (end-fits {up = 0} (omega arith) (s .pre .0) (s .pre .1 .0) (s .pre .1 .1)),
+      end-fits {up = 1} (omega arith) (s .pre .0)
+          (s .pre .1 .0) (s .pre .1 .1),
+    )
 
 returns : tie.Need-returns
 unfolding upEnds natural
@@ -43,4 +42,4 @@ returns c =
 
 pub up-ends-spec : {M : Type 1} → statement M
 up-ends-spec =
-    tie.close (tie.spec reduce-requires end-requires add-end end-requires-2 natural-requires returns)
+    tie.close (tie.spec (λ c κs. search needs) end-requires add-end end-requires-2 natural-requires returns)

@@ -1,20 +1,12 @@
 -- `compare` tests both pairs and works their margins.
--- Assumes nothing.
 use mathlib.Core.Path.{_≡_, sym, _∙_}
-use mathlib.Core.Bool.{true, false, cond, _&&_}
-use lib.Dec.{T}
+use mathlib.Core.Bool.{true}
 use mir.Facts.{toZ-ofZ}
 use borrow.Author.Needs.{needs}
 use Rattle.interval.proofs.Bits.{back}
 use Rattle.margin.specs.Margin.{comparable, margin, fourMargins}
 use Rattle.margin.proofs.compare.Statement.{statement}
 use Rattle.margin.proofs.compare.Tie as tie
-
-comparable-requires : tie.Need-comparable-requires
-comparable-requires c κs = search needs
-
-comparable-requires-2 : tie.Need-comparable-requires-2
-comparable-requires-2 c κs = search needs
 
 first : (c : tie.After-comparable) → c .comparable .result ≡ comparable (c .before .args .mesh) (c .before .args .touch)
 first c = rw (toZ-ofZ (c .before .fits .mesh), toZ-ofZ (c .before .fits .touch)) at (c .comparable .ensures)
@@ -49,8 +41,12 @@ unfolding fourMargins
 returns c =
     let d = c .before .before in
     let s = start d in
-    let mesh = back (c .before .margin .result) (c .before .margin .ok) ∙ (rw (toZ-ofZ (s .fits .mesh), toZ-ofZ (s .fits .touch)) at (c .before .margin .ensures)) in
-    let step = back (c .margin2 .result) (c .margin2 .ok) ∙ (rw (toZ-ofZ (s .fits .step), toZ-ofZ (s .fits .limit)) at (c .margin2 .ensures)) in
+    let mesh =
+    back (c .before .margin .result) (c .before .margin .ok)
+    ∙ (rw (toZ-ofZ (s .fits .mesh), toZ-ofZ (s .fits .touch)) at (c .before .margin .ensures)) in
+    let step =
+    back (c .margin2 .result) (c .margin2 .ok) ∙ (rw (toZ-ofZ (s .fits .step), toZ-ofZ (s .fits .limit)) at (c .margin2 .ensures))
+    in
     rw (mesh-tested d, step-tested d, mesh, step)
 
 returns-2 : tie.Need-returns-2
@@ -65,8 +61,8 @@ pub compare-spec : {M : Type 1} → statement M
 compare-spec =
     tie.close
     (tie.spec
-    comparable-requires
-    comparable-requires-2
+    (λ c κs. search needs)
+    (λ c κs. search needs)
     margin-requires
     margin-requires-2
     returns

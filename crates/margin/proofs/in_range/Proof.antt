@@ -1,8 +1,4 @@
 -- `in_range` tests both ends.
--- Assumes nothing.
-use borrow.Author.Needs.{needs}
-use mir.Syntax.{w64}
-use mir.Val.{SFits}
 use mir.Facts.{toZ-ofZ}
 use Rattle.margin.specs.Margin.{inRange}
 use Rattle.margin.proofs.in_range.Statement.{statement}

@@ -1,5 +1,4 @@
 -- `margin` rounds the share up and takes the whole from it.
--- Assumes nothing.
 use Prim.Native.Nat.{_*_, _≤_, _<_, _^_}
 use mathlib.Core.Path.{_≡_, ap, _∙_}
 use native.Mathlib.Omega.{arith}
@@ -51,9 +50,6 @@ module _ (c : tie.After-ceil) where
 cast-result : tie.Need-cast-result
 cast-result c = fits c
 
-cast-result-2 : tie.Need-cast-result-2
-cast-result-2 c = search needs
-
 sub-result : tie.Need-sub-result
 sub-result c = rw (toZ-pos w64 (fits c .sfits)) (small-fits (less c))
 
@@ -64,4 +60,4 @@ returns c =
     ∙ ap (λ n. pos n -ℤ pos whole) (rw (toZ-ofZ (c .before .fits .voltage), toZ-ofZ (c .before .fits .tolerable)) at (c .ceil .ensures))
 
 pub margin-spec : {M : Type 1} → statement M
-margin-spec = tie.close (tie.spec cast-ceil cast-ceil-2 ceil-requires cast-result cast-result-2 sub-result returns)
+margin-spec = tie.close (tie.spec cast-ceil cast-ceil-2 ceil-requires cast-result (λ c. search needs) sub-result returns)

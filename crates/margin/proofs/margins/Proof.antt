@@ -1,5 +1,4 @@
 -- `margins` reads the four ends of a row.
--- Assumes nothing.
 use mathlib.Core.Path.{_∙_}
 use lib.IntN.{pos}
 use lib.ListN.{getD}
@@ -11,21 +10,6 @@ use borrow.Author.Tests.{ne-eqb}
 use Rattle.margin.specs.Margin.{marginsOf}
 use Rattle.margin.proofs.margins.Statement.{statement}
 use Rattle.margin.proofs.margins.Tie as tie
-
-shared-slice-copy-out-compare : tie.Need-shared-slice-copy-out-compare
-shared-slice-copy-out-compare c = search needs
-
-shared-slice-copy-out-compare-2 : tie.Need-shared-slice-copy-out-compare-2
-shared-slice-copy-out-compare-2 c = search needs
-
-shared-slice-copy-out-compare-3 : tie.Need-shared-slice-copy-out-compare-3
-shared-slice-copy-out-compare-3 c = search needs
-
-shared-slice-copy-out-compare-4 : tie.Need-shared-slice-copy-out-compare-4
-shared-slice-copy-out-compare-4 c = search needs
-
-compare-requires : tie.Need-compare-requires
-compare-requires c κs = search needs
 
 held : (c : tie.After-compare)
     → SFits w64 (getD (c .before .before .before .before .before .before .args .row .now) 13 (pos 0))
@@ -49,10 +33,10 @@ pub margins-spec : {M : Type 1} → statement M
 margins-spec =
     tie.close
     (tie.spec
-    shared-slice-copy-out-compare
-    shared-slice-copy-out-compare-2
-    shared-slice-copy-out-compare-3
-    shared-slice-copy-out-compare-4
-    compare-requires
+    (λ c. search needs)
+    (λ c. search needs)
+    (λ c. search needs)
+    (λ c. search needs)
+    (λ c κs. search needs)
     returns
     returns-2)

@@ -1,5 +1,4 @@
 -- `answer` prints the rows that `sheet` answered: they lie within the table, and it has room for the most.
--- Assumes nothing.
 use native.Mathlib.Omega.{arith}
 use borrow.Author.Needs.{needs}
 use Rattle.listing.proofs.Room.{rows-within}

@@ -1,5 +1,4 @@
 -- `driven` divides ρ·Ki·IG by LM.
--- Assumes nothing.
 use native.Mathlib.Omega.{arith}
 use lib.Dec.{lit<}
 use Rattle.interval.proofs.SpanFits.{quotient-fits}
@@ -9,9 +8,6 @@ use Rattle.mesh.proofs.LengthSpans.{mesh-length-span, mesh-length-low}
 use borrow.Author.Needs.{needs}
 use Rattle.mesh.proofs.driven.Statement.{statement}
 use Rattle.mesh.proofs.driven.Tie as tie
-
-mesh-length-requires : tie.Need-mesh-length-requires
-mesh-length-requires c κs = search needs
 
 quotient-requires : tie.Need-quotient-requires
 quotient-requires c κs =
@@ -25,4 +21,4 @@ unfolding drivenEnds
 returns c = rw (c .quotient .ensures, c .before .mesh-length .ensures, c .before .before .pre .1)
 
 pub driven-spec : {M : Type 1} → statement M
-driven-spec = tie.close (tie.spec mesh-length-requires quotient-requires returns)
+driven-spec = tie.close (tie.spec (λ c κs. search needs) quotient-requires returns)

@@ -1,5 +1,4 @@
 -- `mesh_voltage` multiplies by Km.
--- Assumes nothing.
 use lib.Dec.{lit<}
 use Rattle.interval.proofs.SpanFits.{product-fits}
 use Rattle.mesh.specs.Ends.{meshEnds}
@@ -8,12 +7,6 @@ use Rattle.mesh.proofs.DrivenWidths.{driven-span}
 use borrow.Author.Needs.{needs}
 use Rattle.mesh.proofs.mesh_voltage.Statement.{statement}
 use Rattle.mesh.proofs.mesh_voltage.Tie as tie
-
-driven-requires : tie.Need-driven-requires
-driven-requires c κs = search needs
-
-geometric-factor-requires : tie.Need-geometric-factor-requires
-geometric-factor-requires c κs = search needs
 
 product-requires : tie.Need-product-requires
 product-requires c κs =
@@ -26,4 +19,4 @@ returns c = cc
 
 pub mesh-voltage-spec : {M : Type 1} → statement M
 mesh-voltage-spec =
-    tie.close (tie.spec driven-requires geometric-factor-requires product-requires returns)
+    tie.close (tie.spec (λ c κs. search needs) (λ c κs. search needs) product-requires returns)

@@ -1,5 +1,4 @@
 -- `numeral` is safe and ends: the measure is what is left of the digits.
--- Assumes nothing.
 use Prim.Native.Nat.{_-_}
 use borrow.Author.Needs.{needs}
 use lib.ListN.{length}

@@ -1,5 +1,4 @@
 -- `fill_buffer` lends the sheet as much of the table as the buffer has room for, and puts the rows' numbers in the buffer.
--- Assumes nothing.
 use Prim.Native.Nat.{ℕ, _*_, _/_, _≤_}
 use mathlib.Core.Path.{_≡_, sym, ap, _∙_}
 use native.Mathlib.Nat.{min-le-left, min-le-right}
@@ -34,26 +33,19 @@ module _ (c : tie.After-room) where
   lent = length-take-le (c .room .result) (c .before .before .before .args .table .now) within ∙ c .room .ensures
 
 -- the rows fit, table and buffer
-rows-fit : (c : tie.After-known-told) → Fitting (length (c .before .before .before .before .before .before .before .before .before .args .buffer .now)) (c .before .count .given .0 .0)
+rows-fit : (c : tie.After-known-told)
+    → Fitting (length (c .before .before .before .before .before .before .before .before .before .args .buffer .now)) (c .before .count .given .0 .0)
 rows-fit c =
     let s = c .before .before .before .before in
     let r = s .before .before in
-    fitting (r .before .before .before .args .s .now) _ _ (sym (c .before .count .given .1) ∙ s .sheet .ensures .answer-is ∙ ap (answer (r .before .before .before .args .s .now)) (lent r))
-
-room-requires : tie.Need-room-requires
-room-requires c κs = search needs
+    fitting (r .before .before .before .args .s .now) _ _
+    (sym (c .before .count .given .1) ∙ s .sheet .ensures .answer-is ∙ ap (answer (r .before .before .before .args .s .now)) (lent r))
 
 slice-relend-prefix-sheet : tie.Need-slice-relend-prefix-sheet
 slice-relend-prefix-sheet c = within c
 
 slice-aggregate-sheet : tie.Need-slice-aggregate-sheet
 slice-aggregate-sheet c = sym (length-take-le _ (c .before .before .before .before .args .table .now) (within (c .before)))
-
-sheet-requires : tie.Need-sheet-requires
-sheet-requires c κs = search needs
-
-enum-known-count : tie.Need-enum-known-count
-enum-known-count c = search needs
 
 mul-n : tie.Need-mul-n
 mul-n c = record { fits = omega (arith, rows-fit c .table) }
@@ -68,15 +60,6 @@ put-numbers-requires c κs =
     let f = rows-fit k in
     (omega (arith, f .table, e, r .before .before .before .pre, within r), omega (arith, f .buffer, room-within r))
 
-enum-known-number : tie.Need-enum-known-number
-enum-known-number c = search needs
-
-same-length : tie.Need-same-length
-same-length c = search needs
-
-same-length-2 : tie.Need-same-length-2
-same-length-2 c = search needs
-
 returns : tie.Need-returns
 returns c =
     let p = c .before .before in
@@ -84,10 +67,8 @@ returns c =
     let s = n .before .before .before in
     let r = s .before .before in
     let b = r .before .before .before in
-    in-bytes-rows (b .args .buffer .now) (lent r) (drop (r .room .result) (b .args .table .now)) (rw (n .count .given .1) at (s .sheet .ensures)) (p .put-numbers .ensures)
-
-same-length-3 : tie.Need-same-length-3
-same-length-3 c = search needs
+    in-bytes-rows (b .args .buffer .now) (lent r) (drop (r .room .result) (b .args .table .now))
+    (rw (n .count .given .1) at (s .sheet .ensures)) (p .put-numbers .ensures)
 
 returns-2 : tie.Need-returns-2
 returns-2 c =
@@ -101,16 +82,16 @@ pub fill-buffer-spec : {M : Type 1} → statement M
 fill-buffer-spec =
     tie.close
     (tie.spec
-    room-requires
+    (λ c κs. search needs)
     slice-relend-prefix-sheet
     slice-aggregate-sheet
-    sheet-requires
-    enum-known-count
+    (λ c κs. search needs)
+    (λ c. search needs)
     mul-n
     put-numbers-requires
-    enum-known-number
-    same-length
-    same-length-2
+    (λ c. search needs)
+    (λ c. search needs)
+    (λ c. search needs)
     returns
-    same-length-3
+    (λ c. search needs)
     returns-2)

@@ -1,5 +1,4 @@
 -- `hocsimbur_rows` answers by one number.
--- Assumes nothing.
 use mathlib.Core.Path.{_∙_}
 use borrow.Author.Needs.{needs}
 use Rattle.interval.proofs.Bits.{back}
@@ -7,18 +6,14 @@ use Rattle.panel.proofs.Rows.{told-few, told-signed}
 use Rattle.panel.proofs.hocsimbur_rows.Statement.{statement}
 use Rattle.panel.proofs.hocsimbur_rows.Tie as tie
 
-rows-in-bytes-requires : tie.Need-rows-in-bytes-requires
-rows-in-bytes-requires c κs = search needs
-
 signed-answer-requires : tie.Need-signed-answer-requires
 signed-answer-requires c κs = told-few (c .before .before .rows-in-bytes .ensures)
 
-same-length : tie.Need-same-length
-same-length c = search needs
-
 returns : tie.Need-returns
-returns c = told-signed (c .before .before .before .rows-in-bytes .ensures) (back (c .signed-answer .result) (c .signed-answer .ok) ∙ c .signed-answer .ensures)
+returns c =
+    told-signed (c .before .before .before .rows-in-bytes .ensures)
+    (back (c .signed-answer .result) (c .signed-answer .ok) ∙ c .signed-answer .ensures)
 
 pub hocsimbur-rows-spec : {M : Type 1} → statement M
 hocsimbur-rows-spec =
-    tie.close (tie.spec rows-in-bytes-requires signed-answer-requires same-length returns)
+    tie.close (tie.spec (λ c κs. search needs) signed-answer-requires (λ c. search needs) returns)

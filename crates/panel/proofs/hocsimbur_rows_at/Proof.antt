@@ -1,5 +1,4 @@
 -- `hocsimbur_rows_at` also tells line and column.
--- Assumes nothing.
 use mathlib.Core.Path.{ap, _∙_}
 use borrow.Author.Needs.{needs}
 use Rattle.interval.proofs.Bits.{back}
@@ -8,20 +7,8 @@ use Rattle.panel.proofs.Rows.{told-few, told-signed}
 use Rattle.panel.proofs.hocsimbur_rows_at.Statement.{statement}
 use Rattle.panel.proofs.hocsimbur_rows_at.Tie as tie
 
-rows-in-bytes-requires : tie.Need-rows-in-bytes-requires
-rows-in-bytes-requires c κs = search needs
-
-put-place-requires : tie.Need-put-place-requires
-put-place-requires c κs = search needs
-
 signed-answer-requires : tie.Need-signed-answer-requires
 signed-answer-requires c κs = told-few (c .before .before .before .before .before .before .rows-in-bytes .ensures)
-
-same-length : tie.Need-same-length
-same-length c = search needs
-
-same-length-2 : tie.Need-same-length-2
-same-length-2 c = search needs
 
 returns : tie.Need-returns
 returns c =
@@ -29,7 +16,8 @@ returns c =
     let r = p .before .before .before .before in
     let place = r .before .before .before .before .before .args .place .now in
     record {
-      answered = told-signed (r .rows-in-bytes .ensures) (back (c .signed-answer .result) (c .signed-answer .ok) ∙ c .signed-answer .ensures);
+      answered =
+          told-signed (r .rows-in-bytes .ensures) (back (c .signed-answer .result) (c .signed-answer .ok) ∙ c .signed-answer .ensures);
       place-is = p .put-place .ensures ∙ ap (λ a. placeAfter a place) (r .rows-in-bytes .ensures .answer-is);
     }
 
@@ -37,9 +25,9 @@ pub hocsimbur-rows-at-spec : {M : Type 1} → statement M
 hocsimbur-rows-at-spec =
     tie.close
     (tie.spec
-    rows-in-bytes-requires
-    put-place-requires
+    (λ c κs. search needs)
+    (λ c κs. search needs)
     signed-answer-requires
-    same-length
-    same-length-2
+    (λ c. search needs)
+    (λ c. search needs)
     returns)

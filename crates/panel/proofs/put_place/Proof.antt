@@ -1,5 +1,4 @@
 -- `put_place` writes the first two numbers.
--- Assumes nothing.
 use Prim.Native.Nat.{ℕ, _≤_, _<_}
 use mathlib.Core.Path.{_≡_}
 use mathlib.Core.List.{List, [], _∷_}
@@ -32,20 +31,8 @@ rows-kept p e = rw e
 enum-told : tie.Need-enum-told
 enum-told c = search needs
 
-enum-known-answer : tie.Need-enum-known-answer
-enum-known-answer c = search needs
-
-slice-write-place : tie.Need-slice-write-place
-slice-write-place c = search needs
-
-slice-write-place-2 : tie.Need-slice-write-place-2
-slice-write-place-2 c = search needs
-
 returns : tie.Need-returns
 returns c = rows-kept (c .before .before .args .place .now) (c .enum-told .given .1)
-
-same-length : tie.Need-same-length
-same-length c = search needs
 
 returns-2 : tie.Need-returns-2
 returns-2 c = written (c .before .before .before .before .args .place .now) (c .before .before .answer .given .1) (c .if1 .taken)
@@ -58,10 +45,10 @@ put-place-spec =
     tie.close
     (tie.spec
     enum-told
-    enum-known-answer
-    slice-write-place
-    slice-write-place-2
+    (λ c. search needs)
+    (λ c. search needs)
+    (λ c. search needs)
     returns
-    same-length
+    (λ c. search needs)
     returns-2
     returns-3)

@@ -1,5 +1,4 @@
 -- `room` takes the lesser.
--- Assumes nothing.
 use mathlib.Core.Path.{sym}
 use native.Mathlib.Nat.{min-eq-left, min-eq-right, le-of-lt}
 use Rattle.panel.specs.Room.{roomOf}

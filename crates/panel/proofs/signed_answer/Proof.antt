@@ -1,5 +1,4 @@
 -- `signed_answer`: a count is small, and a refusal's number is taken from 0.
--- Assumes nothing.
 use Prim.Native.Nat.{ℕ, _+_, _≤_, _<_, _^_}
 use mathlib.Core.Path.{_≡_, sym, ap, _∙_}
 use native.Mathlib.Nat.{lt-of-le-of-lt}
@@ -28,17 +27,8 @@ small {a} {n} f e =
 difference-fits : (a b : ℤ) → natAbs a + natAbs b < 2 ^ 63 → SFits w64 (a -ℤ b)
 difference-fits a b h = small-fits (lt-of-le-of-lt (size-difference a b) h)
 
-enum-known-answer : tie.Need-enum-known-answer
-enum-known-answer c = search needs
-
 cast-result : tie.Need-cast-result
 cast-result c = record { sfits = small (c .before .before .before .pre) (c .before .answer .given .1) }
-
-enum-known-answer-2 : tie.Need-enum-known-answer-2
-enum-known-answer-2 c = search needs
-
-cast-result-2 : tie.Need-cast-result-2
-cast-result-2 c = search needs
 
 sub-result : tie.Need-sub-result
 sub-result c =
@@ -47,7 +37,8 @@ sub-result c =
 
 returns : tie.Need-returns
 unfolding signedAnswer
-returns c = toZ-pos w64 (small (c .before .before .before .pre) (c .before .answer .given .1)) ∙ ap signedAnswer (sym (c .before .answer .given .1))
+returns c =
+    toZ-pos w64 (small (c .before .before .before .pre) (c .before .answer .given .1)) ∙ ap signedAnswer (sym (c .before .answer .given .1))
 
 returns-2 : tie.Need-returns-2
 unfolding signedAnswer
@@ -59,10 +50,10 @@ pub signed-answer-spec : {M : Type 1} → statement M
 signed-answer-spec =
     tie.close
     (tie.spec
-    enum-known-answer
+    (λ c. search needs)
     cast-result
-    enum-known-answer-2
-    cast-result-2
+    (λ c. search needs)
+    (λ c. search needs)
     sub-result
     returns
     returns-2)

@@ -1,5 +1,4 @@
 -- `print::signed` is safe: turned round or straight, the number's bits read as its magnitude.
--- Assumes nothing.
 use Prim.Native.Nat.{suc, _-_}
 use mathlib.Core.Path.{_≡_, refl, _∙_}
 use mathlib.Core.Bool.{true, false}

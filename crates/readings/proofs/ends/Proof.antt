@@ -1,20 +1,10 @@
 -- `ends` is a wide product: 2π's ends times s, over the count.
--- Assumes nothing.
 use mathlib.Core.Path.{_∙_}
 use borrow.Author.Needs.{needs}
 use Rattle.readings.specs.Ends.{endsOf}
 use Rattle.readings.proofs.Spans.{ends-wide}
 use Rattle.readings.proofs.ends.Statement.{statement}
 use Rattle.readings.proofs.ends.Tie as tie
-
-two-pi-requires : tie.Need-two-pi-requires
-two-pi-requires c κs = search needs
-
-point-requires : tie.Need-point-requires
-point-requires c κs = search needs
-
-mul-wide-product : tie.Need-mul-wide-product
-mul-wide-product c = search needs
 
 wide-product-requires : tie.Need-wide-product-requires
 wide-product-requires c κs =
@@ -26,4 +16,4 @@ unfolding endsOf
 returns c = c .wide-product .ensures ∙ rw (c .before .before .two-pi .ensures, c .before .point .ensures)
 
 pub ends-spec : {M : Type 1} → statement M
-ends-spec = tie.close (tie.spec two-pi-requires point-requires mul-wide-product wide-product-requires returns)
+ends-spec = tie.close (tie.spec (λ c κs. search needs) (λ c κs. search needs) (λ c. search needs) wide-product-requires returns)

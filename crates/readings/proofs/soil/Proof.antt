@@ -1,5 +1,4 @@
 -- `soil` refuses in the order of the checks, and else reports.
--- Assumes nothing.
 use mathlib.Core.Path.{_≡_, sym, ap, _∙_}
 use mathlib.Core.Bool.{true, false}
 use mathlib.Core.List.{List}
@@ -44,18 +43,9 @@ module _ (f : tie.After-first-outside2) where
   distance-none : firstOutside distances 1 1 (pairsOf (numbers distances-right)) ≡ Nothing
   distance-none = distance-found distances-right (f .before .enum-told .given .1)
 
-sound-count-requires : tie.Need-sound-count-requires
-sound-count-requires c κs = search needs
-
 returns : tie.Need-returns
 unfolding answerOf RightAnswer
 returns c = record { answer = rw (count-wrong c); right = tt }
-
-first-outside-requires : tie.Need-first-outside-requires
-first-outside-requires c κs = search needs
-
-enum-known-distance : tie.Need-enum-known-distance
-enum-known-distance c = search needs
 
 returns-2 : tie.Need-returns-2
 unfolding answerOf judged refusedAt RightAnswer
@@ -66,12 +56,6 @@ returns-2 c =
 enum-told : tie.Need-enum-told
 enum-told c = search needs
 
-first-outside-requires-2 : tie.Need-first-outside-requires-2
-first-outside-requires-2 c κs = search needs
-
-enum-known-resistance : tie.Need-enum-known-resistance
-enum-known-resistance c = search needs
-
 returns-3 : tie.Need-returns-3
 unfolding answerOf judged refusedAt RightAnswer
 returns-3 c =
@@ -81,9 +65,6 @@ returns-3 c =
       answer = rw (count-right (d .before), distance-none f, resistance-found f (c .before .resistance .given .1));
       right = tt;
     }
-
-enum-told-2 : tie.Need-enum-told-2
-enum-told-2 c = search needs
 
 work-report-requires : tie.Need-work-report-requires
 work-report-requires c κs =
@@ -107,15 +88,15 @@ pub soil-spec : {M : Type 1} → statement M
 soil-spec =
     tie.close
     (tie.spec
-    sound-count-requires
+    (λ c κs. search needs)
     returns
-    first-outside-requires
-    enum-known-distance
+    (λ c κs. search needs)
+    (λ c. search needs)
     returns-2
     enum-told
-    first-outside-requires-2
-    enum-known-resistance
+    (λ c κs. search needs)
+    (λ c. search needs)
     returns-3
-    enum-told-2
+    (λ c. search needs)
     work-report-requires
     returns-4)

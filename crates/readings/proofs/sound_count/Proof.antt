@@ -1,5 +1,4 @@
 -- `sound_count` tests 0, odd and the most numbers.
--- Assumes nothing.
 use borrow.Author.Tests.{le-leb, lt-leb, eq-eqb, ne-eqb}
 use Rattle.readings.specs.Refusal.{soundCount}
 use Rattle.readings.proofs.sound_count.Statement.{statement}

@@ -1,16 +1,12 @@
 -- `two_pi` is the pair of its two constants.
--- Assumes nothing.
 use borrow.Author.Needs.{needs}
 use Rattle.readings.specs.Ends.{twoPi}
 use Rattle.readings.proofs.two_pi.Statement.{statement}
 use Rattle.readings.proofs.two_pi.Tie as tie
-
-natural-requires : tie.Need-natural-requires
-natural-requires c κs = search needs
 
 returns : tie.Need-returns
 unfolding twoPi
 returns c = c .natural .ensures
 
 pub two-pi-spec : {M : Type 1} → statement M
-two-pi-spec = tie.close (tie.spec natural-requires returns)
+two-pi-spec = tie.close (tie.spec (λ c κs. search needs) returns)

@@ -1,5 +1,4 @@
 -- `whole` rounds the upper end up.
--- Assumes nothing.
 use native.Mathlib.Omega.{arith}
 use borrow.Author.Needs.{needs}
 use mir.Facts.{toZ-ofZ}
@@ -26,9 +25,6 @@ module _ (c : tie.After-struct-told) where
 cast-result : tie.Need-cast-result
 cast-result c = natural-cast (span c .b) (held c .1) (read-upper (held c) (span c))
 
-sub-result : tie.Need-sub-result
-sub-result c = search needs
-
 add-result : tie.Need-add-result
 add-result c = rw (read-upper (held c) (span c)) (record { fits = omega (arith, span c .to) })
 
@@ -40,4 +36,4 @@ unfolding soilOf ceilDiv μΩm ten
 returns c = rw (toZ-ofZ (held c .1))
 
 pub whole-spec : {M : Type 1} → statement M
-whole-spec = tie.close (tie.spec cast-result sub-result add-result cast-result-2 returns)
+whole-spec = tie.close (tie.spec cast-result (λ c. search needs) add-result cast-result-2 returns)

@@ -1,5 +1,4 @@
 -- `work_report` works the three pairs of ends and the soil from one gathering of the pairs.
--- Assumes nothing.
 use Prim.Native.Nat.{ℕ, _*_, _/_, _≤_, _<_}
 use mathlib.Core.Path.{ap}
 use mathlib.Core.List.{List}
@@ -16,9 +15,6 @@ use Rattle.readings.proofs.Bounds.{least-bound, greatest-bound, total-b
 use Rattle.readings.proofs.Spans.{ends-span}
 use Rattle.readings.proofs.work_report.Statement.{statement}
 use Rattle.readings.proofs.work_report.Tie as tie
-
-gather-requires : tie.Need-gather-requires
-gather-requires c κs = search needs
 
 -- the count of the pairs, and the bounds of what is gathered
 module _ (c : tie.After-gather) where
@@ -70,4 +66,4 @@ returns c =
 pub work-report-spec : {M : Type 1} → statement M
 work-report-spec =
     tie.close
-    (tie.spec gather-requires ends-requires ends-requires-2 ends-requires-3 whole-requires returns)
+    (tie.spec (λ c κs. search needs) ends-requires ends-requires-2 ends-requires-3 whole-requires returns)

@@ -1,5 +1,4 @@
 -- `release_by` reads the sheet, then answers the licence.
--- Assumes nothing.
 use Prim.Native.Nat.{ℕ, _*_}
 use mathlib.Core.Path.{sym, _∙_, _≡_}
 use native.Mathlib.Omega.{arith}
@@ -48,29 +47,14 @@ read-requires : tie.Need-read-requires
 unfolding formOf
 read-requires c κs = omega (arith, name-count, c .before .before .before .before .pre)
 
-enum-known-number : tie.Need-enum-known-number
-enum-known-number c = search needs
-
-enum-known-n : tie.Need-enum-known-n
-enum-known-n c = search needs
-
 release-lines-requires : tie.Need-release-lines-requires
 release-lines-requires c κs = let n = c .before .before .before in
     let r = read-of n in
     let a = lines-accepted r (n .n .given .1) in
     (a .most, (stored-bounds _ a (lines-stored r (n .n .given .1)), omega (arith, store-count r, a .most)))
 
-same-length : tie.Need-same-length
-same-length c = search needs
-
 returns : tie.Need-returns
 returns c = sheet-refused _ _ _ (sym (judged-is (c .before .before .before .before .before)) ∙ c .before .number .given .1)
-
-same-length-2 : tie.Need-same-length-2
-same-length-2 c = search needs
-
-same-length-3 : tie.Need-same-length-3
-same-length-3 c = search needs
 
 returns-2 : tie.Need-returns-2
 returns-2 c = let l = c .before in
@@ -84,11 +68,11 @@ release-by-spec =
     tie.close
     (tie.spec
     read-requires
-    enum-known-number
-    enum-known-n
+    (λ c. search needs)
+    (λ c. search needs)
     release-lines-requires
-    same-length
+    (λ c. search needs)
     returns
-    same-length-2
-    same-length-3
+    (λ c. search needs)
+    (λ c. search needs)
     returns-2)

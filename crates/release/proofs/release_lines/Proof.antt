@@ -1,5 +1,4 @@
 -- `release_lines` refuses in the order of the checks, and else puts the pairs.
--- Assumes nothing.
 use mathlib.Core.Path.{sym, _∙_, _≡_}
 use mathlib.Core.Bool.{false}
 use mathlib.Core.List.{[]}
@@ -25,23 +24,11 @@ wrong e = e .before .before
 none-wrong : (e : tie.After-enum-told) → firstWrong [] 1 (pairsOf (start (wrong e) .args .licence .now)) ≡ Nothing
 none-wrong e = sym (wrong e .first-wrong .ensures) ∙ e .enum-told .given .1
 
-bad-count-requires : tie.Need-bad-count-requires
-bad-count-requires c κs = search needs
-
 returns : tie.Need-returns
 returns c = count-refused _ _ _ (sym (c .before .bad-count .ensures) ∙ c .if1 .taken)
 
-first-wrong-requires : tie.Need-first-wrong-requires
-first-wrong-requires c κs = search needs
-
-enum-known-place : tie.Need-enum-known-place
-enum-known-place c = search needs
-
 enum-told : tie.Need-enum-told
 enum-told c = search needs
-
-mul-if2 : tie.Need-mul-if2
-mul-if2 c = search needs
 
 returns-2 : tie.Need-returns-2
 returns-2 c = let e = c .before in room-refused _ _ _ (count-right (wrong e)) (none-wrong e) (c .if2 .taken)
@@ -50,10 +37,8 @@ put-pairs-requires : tie.Need-put-pairs-requires
 put-pairs-requires c κs = let s = start (wrong (c .before .before)) in (s .pre .0, (s .pre .1 .0, (s .pre .1 .1, c .before .if2 .left)))
 
 returns-3 : tie.Need-returns-3
-returns-3 c = let f = c .before .before .before in pair-refused _ _ _ (count-right f) (sym (f .first-wrong .ensures) ∙ c .before .place .given .1)
-
-same-length : tie.Need-same-length
-same-length c = search needs
+returns-3 c =
+    let f = c .before .before .before in pair-refused _ _ _ (count-right f) (sym (f .first-wrong .ensures) ∙ c .before .place .given .1)
 
 returns-4 : tie.Need-returns-4
 returns-4 c = let p = c .before in
@@ -64,14 +49,14 @@ pub release-lines-spec : {M : Type 1} → statement M
 release-lines-spec =
     tie.close
     (tie.spec
-    bad-count-requires
+    (λ c κs. search needs)
     returns
-    first-wrong-requires
-    enum-known-place
+    (λ c κs. search needs)
+    (λ c. search needs)
     enum-told
-    mul-if2
+    (λ c. search needs)
     returns-2
     put-pairs-requires
     returns-3
-    same-length
+    (λ c. search needs)
     returns-4)

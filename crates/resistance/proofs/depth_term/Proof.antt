@@ -1,5 +1,4 @@
 -- `depth_term` keeps within 64 bits by the spans of its parts.
--- Assumes nothing.
 use lib.Dec.{lit≤, lit<}
 use Rattle.interval.proofs.SpanFits.{sum-fits, scaled-fits, quotient-fits}
 use Rattle.resistance.specs.Ends.{depthEnds}
@@ -8,19 +7,10 @@ use borrow.Author.Needs.{needs}
 use Rattle.resistance.proofs.depth_term.Statement.{statement}
 use Rattle.resistance.proofs.depth_term.Tie as tie
 
-root-twenty-requires : tie.Need-root-twenty-requires
-root-twenty-requires c κs = search needs
-
-cast-scaled : tie.Need-cast-scaled
-cast-scaled c = search needs
-
 scaled-requires : tie.Need-scaled-requires
 scaled-requires c κs =
     let s = c .before .before in
     rw (c .before .root-twenty .ensures) (scaled-fits 2500 (lit< tt) (lit< tt) (s .pre .depth .high) twenty-span)
-
-side-term-requires : tie.Need-side-term-requires
-side-term-requires c κs = search needs
 
 quotient-requires : tie.Need-quotient-requires
 quotient-requires c κs =
@@ -28,9 +18,6 @@ quotient-requires c κs =
     let b = r .before .pre in
     rw (c .side-term .ensures, c .before .scaled .ensures, r .root-twenty .ensures)
     (quotient-fits (lit< tt) (lit< tt) (lit≤ tt) (depth-scaled b) (side-span b))
-
-point-requires : tie.Need-point-requires
-point-requires c κs = search needs
 
 sum-requires : tie.Need-sum-requires
 sum-requires c κs =
@@ -48,11 +35,11 @@ pub depth-term-spec : {M : Type 1} → statement M
 depth-term-spec =
     tie.close
     (tie.spec
-    root-twenty-requires
-    cast-scaled
+    (λ c κs. search needs)
+    (λ c. search needs)
     scaled-requires
-    side-term-requires
+    (λ c κs. search needs)
     quotient-requires
-    point-requires
+    (λ c κs. search needs)
     sum-requires
     returns)

@@ -1,5 +1,4 @@
 -- `per_soil` keeps within 64 bits by the spans of its parts.
--- Assumes nothing.
 use native.Mathlib.Omega.{arith}
 use lib.Dec.{lit≤, lit<}
 use Rattle.interval.proofs.SpanFits.{sum-fits, quotient-fits}
@@ -11,26 +10,14 @@ use borrow.Author.Needs.{needs}
 use Rattle.resistance.proofs.per_soil.Statement.{statement}
 use Rattle.resistance.proofs.per_soil.Tie as tie
 
-total-length-requires : tie.Need-total-length-requires
-total-length-requires c κs = search needs
-
 point-requires : tie.Need-point-requires
 point-requires c κs = rw (c .total-length .ensures) (omega (arith, total-bounds (c .before .pre) .high))
-
-point-requires-2 : tie.Need-point-requires-2
-point-requires-2 c κs = search needs
 
 quotient-requires : tie.Need-quotient-requires
 quotient-requires c κs =
     let p = c .before in
     rw (c .point2 .ensures, p .point .ensures, p .before .total-length .ensures)
     (quotient-fits (lit< tt) (lit< tt) (lit≤ tt) (span-point 1 {l = 1} {h = 1} (lit≤ tt) (lit≤ tt)) (total-span (p .before .before .pre)))
-
-shape-term-requires : tie.Need-shape-term-requires
-shape-term-requires c κs = search needs
-
-width-term-requires : tie.Need-width-term-requires
-width-term-requires c κs = search needs
 
 quotient-requires-2 : tie.Need-quotient-requires-2
 quotient-requires-2 c κs =
@@ -43,7 +30,15 @@ sum-requires c κs =
     let q = w .before .before in
     let p = q .before .before in
     let b = p .before .before .pre in
-    rw (c .quotient2 .ensures, w .width-term .ensures, w .before .shape-term .ensures, q .quotient .ensures, q .before .point2 .ensures, p .point .ensures, p .before .total-length .ensures)
+    rw (
+      c .quotient2 .ensures,
+      w .width-term .ensures,
+      w .before .shape-term .ensures,
+      q .quotient .ensures,
+      q .before .point2 .ensures,
+      p .point .ensures,
+      p .before .total-length .ensures,
+    )
     (sum-fits (lit< tt) (first-span b) (second-span b))
 
 returns : tie.Need-returns
@@ -54,12 +49,12 @@ pub per-soil-spec : {M : Type 1} → statement M
 per-soil-spec =
     tie.close
     (tie.spec
-    total-length-requires
+    (λ c κs. search needs)
     point-requires
-    point-requires-2
+    (λ c κs. search needs)
     quotient-requires
-    shape-term-requires
-    width-term-requires
+    (λ c κs. search needs)
+    (λ c κs. search needs)
     quotient-requires-2
     sum-requires
     returns)

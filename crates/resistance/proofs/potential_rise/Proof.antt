@@ -1,5 +1,4 @@
 -- `potential_rise` multiplies the resistance by the current; the product is wide.
--- Assumes nothing.
 use Rattle.resistance.specs.Ends.{riseEnds}
 use Rattle.resistance.proofs.Rise.{rise-wide}
 use Rattle.resistance.proofs.potential_rise.Statement.{statement}

@@ -1,18 +1,11 @@
 -- `resistance` keeps within 64 bits by the spans of its parts.
--- Assumes nothing.
-use lib.Dec.{lit≤, lit<}
+use lib.Dec.{lit<}
 use Rattle.interval.proofs.SpanFits.{scaled-fits, outward-fits}
 use Rattle.resistance.specs.Ends.{resistanceEnds}
 use Rattle.resistance.proofs.Spans.{per-soil-span, soil-scaled}
 use borrow.Author.Needs.{needs}
 use Rattle.resistance.proofs.resistance.Statement.{statement}
 use Rattle.resistance.proofs.resistance.Tie as tie
-
-per-soil-requires : tie.Need-per-soil-requires
-per-soil-requires c κs = search needs
-
-cast-scaled : tie.Need-cast-scaled
-cast-scaled c = search needs
 
 scaled-requires : tie.Need-scaled-requires
 scaled-requires c κs =
@@ -30,4 +23,4 @@ returns c = cc
 
 pub resistance-spec : {M : Type 1} → statement M
 resistance-spec =
-    tie.close (tie.spec per-soil-requires cast-scaled scaled-requires outward-requires returns)
+    tie.close (tie.spec (λ c κs. search needs) (λ c. search needs) scaled-requires outward-requires returns)

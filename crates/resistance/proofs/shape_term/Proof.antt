@@ -1,5 +1,4 @@
 -- `shape_term` keeps within 64 bits by the spans of its parts.
--- Assumes nothing.
 use lib.Dec.{lit≤, lit<}
 use Rattle.interval.proofs.SpanFits.{sum-fits, quotient-fits}
 use Rattle.resistance.specs.Ends.{shapeEnds}
@@ -7,12 +6,6 @@ use Rattle.resistance.proofs.Spans.{one-span, depth-span, inverse-span}
 use borrow.Author.Needs.{needs}
 use Rattle.resistance.proofs.shape_term.Statement.{statement}
 use Rattle.resistance.proofs.shape_term.Tie as tie
-
-point-requires : tie.Need-point-requires
-point-requires c κs = search needs
-
-depth-term-requires : tie.Need-depth-term-requires
-depth-term-requires c κs = search needs
 
 quotient-requires : tie.Need-quotient-requires
 quotient-requires c κs =
@@ -31,4 +24,4 @@ returns c = cc
 
 pub shape-term-spec : {M : Type 1} → statement M
 shape-term-spec =
-    tie.close (tie.spec point-requires depth-term-requires quotient-requires sum-requires returns)
+    tie.close (tie.spec (λ c κs. search needs) (λ c κs. search needs) quotient-requires sum-requires returns)

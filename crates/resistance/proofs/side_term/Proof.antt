@@ -1,5 +1,4 @@
 -- `side_term` is s by the two counts.
--- Assumes nothing.
 use native.Mathlib.Omega.{arith}
 use lib.Dec.{lit<}
 use borrow.Author.Tests.{eq-eqb, ne-eqb}
@@ -10,12 +9,6 @@ use Rattle.resistance.specs.Ends.{sideEnds}
 use borrow.Author.Needs.{needs}
 use Rattle.resistance.proofs.side_term.Statement.{statement}
 use Rattle.resistance.proofs.side_term.Tie as tie
-
-side-x-requires : tie.Need-side-x-requires
-side-x-requires c κs = search needs
-
-side-y-requires : tie.Need-side-y-requires
-side-y-requires c κs = search needs
 
 mul-point : tie.Need-mul-point
 mul-point c =
@@ -45,9 +38,6 @@ mul-root-ends-2 c =
     let y = y-bounds b in
     fits-triple {m = 720000} {n = 720000} {o = 1000000} (omega arith) (omega arith) (omega arith) (lit< tt)
 
-root-ends-requires : tie.Need-root-ends-requires
-root-ends-requires c κs = search needs
-
 returns-2 : tie.Need-returns-2
 unfolding sideEnds
 returns-2 c = rw (ne-eqb _ _ (c .before .if1 .left)) (cc (root-pair (c .root-ends .ensures)))
@@ -56,12 +46,12 @@ pub side-term-spec : {M : Type 1} → statement M
 side-term-spec =
     tie.close
     (tie.spec
-    side-x-requires
-    side-y-requires
+    (λ c κs. search needs)
+    (λ c κs. search needs)
     mul-point
     point-requires
     returns
     mul-root-ends
     mul-root-ends-2
-    root-ends-requires
+    (λ c κs. search needs)
     returns-2)

@@ -1,5 +1,4 @@
 -- `width_term` keeps within 64 bits by the spans of its parts.
--- Assumes nothing.
 use lib.Dec.{lit<}
 use Rattle.interval.proofs.SpanFits.{product-fits}
 use Rattle.resistance.specs.Ends.{widthEnds}
@@ -7,12 +6,6 @@ use Rattle.resistance.proofs.Spans.{twenty-span, side-span}
 use borrow.Author.Needs.{needs}
 use Rattle.resistance.proofs.width_term.Statement.{statement}
 use Rattle.resistance.proofs.width_term.Tie as tie
-
-side-term-requires : tie.Need-side-term-requires
-side-term-requires c κs = search needs
-
-root-twenty-requires : tie.Need-root-twenty-requires
-root-twenty-requires c κs = search needs
 
 product-requires : tie.Need-product-requires
 product-requires c κs =
@@ -25,4 +18,4 @@ returns c = cc
 
 pub width-term-spec : {M : Type 1} → statement M
 width-term-spec =
-    tie.close (tie.spec side-term-requires root-twenty-requires product-requires returns)
+    tie.close (tie.spec (λ c κs. search needs) (λ c κs. search needs) product-requires returns)

@@ -1,6 +1,5 @@
 -- `fill_table` reads, then writes where the table has room.
--- Assumes nothing.
-use Prim.Native.Nat.{ℕ, _*_, _≤_}
+use Prim.Native.Nat.{ℕ, _*_}
 use mathlib.Core.Path.{_≡_, sym, _∙_}
 use native.Mathlib.Omega.{arith}
 use lib.ListN.{length}
@@ -22,12 +21,6 @@ use Rattle.sheet.proofs.fill_table.Tie as tie
 read-requires : tie.Need-read-requires
 unfolding formOf
 read-requires c κs = omega (arith, name-count, c .before .before .before .pre)
-
-enum-known-number : tie.Need-enum-known-number
-enum-known-number c = search needs
-
-enum-known-n : tie.Need-enum-known-n
-enum-known-n c = search needs
 
 -- ---- the sheet as it was read
 
@@ -57,9 +50,6 @@ read-of n = n .before .before .before .before
 mul-if1 : tie.Need-mul-if1
 mul-if1 c = let n = c .before in omega (arith, lines-accepted (read-of n) (n .n .given .1) .most)
 
-same-length : tie.Need-same-length
-same-length c = search needs
-
 returns : tie.Need-returns
 returns c =
     let n = c .before .before in
@@ -73,17 +63,8 @@ write-rows-requires c κs =
     let a = lines-accepted r (n .n .given .1) in
     (stored-bounds _ a (lines-stored r (n .n .given .1)), (omega (arith, store-count r, a .most), e .if1 .left))
 
-same-length-2 : tie.Need-same-length-2
-same-length-2 c = search needs
-
 returns-2 : tie.Need-returns-2
 returns-2 c = answered-refused _ _ (judged-is (c .before .before .before .before .before)) (c .before .number .given .1)
-
-same-length-3 : tie.Need-same-length-3
-same-length-3 c = search needs
-
-same-length-4 : tie.Need-same-length-4
-same-length-4 c = search needs
 
 returns-3 : tie.Need-returns-3
 returns-3 c =
@@ -98,14 +79,14 @@ fill-table-spec =
     tie.close
     (tie.spec
     read-requires
-    enum-known-number
-    enum-known-n
+    (λ c. search needs)
+    (λ c. search needs)
     mul-if1
-    same-length
+    (λ c. search needs)
     returns
     write-rows-requires
-    same-length-2
+    (λ c. search needs)
     returns-2
-    same-length-3
-    same-length-4
+    (λ c. search needs)
+    (λ c. search needs)
     returns-3)

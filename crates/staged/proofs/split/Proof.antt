@@ -1,5 +1,4 @@
 -- `split` makes the checks in their order.
--- Assumes nothing.
 use mathlib.Core.Path.{_≡_, sym, _∙_}
 use mathlib.Core.Bool.{false}
 use borrow.Author.Needs.{needs}
@@ -9,18 +8,12 @@ use Rattle.staged.specs.Answer.{answer}
 use Rattle.staged.proofs.split.Statement.{statement}
 use Rattle.staged.proofs.split.Tie as tie
 
-bad-count-requires : tie.Need-bad-count-requires
-bad-count-requires c κs = search needs
-
 returns : tie.Need-returns
 unfolding answer
 returns c = rw (sym (c .before .bad-count .ensures) ∙ c .if1 .taken)
 
 count-passed : (c : tie.Else1) → badCount (length (c .before .before .args .parts .now)) ≡ false
 count-passed c = sym (c .before .bad-count .ensures) ∙ c .if1 .left
-
-any-outside-requires : tie.Need-any-outside-requires
-any-outside-requires c κs = search needs
 
 none-injected-requires : tie.Need-none-injected-requires
 none-injected-requires c κs = count-passed (c .before)
@@ -57,9 +50,9 @@ pub split-spec : {M : Type 1} → statement M
 split-spec =
     tie.close
     (tie.spec
-    bad-count-requires
+    (λ c κs. search needs)
     returns
-    any-outside-requires
+    (λ c κs. search needs)
     none-injected-requires
     returns-2
     returns-3

@@ -1,5 +1,4 @@
 -- `driven` divides ρ·Ki·IG, which is within 64 bits, by LS.
--- Assumes nothing.
 use Prim.Native.Nat.{_*_}
 use native.Mathlib.Omega.{arith}
 use lib.Dec.{lit≤, lit<}
@@ -11,9 +10,6 @@ use Rattle.step.proofs.Spans.{length-bounds, length-span}
 use borrow.Author.Needs.{needs}
 use Rattle.step.proofs.driven.Statement.{statement}
 use Rattle.step.proofs.driven.Tie as tie
-
-step-length-requires : tie.Need-step-length-requires
-step-length-requires c κs = search needs
 
 mul-point : tie.Need-mul-point
 mul-point c =
@@ -34,4 +30,4 @@ returns c = cc
 
 pub driven-spec : {M : Type 1} → statement M
 driven-spec =
-    tie.close (tie.spec step-length-requires mul-point point-requires quotient-requires returns)
+    tie.close (tie.spec (λ c κs. search needs) mul-point point-requires quotient-requires returns)

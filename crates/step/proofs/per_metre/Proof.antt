@@ -1,5 +1,4 @@
 -- `per_metre` is a quotient of two whole numbers.
--- Assumes nothing.
 use native.Mathlib.Omega.{arith}
 use lib.Dec.{lit≤, lit<}
 use Rattle.interval.proofs.Span.{span-point}
@@ -8,12 +7,6 @@ use Rattle.step.specs.Ends.{perMetre}
 use borrow.Author.Needs.{needs}
 use Rattle.step.proofs.per_metre.Statement.{statement}
 use Rattle.step.proofs.per_metre.Tie as tie
-
-point-requires : tie.Need-point-requires
-point-requires c κs = search needs
-
-point-requires-2 : tie.Need-point-requires-2
-point-requires-2 c κs = search needs
 
 quotient-requires : tie.Need-quotient-requires
 quotient-requires c κs =
@@ -27,4 +20,4 @@ unfolding perMetre
 returns c = cc
 
 pub per-metre-spec : {M : Type 1} → statement M
-per-metre-spec = tie.close (tie.spec point-requires point-requires-2 quotient-requires returns)
+per-metre-spec = tie.close (tie.spec (λ c κs. search needs) (λ c κs. search needs) quotient-requires returns)

@@ -1,5 +1,4 @@
 -- `power_of_two` shifts one: the power stays below the width.
--- Assumes nothing.
 use Prim.Native.Nat.{_*_}
 use mathlib.Core.Path.{_≡_, _∙_}
 use native.Mathlib.Nat.{mod-eq-of-lt, one-mul}
@@ -10,15 +9,6 @@ use borrow.Author.Needs.{needs}
 use Rattle.step.proofs.power_of_two.Statement.{statement}
 use Rattle.step.proofs.power_of_two.Tie as tie
 
-sub-result : tie.Need-sub-result
-sub-result c = search needs
-
-cast-result : tie.Need-cast-result
-cast-result c = search needs
-
-shl-result : tie.Need-shl-result
-shl-result c = search needs
-
 returns : tie.Need-returns
 unfolding powerOfTwo
 returns c =
@@ -27,4 +17,4 @@ returns c =
     mod-eq-of-lt (omega (arith, power-bounds (c .before .pre))) ∙ e
 
 pub power-of-two-spec : {M : Type 1} → statement M
-power-of-two-spec = tie.close (tie.spec sub-result cast-result shl-result returns)
+power-of-two-spec = tie.close (tie.spec (λ c. search needs) (λ c. search needs) (λ c. search needs) returns)

@@ -1,5 +1,4 @@
 -- `spacing_factor` divides by π.
--- Assumes nothing.
 use lib.Dec.{lit≤, lit<}
 use Rattle.interval.proofs.SpanFits.{quotient-fits}
 use Rattle.enclosure.proofs.Constants.{π-span}
@@ -8,12 +7,6 @@ use Rattle.step.proofs.FactorSpans.{sum-span}
 use borrow.Author.Needs.{needs}
 use Rattle.step.proofs.spacing_factor.Statement.{statement}
 use Rattle.step.proofs.spacing_factor.Tie as tie
-
-spacing-sum-requires : tie.Need-spacing-sum-requires
-spacing-sum-requires c κs = search needs
-
-pi-requires : tie.Need-pi-requires
-pi-requires c κs = search needs
 
 quotient-requires : tie.Need-quotient-requires
 quotient-requires c κs =
@@ -26,4 +19,4 @@ returns c = cc
 
 pub spacing-factor-spec : {M : Type 1} → statement M
 spacing-factor-spec =
-    tie.close (tie.spec spacing-sum-requires pi-requires quotient-requires returns)
+    tie.close (tie.spec (λ c κs. search needs) (λ c κs. search needs) quotient-requires returns)

@@ -1,5 +1,4 @@
 -- `spacing_share` is by the power of two of a square, else by the half-power.
--- Assumes nothing.
 use native.Mathlib.Omega.{arith}
 use lib.Dec.{lit≤, lit<}
 use borrow.Author.Tests.{eq-eqb, ne-eqb}
@@ -14,12 +13,6 @@ use borrow.Author.Needs.{needs}
 use Rattle.step.proofs.spacing_share.Statement.{statement}
 use Rattle.step.proofs.spacing_share.Tie as tie
 
-cast-space : tie.Need-cast-space
-cast-space c = search needs
-
-power-of-two-requires : tie.Need-power-of-two-requires
-power-of-two-requires c κs = search needs
-
 sub-per-metre : tie.Need-sub-per-metre
 sub-per-metre c = rw (c .power-of-two .ensures) (power-bounds (c .before .before .before .before .pre .0) .low)
 
@@ -31,14 +24,14 @@ per-metre-requires : tie.Need-per-metre-requires
 per-metre-requires c κs =
     let b = c .before .before .before .before .pre .0 in
     let d = divisor-bounds b in
-    rw (c .power-of-two .ensures) (omega (arith, power-bounds b .low, power-bounds b .high), (omega (arith, d .low), omega (arith, d .high)))
+    rw (c .power-of-two .ensures) (
+      omega (arith, power-bounds b .low, power-bounds b .high),
+      (omega (arith, d .low), omega (arith, d .high)),
+    )
 
 returns : tie.Need-returns
 unfolding shareEnds
 returns c = rw (eq-eqb _ _ (c .before .before .if1 .taken)) (cc)
-
-point-requires : tie.Need-point-requires
-point-requires c κs = search needs
 
 half-power-requires : tie.Need-half-power-requires
 half-power-requires c κs =
@@ -51,9 +44,6 @@ difference-requires c κs =
     let s = p .before .before .before .before in
     rw (c .half-power .ensures, p .point .ensures, s .pre .1)
     (sum-fits (lit< tt) one-span (half-span (counts (s .pre .0)) (ne-eqb _ _ (p .before .if1 .left))))
-
-point-requires-2 : tie.Need-point-requires-2
-point-requires-2 c κs = search needs
 
 quotient-requires : tie.Need-quotient-requires
 quotient-requires c κs =
@@ -71,15 +61,15 @@ pub spacing-share-spec : {M : Type 1} → statement M
 spacing-share-spec =
     tie.close
     (tie.spec
-    cast-space
-    power-of-two-requires
+    (λ c. search needs)
+    (λ c κs. search needs)
     sub-per-metre
     mul-per-metre
     per-metre-requires
     returns
-    point-requires
+    (λ c κs. search needs)
     half-power-requires
     difference-requires
-    point-requires-2
+    (λ c κs. search needs)
     quotient-requires
     returns-2)

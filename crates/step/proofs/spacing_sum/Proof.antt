@@ -1,5 +1,4 @@
 -- `spacing_sum` keeps within 64 bits by the spans of its three parts.
--- Assumes nothing.
 use lib.Dec.{lit<}
 use Rattle.interval.proofs.Span.{span-sum}
 use Rattle.interval.proofs.SpanFits.{sum-fits}
@@ -9,33 +8,12 @@ use borrow.Author.Needs.{needs}
 use Rattle.step.proofs.spacing_sum.Statement.{statement}
 use Rattle.step.proofs.spacing_sum.Tie as tie
 
-cast-depth : tie.Need-cast-depth
-cast-depth c = search needs
-
-cast-space : tie.Need-cast-space
-cast-space c = search needs
-
-mul-per-metre : tie.Need-mul-per-metre
-mul-per-metre c = search needs
-
-per-metre-requires : tie.Need-per-metre-requires
-per-metre-requires c κs = search needs
-
-add-per-metre : tie.Need-add-per-metre
-add-per-metre c = search needs
-
-per-metre-requires-2 : tie.Need-per-metre-requires-2
-per-metre-requires-2 c κs = search needs
-
 sum-requires : tie.Need-sum-requires
 unfolding reach
 sum-requires c κs =
     let p = c .before in
     let b = p .before .before .before .pre .0 in
     rw (c .per-metre2 .ensures, p .per-metre .ensures) (sum-fits (lit< tt) (depth-span b) (reach-span b))
-
-spacing-share-requires : tie.Need-spacing-share-requires
-spacing-share-requires c κs = search needs
 
 sum-requires-2 : tie.Need-sum-requires-2
 unfolding reach
@@ -54,13 +32,13 @@ pub spacing-sum-spec : {M : Type 1} → statement M
 spacing-sum-spec =
     tie.close
     (tie.spec
-    cast-depth
-    cast-space
-    mul-per-metre
-    per-metre-requires
-    add-per-metre
-    per-metre-requires-2
+    (λ c. search needs)
+    (λ c. search needs)
+    (λ c. search needs)
+    (λ c κs. search needs)
+    (λ c. search needs)
+    (λ c κs. search needs)
     sum-requires
-    spacing-share-requires
+    (λ c κs. search needs)
     sum-requires-2
     returns)

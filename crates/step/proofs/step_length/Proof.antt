@@ -1,5 +1,4 @@
 -- `step_length` fits by the bounds of the lengths.
--- Assumes nothing.
 use Prim.Native.Nat.{_*_}
 use native.Mathlib.Omega.{arith}
 use lib.Dec.{lit<}
@@ -11,21 +10,17 @@ use borrow.Author.Needs.{needs}
 use Rattle.step.proofs.step_length.Statement.{statement}
 use Rattle.step.proofs.step_length.Tie as tie
 
-conductor-length-requires : tie.Need-conductor-length-requires
-conductor-length-requires c κs = search needs
-
 mul-result : tie.Need-mul-result
-mul-result c = rw (c .conductor-length .ensures) (fits-below {m = 15 * 36000000} (omega (arith, conductor-bounds (c .before .pre) .high)) (lit< tt))
-
-rod-length-requires : tie.Need-rod-length-requires
-rod-length-requires c κs = search needs
+mul-result c =
+    rw (c .conductor-length .ensures) (fits-below {m = 15 * 36000000} (omega (arith, conductor-bounds (c .before .pre) .high)) (lit< tt))
 
 mul-result-2 : tie.Need-mul-result-2
 mul-result-2 c = rw (c .rod-length .ensures) (fits-below {m = 17 * 2000000} (omega (arith, rod-bound (c .before .before .pre))) (lit< tt))
 
 add-result : tie.Need-add-result
 unfolding stepLength
-add-result c = rw (c .rod-length .ensures, c .before .conductor-length .ensures) (fits-below (length-bounds (c .before .before .pre) .high) (lit< tt))
+add-result c =
+    rw (c .rod-length .ensures, c .before .conductor-length .ensures) (fits-below (length-bounds (c .before .before .pre) .high) (lit< tt))
 
 returns : tie.Need-returns
 unfolding stepLength
@@ -35,9 +30,9 @@ pub step-length-spec : {M : Type 1} → statement M
 step-length-spec =
     tie.close
     (tie.spec
-    conductor-length-requires
+    (λ c κs. search needs)
     mul-result
-    rod-length-requires
+    (λ c κs. search needs)
     mul-result-2
     add-result
     returns)

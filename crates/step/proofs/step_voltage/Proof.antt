@@ -1,5 +1,4 @@
 -- `step_voltage` is the product of ρ·Ki·IG/LS and Ks.
--- Assumes nothing.
 use lib.Dec.{lit<}
 use Rattle.interval.proofs.SpanFits.{product-fits}
 use Rattle.step.specs.Ends.{stepVoltageEnds}
@@ -8,12 +7,6 @@ use Rattle.step.proofs.Spans.{driven-span}
 use borrow.Author.Needs.{needs}
 use Rattle.step.proofs.step_voltage.Statement.{statement}
 use Rattle.step.proofs.step_voltage.Tie as tie
-
-driven-requires : tie.Need-driven-requires
-driven-requires c κs = search needs
-
-spacing-factor-requires : tie.Need-spacing-factor-requires
-spacing-factor-requires c κs = search needs
 
 product-requires : tie.Need-product-requires
 product-requires c κs =
@@ -26,4 +19,4 @@ returns c = cc
 
 pub step-voltage-spec : {M : Type 1} → statement M
 step-voltage-spec =
-    tie.close (tie.spec driven-requires spacing-factor-requires product-requires returns)
+    tie.close (tie.spec (λ c κs. search needs) (λ c κs. search needs) product-requires returns)

@@ -1,5 +1,4 @@
 -- `summed::answer` is safe: the parts of the tables that are lent lie within them.
--- Assumes nothing.
 use mathlib.Core.Path.{sym}
 use lib.Seq.{length-take-le}
 use borrow.Author.Needs.{needs}

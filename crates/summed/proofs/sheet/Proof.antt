@@ -1,5 +1,4 @@
 -- `summed::sheet` is safe: the line lies within the sheet.
--- Assumes nothing.
 use Rattle.text.proofs.FieldTurns.{part-length}
 use borrow.Author.Needs.{needs}
 use Rattle.summed.proofs.sheet.Statement.{statement}

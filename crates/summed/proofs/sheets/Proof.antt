@@ -1,5 +1,4 @@
 -- `summed::sheets` is safe and ends: the measure is what is left of the sheets.
--- Assumes nothing.
 use lib.ListN.{length}
 use Rattle.text.proofs.LineTurns.{skipped-shorter}
 use Rattle.text.proofs.FieldTurns.{part-length}

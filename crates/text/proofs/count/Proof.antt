@@ -1,10 +1,8 @@
 -- `text::count` meets its contract: the count by blocks of proofs/Counts.antt.
--- Assumes nothing.
-use Prim.Native.Nat.{_+_, _≤_}
-use mathlib.Core.Path.{_≡_, sym}
+use mathlib.Core.Path.{sym}
 use native.Mathlib.Omega.{arith}
 use borrow.Author.Needs.{needs}
-use lib.ListN.{length, take}
+use lib.ListN.{length}
 use lib.Seq.{length-take-le}
 use Rattle.text.proofs.FieldTurns.{part-end}
 use Rattle.text.proofs.Counts.{Blocks, blocks-start, blocks-step, blocks-end, block-fits, count-within}
@@ -26,37 +24,16 @@ slice-aggregate-count-block c = sym (length-take-le 128 (c .before .before .loop
 count-block-requires : tie.Need-count-block-requires Inv-loop μ-loop
 count-block-requires c κs = omega (arith, length-take-le 128 (c .before .before .loop .rest .now) (omega arith))
 
-cast-n : tie.Need-cast-n Inv-loop μ-loop
-cast-n c = search needs
-
 add-n : tie.Need-add-n Inv-loop μ-loop
 add-n c =
     let l = c .before .before .before .loop in
     omega (arith, block-fits 128 _ (l .inv) (omega arith) (c .count-block .ensures))
-
-sub-rest : tie.Need-sub-rest Inv-loop μ-loop
-sub-rest c = search needs
-
-part-rest-start : tie.Need-part-rest-start Inv-loop μ-loop
-part-rest-start c = search needs
-
-part-rest-end : tie.Need-part-rest-end Inv-loop μ-loop
-part-rest-end c = search needs
-
-loop-less : tie.Need-loop-less Inv-loop μ-loop
-loop-less c = search needs
 
 loop-again : tie.Need-loop-again Inv-loop μ-loop
 loop-again c =
     let k = c .before in
     let l = k .before .before .before .loop in
     rw (part-end (l .rest .now) 128) (blocks-step 128 _ (l .inv) (omega arith) (k .count-block .ensures))
-
-count-block-requires-2 : tie.Need-count-block-requires-2 Inv-loop μ-loop
-count-block-requires-2 c κs = search needs
-
-cast-result : tie.Need-cast-result Inv-loop μ-loop
-cast-result c = search needs
 
 add-result : tie.Need-add-result Inv-loop μ-loop
 add-result c =
@@ -75,14 +52,14 @@ count-spec =
     loop-holds
     slice-aggregate-count-block
     count-block-requires
-    cast-n
+    (λ c. search needs)
     add-n
-    sub-rest
-    part-rest-start
-    part-rest-end
-    loop-less
+    (λ c. search needs)
+    (λ c. search needs)
+    (λ c. search needs)
+    (λ c. search needs)
     loop-again
-    count-block-requires-2
-    cast-result
+    (λ c κs. search needs)
+    (λ c. search needs)
     add-result
     returns)

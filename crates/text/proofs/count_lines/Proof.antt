@@ -1,5 +1,4 @@
 -- `text::count_lines` meets its contract: the bytes 10 before the last byte, and one more.
--- Assumes nothing.
 use Prim.Native.Nat.{_+_, _-_}
 use mathlib.Core.Path.{sym, ap, _∙_}
 use native.Mathlib.Omega.{arith}
@@ -13,14 +12,8 @@ use Rattle.text.proofs.count_lines.Tie as tie
 returns : tie.Need-returns
 returns c = lines-of-none _ (c .if1 .taken)
 
-sub-e : tie.Need-sub-e
-sub-e c = search needs
-
 slice-aggregate-count : tie.Need-slice-aggregate-count
 slice-aggregate-count c = sym (length-take-le _ _ (omega arith))
-
-count-requires : tie.Need-count-requires
-count-requires c κs = search needs
 
 add-result : tie.Need-add-result
 add-result c =
@@ -31,4 +24,4 @@ returns-2 : tie.Need-returns-2
 returns-2 c = ap (λ n. n + 1) (c .count .ensures) ∙ lines-count _ (c .before .before .if1 .left)
 
 pub count-lines-spec : {M : Type 1} → statement M
-count-lines-spec = tie.close (tie.spec returns sub-e slice-aggregate-count count-requires add-result returns-2)
+count-lines-spec = tie.close (tie.spec returns (λ c. search needs) slice-aggregate-count (λ c κs. search needs) add-result returns-2)

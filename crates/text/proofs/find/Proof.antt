@@ -1,5 +1,4 @@
 -- `text::find` meets its contract: the search of proofs/Searching.antt.
--- Assumes nothing.
 use Prim.Native.Nat.{_-_}
 use borrow.Author.Needs.{needs}
 use lib.ListN.{length}
@@ -14,23 +13,11 @@ Inv-loop s b i₀ i = Passed b s i
 abbrev μ-loop : tie.MeasureT-loop
 μ-loop s b i₀ i = length s - i
 
-pass-blocks-requires : tie.Need-pass-blocks-requires Inv-loop μ-loop
-pass-blocks-requires c κs = search needs
-
 loop-holds : tie.Need-loop-holds Inv-loop μ-loop
 loop-holds c = c .pass-blocks .ensures
 
-shared-slice-read-if1 : tie.Need-shared-slice-read-if1 Inv-loop μ-loop
-shared-slice-read-if1 c = search needs
-
 returns : tie.Need-returns Inv-loop μ-loop
 returns c = searching-found (c .before .before .before .loop .inv) (c .before .before .loop-test .taken) (c .if1 .taken)
-
-add-i : tie.Need-add-i Inv-loop μ-loop
-add-i c = search needs
-
-loop-less : tie.Need-loop-less Inv-loop μ-loop
-loop-less c = search needs
 
 loop-again : tie.Need-loop-again Inv-loop μ-loop
 loop-again c = searching-step (c .before .before .before .loop .inv) (c .before .before .loop-test .taken) (c .if1 .left)
@@ -44,11 +31,11 @@ find-spec =
     (tie.spec
     Inv-loop
     μ-loop
-    pass-blocks-requires
+    (λ c κs. search needs)
     loop-holds
-    shared-slice-read-if1
+    (λ c. search needs)
     returns
-    add-i
-    loop-less
+    (λ c. search needs)
+    (λ c. search needs)
     loop-again
     returns-2)

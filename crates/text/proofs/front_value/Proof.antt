@@ -1,5 +1,4 @@
 -- `text::front_value` meets its contract: the reading of proofs/FirstFields.antt.
--- Assumes nothing.
 use Prim.Native.Nat.{_-_}
 use mathlib.Core.Logic.{⊎-elim}
 use native.Mathlib.Omega.{arith}
@@ -18,14 +17,8 @@ abbrev μ-loop : tie.MeasureT-loop
 loop-holds : tie.Need-loop-holds Inv-loop μ-loop
 loop-holds c = front-start _
 
-shared-slice-read-b : tie.Need-shared-slice-read-b Inv-loop μ-loop
-shared-slice-read-b c = search needs
-
 cast-wrapping-sub-u32 : tie.Need-cast-wrapping-sub-u32 Inv-loop μ-loop
 cast-wrapping-sub-u32 c = omega (arith, c .shared-slice-known2 .given (c .before .before .loop .i))
-
-wrapping-sub-u32-requires : tie.Need-wrapping-sub-u32-requires Inv-loop μ-loop
-wrapping-sub-u32-requires c κs = search needs
 
 returns : tie.Need-returns Inv-loop μ-loop
 returns c = front-none
@@ -35,9 +28,6 @@ returns-2 c = front-value (c .before .before .before .before .before .loop .inv)
 
 returns-3 : tie.Need-returns-3 Inv-loop μ-loop
 returns-3 c = front-none
-
-shared-slice-read-if5 : tie.Need-shared-slice-read-if5 Inv-loop μ-loop
-shared-slice-read-if5 c = search needs
 
 returns-4 : tie.Need-returns-4 Inv-loop μ-loop
 returns-4 c = front-none
@@ -52,17 +42,12 @@ mul-n c = omega (arith, front-fits (turn c .before .before .before .loop .inv))
 add-n : tie.Need-add-n Inv-loop μ-loop
 add-n c = omega (arith, front-fits (turn c .before .before .before .loop .inv))
 
-add-i : tie.Need-add-i Inv-loop μ-loop
-add-i c = search needs
-
-loop-less : tie.Need-loop-less Inv-loop μ-loop
-loop-less c = search needs
-
 loop-again : tie.Need-loop-again Inv-loop μ-loop
 loop-again c =
     let t = turn c in
     let b = difference-back _ _ (t .wrapping-sub-u32 .ensures) (omega arith) in
-    front-step (t .before .before .before .loop .inv) (search needs) (omega arith) (omega arith) b (λ e. ⊎-elim (λ w. w .2 .left) (λ w. absurd (omega arith)) (c .if4 .came))
+    front-step (t .before .before .before .loop .inv) (search needs) (omega arith) (omega arith) b
+    (λ e. ⊎-elim (λ w. w .2 .left) (λ w. absurd (omega arith)) (c .if4 .came))
 
 returns-5 : tie.Need-returns-5 Inv-loop μ-loop
 returns-5 c = front-value (c .before .loop .inv) (λ h. absurd (omega arith))
@@ -74,17 +59,17 @@ front-value-spec =
     Inv-loop
     μ-loop
     loop-holds
-    shared-slice-read-b
+    (λ c. search needs)
     cast-wrapping-sub-u32
-    wrapping-sub-u32-requires
+    (λ c κs. search needs)
     returns
     returns-2
     returns-3
-    shared-slice-read-if5
+    (λ c. search needs)
     returns-4
     mul-n
     add-n
-    add-i
-    loop-less
+    (λ c. search needs)
+    (λ c. search needs)
     loop-again
     returns-5)

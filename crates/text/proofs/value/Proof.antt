@@ -1,5 +1,4 @@
 -- `text::value` meets its contract: a field of one to six bytes that does not start with 0, or is one byte, is read as digits.
--- Assumes nothing.
 use mathlib.Core.Path.{_∙_}
 use mathlib.Core.Logic.{⊎-elim}
 use borrow.Author.Needs.{needs}
@@ -13,21 +12,16 @@ returns c = form-empty _ (search needs)
 returns-2 : tie.Need-returns-2
 returns-2 c = form-long _ (search needs)
 
-shared-slice-read-if4 : tie.Need-shared-slice-read-if4
-shared-slice-read-if4 c = search needs
-
 returns-3 : tie.Need-returns-3
 returns-3 c = form-zero _ (search needs) (search needs) (c .if4 .taken)
-
-number-requires : tie.Need-number-requires
-number-requires c κs = search needs
 
 returns-4 : tie.Need-returns-4
 returns-4 c =
     c .number .ensures
-    ∙ ⊎-elim (λ w. form-more _ (search needs) (search needs) (w .2 .left)) (λ w. form-one _ (search needs) (search needs)) (c .before .if3 .came)
+    ∙ ⊎-elim (λ w. form-more _ (search needs) (search needs) (w .2 .left)) (λ w. form-one _ (search needs) (search needs))
+    (c .before .if3 .came)
 
 pub value-spec : {M : Type 1} → statement M
 value-spec =
     tie.close
-    (tie.spec returns returns-2 shared-slice-read-if4 returns-3 number-requires returns-4)
+    (tie.spec returns returns-2 (λ c. search needs) returns-3 (λ c κs. search needs) returns-4)

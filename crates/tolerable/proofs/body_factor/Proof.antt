@@ -1,5 +1,4 @@
 -- `body_factor` is k by the body's mass.
--- Assumes nothing.
 use borrow.Author.Tests.{eq-eqb, ne-eqb}
 use Rattle.tolerable.specs.Ends.{bodyFactor}
 use Rattle.tolerable.proofs.body_factor.Statement.{statement}

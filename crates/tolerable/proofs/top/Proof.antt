@@ -1,16 +1,13 @@
 -- `top` keeps within 64 bits by the spans of its parts.
--- Assumes nothing.
 use Prim.Native.Nat.{_≤_}
 use native.Mathlib.Omega.{arith}
 use native.Mathlib.Nat.{le-trans}
 use native.Mathlib.Nat.{mul-le-mul}
-use lib.Dec.{lit<}
 use lib.IntN.{pos}
 use Rattle.interval.specs.Operations.{point, size, sumOf, scaledOf}
 use Rattle.interval.proofs.Sizes.{size-point, size-sum, size-scaled}
 use Rattle.interval.proofs.Span.{span-size}
-use Rattle.case.specs.Bounds.{Bounds}
-use Rattle.tolerable.specs.Ends.{layerEnds, bodyFactor, topEnds}
+use Rattle.tolerable.specs.Ends.{layerEnds, topEnds}
 use Rattle.tolerable.proofs.Layer.{layer-span}
 use Rattle.tolerable.proofs.Spans.{body-bounds}
 use borrow.Author.Needs.{needs}
@@ -26,24 +23,16 @@ sum-size : (s : tie.Start) → size (sumOf (point (pos 2000000)) (scaledOf (laye
 sum-size s =
     omega (arith, size-sum (point (pos 2000000)) (scaledOf (layerEnds (s .args .c)) (s .args .weight)), size-point 2000000, effect-size s)
 
-layer-effect-requires : tie.Need-layer-effect-requires
-layer-effect-requires c κs = search needs
-
 scaled-requires : tie.Need-scaled-requires
 scaled-requires c κs =
     let s = c .before in
     rw (c .layer-effect .ensures) (omega arith, omega (arith, mul-le-mul (span-size (layer-span (s .pre .0))) (s .pre .1)))
 
-point-requires : tie.Need-point-requires
-point-requires c κs = search needs
-
 sum-requires : tie.Need-sum-requires
 sum-requires c κs =
     let l = c .before .before in
-    rw (c .point .ensures, c .before .scaled .ensures, l .layer-effect .ensures, size-point 2000000) (omega (arith, effect-size (l .before)))
-
-body-factor-requires : tie.Need-body-factor-requires
-body-factor-requires c κs = search needs
+    rw (c .point .ensures, c .before .scaled .ensures, l .layer-effect .ensures, size-point 2000000)
+    (omega (arith, effect-size (l .before)))
 
 scaled-requires-2 : tie.Need-scaled-requires-2
 scaled-requires-2 c κs =
@@ -61,10 +50,10 @@ pub top-spec : {M : Type 1} → statement M
 top-spec =
     tie.close
     (tie.spec
-    layer-effect-requires
+    (λ c κs. search needs)
     scaled-requires
-    point-requires
+    (λ c κs. search needs)
     sum-requires
-    body-factor-requires
+    (λ c κs. search needs)
     scaled-requires-2
     returns)

@@ -1,5 +1,4 @@
 -- `layer_factor` is Cs for bare soil or with a layer; the bounds of layer, thickness and soil keep it within 64 bits.
--- Assumes nothing.
 use native.Mathlib.Omega.{arith}
 use borrow.Author.Tests.{eq-eqb, ne-eqb}
 use lib.Dec.{lit≤, lit<}
@@ -17,18 +16,9 @@ use Rattle.working.proofs.layer_factor.Tie as tie
 covered : (c : tie.Else1) → Layered (c .before .before .args .c)
 covered c = not-bare (c .before .before .pre) (c .if1 .left)
 
-point-requires : tie.Need-point-requires
-point-requires c κs = search needs
-
 returns : tie.Need-returns
 unfolding layerFactor
 returns c = simp (eq-eqb (c .before .before .before .args .c .layer) 0 (c .before .if1 .taken)) (c .point .ensures)
-
-cast-layer : tie.Need-cast-layer
-cast-layer c = search needs
-
-cast-thick : tie.Need-cast-thick
-cast-thick c = search needs
 
 mul-derated : tie.Need-mul-derated
 mul-derated c = let l = covered (c .before .before) in fits-product (l .layer .high) (l .thick .high) (lit< tt)
@@ -38,12 +28,6 @@ unfolding derated
 mul-derated-2 c =
     let e = c .before .before in
     fits-below {m = 6450000} (omega (arith, derated-most (e .before .before .pre) (covered e))) (lit< tt)
-
-cast-derated : tie.Need-cast-derated
-cast-derated c = search needs
-
-mul-derated-3 : tie.Need-mul-derated-3
-mul-derated-3 c = search needs
 
 add-derated : tie.Need-add-derated
 unfolding derated
@@ -56,12 +40,6 @@ unfolding derated
 point-requires-2 c κs =
     let e = c .before .before .before in
     omega (arith, derated-most (e .before .before .pre) (covered e))
-
-mul-point : tie.Need-mul-point
-mul-point c = search needs
-
-add-point : tie.Need-add-point
-add-point c = search needs
 
 mul-point-2 : tie.Need-mul-point-2
 unfolding full
@@ -82,7 +60,8 @@ quotient-requires c κs =
     let b = e .before .before .pre in
     let f = full-bounds b (covered e) in
     rw (c .point3 .ensures, c .before .point2 .ensures)
-    (quotient-fits (lit< tt) (lit< tt) (lit≤ tt) (span-point (derated (e .before .before .args .c)) {l = 0} (omega arith) (derated-most b (covered e)))
+    (quotient-fits (lit< tt) (lit< tt) (lit≤ tt)
+    (span-point (derated (e .before .before .args .c)) {l = 0} (omega arith) (derated-most b (covered e)))
     (span-point (full (e .before .before .args .c)) (f .low) (f .high)))
 
 returns-2 : tie.Need-returns-2
@@ -95,18 +74,18 @@ pub layer-factor-spec : {M : Type 1} → statement M
 layer-factor-spec =
     tie.close
     (tie.spec
-    point-requires
+    (λ c κs. search needs)
     returns
-    cast-layer
-    cast-thick
+    (λ c. search needs)
+    (λ c. search needs)
     mul-derated
     mul-derated-2
-    cast-derated
-    mul-derated-3
+    (λ c. search needs)
+    (λ c. search needs)
     add-derated
     point-requires-2
-    mul-point
-    add-point
+    (λ c. search needs)
+    (λ c. search needs)
     mul-point-2
     point-requires-3
     quotient-requires

@@ -1,5 +1,4 @@
 -- `step_in_micrometres` scales the twentieths of a millimetre that LS is counted in.
--- Assumes nothing.
 use native.Mathlib.Omega.{arith}
 use native.Mathlib.Nat.{mul-le-mul-left}
 use lib.Dec.{lit<}
@@ -8,9 +7,6 @@ use Rattle.step.proofs.Spans.{length-bounds}
 use borrow.Author.Needs.{needs}
 use Rattle.working.proofs.step_in_micrometres.Statement.{statement}
 use Rattle.working.proofs.step_in_micrometres.Tie as tie
-
-step-length-requires : tie.Need-step-length-requires
-step-length-requires c κs = search needs
 
 mul-point : tie.Need-mul-point
 mul-point c = rw (c .step-length .ensures) (fits-below (mul-le-mul-left 50 (length-bounds (c .before .pre) .high)) (lit< tt))
@@ -22,4 +18,4 @@ returns : tie.Need-returns
 returns c = cc
 
 pub step-in-micrometres-spec : {M : Type 1} → statement M
-step-in-micrometres-spec = tie.close (tie.spec step-length-requires mul-point point-requires returns)
+step-in-micrometres-spec = tie.close (tie.spec (λ c κs. search needs) mul-point point-requires returns)

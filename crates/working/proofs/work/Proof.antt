@@ -1,5 +1,4 @@
 -- `work` puts the parts together.
--- Assumes nothing.
 use native.Mathlib.Omega.{arith}
 use Rattle.lengths.proofs.Lengths.{conductor-bounds, rod-bound, total-bounds}
 use Rattle.conductors.proofs.NumberSpans.{n-span}
@@ -19,47 +18,24 @@ weighed c = c .before .before .before .before .before .before
 abbrev started : tie.After-drive → tie.Start
 started c = c .before .before .before .before
 
-factor-ends-requires : tie.Need-factor-ends-requires
-factor-ends-requires c κs = search needs
-
-grid-current-requires : tie.Need-grid-current-requires
-grid-current-requires c κs = search needs
-
 effective-number-requires : tie.Need-effective-number-requires
 effective-number-requires c κs = counts (c .before .before .pre)
 
-drive-requires : tie.Need-drive-requires
-drive-requires c κs = search needs
-
-layer-factor-requires : tie.Need-layer-factor-requires
-layer-factor-requires c κs = search needs
-
-time-root-requires : tie.Need-time-root-requires
-time-root-requires c κs = search needs
-
-side-term-requires : tie.Need-side-term-requires
-side-term-requires c κs = search needs
-
-conductor-length-requires : tie.Need-conductor-length-requires
-conductor-length-requires c κs = search needs
-
 in-micrometres-requires : tie.Need-in-micrometres-requires
-in-micrometres-requires c κs = rw (c .conductor-length .ensures) (omega (arith, conductor-bounds (started (c .before .before .before .before) .pre) .high))
-
-rod-length-requires : tie.Need-rod-length-requires
-rod-length-requires c κs = search needs
+in-micrometres-requires c κs =
+    rw (c .conductor-length .ensures) (omega (arith, conductor-bounds (started (c .before .before .before .before) .pre) .high))
 
 in-micrometres-requires-2 : tie.Need-in-micrometres-requires-2
-in-micrometres-requires-2 c κs = rw (c .rod-length .ensures) (omega (arith, rod-bound (started (c .before .before .before .before .before .before) .pre)))
-
-total-length-requires : tie.Need-total-length-requires
-total-length-requires c κs = search needs
+in-micrometres-requires-2 c κs =
+    rw (c .rod-length .ensures) (omega (arith, rod-bound (started (c .before .before .before .before .before .before) .pre)))
 
 in-micrometres-requires-3 : tie.Need-in-micrometres-requires-3
-in-micrometres-requires-3 c κs = rw (c .total-length .ensures) (omega (arith, total-bounds (started (c .before .before .before .before .before .before .before .before) .pre) .high))
-
-mesh-length-requires : tie.Need-mesh-length-requires
-mesh-length-requires c κs = search needs
+in-micrometres-requires-3 c κs =
+    rw (c .total-length .ensures) (omega (
+      arith,
+      total-bounds
+          (started (c .before .before .before .before .before .before .before .before) .pre) .high,
+    ))
 
 step-in-micrometres-requires : tie.Need-step-in-micrometres-requires
 step-in-micrometres-requires c κs = started (driven-from c) .pre
@@ -74,10 +50,12 @@ depth-factor-requires : tie.Need-depth-factor-requires
 depth-factor-requires c κs = started (driven-from (c .before .before .before)) .pre
 
 geometric-factor-requires : tie.Need-geometric-factor-requires
-geometric-factor-requires c κs = let d = driven-from (c .before .before .before .before) in (started d .pre, d .before .effective-number .ensures)
+geometric-factor-requires c κs =
+    let d = driven-from (c .before .before .before .before) in (started d .pre, d .before .effective-number .ensures)
 
 spacing-factor-requires : tie.Need-spacing-factor-requires
-spacing-factor-requires c κs = let d = driven-from (c .before .before .before .before .before) in (started d .pre, d .before .effective-number .ensures)
+spacing-factor-requires c κs =
+    let d = driven-from (c .before .before .before .before .before) in (started d .pre, d .before .effective-number .ensures)
 
 driven-requires : tie.Need-driven-requires
 driven-requires c κs = let d = driven-from (weighed c) in (started d .pre, d .drive .ensures)
@@ -99,26 +77,45 @@ returns c =
     let w = v .before in
     let x = w .before in
     let y = x .before in
-    rw (c .driven .ensures, k .spacing-factor .ensures, g .geometric-factor .ensures, h .depth-factor .ensures, i .inner-factor .ensures, r .irregularity .ensures, s .step-in-micrometres .ensures, m .mesh-length .ensures, l .in-micrometres3 .ensures, t .total-length .ensures, t .before .in-micrometres2 .ensures, u .rod-length .ensures, u .before .in-micrometres .ensures, v .conductor-length .ensures, w .side-term .ensures, x .time-root .ensures, y .layer-factor .ensures, y .before .before .effective-number .ensures)
+    rw (
+      c .driven .ensures,
+      k .spacing-factor .ensures,
+      g .geometric-factor .ensures,
+      h .depth-factor .ensures,
+      i .inner-factor .ensures,
+      r .irregularity .ensures,
+      s .step-in-micrometres .ensures,
+      m .mesh-length .ensures,
+      l .in-micrometres3 .ensures,
+      t .total-length .ensures,
+      t .before .in-micrometres2 .ensures,
+      u .rod-length .ensures,
+      u .before .in-micrometres .ensures,
+      v .conductor-length .ensures,
+      w .side-term .ensures,
+      x .time-root .ensures,
+      y .layer-factor .ensures,
+      y .before .before .effective-number .ensures,
+    )
 
 pub work-spec : {M : Type 1} → statement M
 work-spec =
     tie.close
     (tie.spec
-    factor-ends-requires
-    grid-current-requires
+    (λ c κs. search needs)
+    (λ c κs. search needs)
     effective-number-requires
-    drive-requires
-    layer-factor-requires
-    time-root-requires
-    side-term-requires
-    conductor-length-requires
+    (λ c κs. search needs)
+    (λ c κs. search needs)
+    (λ c κs. search needs)
+    (λ c κs. search needs)
+    (λ c κs. search needs)
     in-micrometres-requires
-    rod-length-requires
+    (λ c κs. search needs)
     in-micrometres-requires-2
-    total-length-requires
+    (λ c κs. search needs)
     in-micrometres-requires-3
-    mesh-length-requires
+    (λ c κs. search needs)
     step-in-micrometres-requires
     irregularity-requires
     inner-factor-requires

@@ -1,21 +1,14 @@
 -- `working` answers the working of a sound record.
--- Assumes nothing.
 use Rattle.working.proofs.Right.{sound-bounds, working-told, working-refused}
 use borrow.Author.Needs.{needs}
 use Rattle.working.proofs.working.Statement.{statement}
 use Rattle.working.proofs.working.Tie as tie
-
-judge-requires : tie.Need-judge-requires
-judge-requires c κs = search needs
 
 enum-told : tie.Need-enum-told
 enum-told c = search needs
 
 work-requires : tie.Need-work-requires
 work-requires c κs = sound-bounds _ (c .before .before .judge .ensures) (c .enum-told .given .1)
-
-enum-known-number : tie.Need-enum-known-number
-enum-known-number c = search needs
 
 returns : tie.Need-returns
 returns c = working-told _ (c .before .before .before .judge .ensures) (c .before .enum-told .given .1) (c .work .ensures)
@@ -24,4 +17,4 @@ returns-2 : tie.Need-returns-2
 returns-2 c = working-refused _ (c .before .before .before .judge .ensures) (c .before .number .given .1)
 
 pub working-spec : {M : Type 1} → statement M
-working-spec = tie.close (tie.spec judge-requires enum-told work-requires enum-known-number returns returns-2)
+working-spec = tie.close (tie.spec (λ c κs. search needs) enum-told work-requires (λ c. search needs) returns returns-2)

@@ -1,5 +1,4 @@
 -- `lines_length` adds up the lengths of the lines: proofs/LinesWriting.antt.
--- Assumes nothing.
 use Prim.Native.Nat.{_-_}
 use mathlib.Core.Path.{sym}
 use native.Mathlib.Omega.{arith}

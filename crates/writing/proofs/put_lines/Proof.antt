@@ -1,5 +1,4 @@
 -- `put_lines` writes line after line: proofs/LinesWriting.antt, with the lines of a table of proofs/TableRest.antt.
--- Assumes nothing.
 use Prim.Native.Nat.{_-_}
 use mathlib.Core.Path.{sym}
 use native.Mathlib.Omega.{arith}

@@ -1,5 +1,4 @@
 -- `write_sheet` tests the room, then writes the names and the lines: proofs/Whole.antt.
--- Assumes nothing.
 use Prim.Native.Nat.{_+_, _≤_}
 use native.Mathlib.Omega.{arith}
 use lib.ListN.{length}

@@ -1,5 +1,4 @@
 -- `side_answer` refuses a side out of range, then a rod length of 0.
--- Assumes nothing.
 use mathlib.Core.Path.{_∙_}
 use Rattle.case.proofs.Bounds.{record-bounds}
 use Rattle.yards.specs.Yards.{trial}

@@ -1,5 +1,4 @@
 -- `asked::fields::record` is safe and ends: the measure is what is left of the numbers, and the record keeps its length.
--- Assumes nothing.
 use Prim.Native.Nat.{_-_}
 use mathlib.Core.Path.{_≡_, refl, sym}
 use lib.ListN.{length, length-set}

@@ -1,5 +1,4 @@
 -- `asked::question::ask` is safe: kind and numbers are parts of the line.
--- Assumes nothing.
 use Rattle.text.proofs.FieldTurns.{part-length}
 use borrow.Author.Needs.{needs}
 use Rattle.asked.proofs.question.ask.Statement.{statement}

@@ -1,5 +1,4 @@
 -- `carries::buffer::held` is safe and ends: the measure is what is left of the buffer.
--- Assumes nothing.
 use Prim.Native.Nat.{_-_}
 use Rattle.judgement.specs.Limits.{mostBytes}
 use borrow.Author.Needs.{needs}

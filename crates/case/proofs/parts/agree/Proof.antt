@@ -1,5 +1,4 @@
 -- `case::parts::agree` meets its contract.
--- Assumes nothing.
 use borrow.Author.Tests.{eq-eqb, ne-eqb}
 use Rattle.case.specs.Check.{agree as agreeing}
 use Rattle.case.proofs.parts.agree.Statement.{statement}

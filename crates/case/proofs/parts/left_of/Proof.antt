@@ -1,5 +1,4 @@
 -- `case::parts::left_of` meets its contract.
--- Assumes nothing.
 use borrow.Author.Tests.{eq-eqb, ne-eqb, le-leb, lt-leb}
 use Rattle.case.specs.Check.{leftOf}
 use Rattle.case.proofs.parts.left_of.Statement.{statement}

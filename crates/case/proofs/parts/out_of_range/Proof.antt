@@ -1,5 +1,5 @@
--- `case::parts::out_of_range` meets its contract: the search of proofs/Leftmost.antt, with the code's tables those of the names by one computed test.
--- Assumes nothing.
+-- `case::parts::out_of_range` meets its contract: the search of proofs/Leftmost.antt, with the code's tables those of the names by one
+-- computed test.
 use Prim.Native.Nat.{_-_}
 use mathlib.Core.Path.{ap, _∙_}
 use native.Mathlib.Omega.{arith}
@@ -21,9 +21,6 @@ abbrev μ-loop : tie.MeasureT-loop
 
 loop-holds : tie.Need-loop-holds Inv-loop μ-loop
 loop-holds c = leftmost-start _ _ _ (c .before .before .pre .0) (c .before .before .pre .1)
-
-sub-k : tie.Need-sub-k Inv-loop μ-loop
-sub-k c = search needs
 
 place-requires : tie.Need-place-requires Inv-loop μ-loop
 place-requires c κs = omega (arith, c .before .loop .inv .within)
@@ -58,12 +55,6 @@ mul-worse-5 c = let l = c .before .before .before in omega (arith, l .loop .inv 
 shared-slice-read-worse-2 : tie.Need-shared-slice-read-worse-2 Inv-loop μ-loop
 shared-slice-read-worse-2 c = omega (arith, c .before .before .before .before .loop .inv .within)
 
-worse-requires : tie.Need-worse-requires Inv-loop μ-loop
-worse-requires c κs = search needs
-
-loop-less : tie.Need-loop-less Inv-loop μ-loop
-loop-less c = search needs
-
 loop-again : tie.Need-loop-again Inv-loop μ-loop
 unfolding columns lowOf highOf otherOf
 loop-again c =
@@ -71,7 +62,8 @@ loop-again c =
     let i = p .before in
     let x = getD (i .before .before .before .before .args .v .now) (i .before .loop .k - 1) 0 in
     leftmost-by _ (i .before .loop .inv) (i .loop-test .taken)
-    (table-entry (p .place .result) x (p .place .ensures .within) ∙ ap (λ range. inRange range x) (p .place .ensures .is)) (c .worse .ensures)
+    (table-entry (p .place .result) x (p .place .ensures .within) ∙ ap (λ range. inRange range x) (p .place .ensures .is))
+    (c .worse .ensures)
 
 returns : tie.Need-returns Inv-loop μ-loop
 returns c = leftmost-end (c .before .loop .inv) (c .loop-test .left)
@@ -83,7 +75,7 @@ out-of-range-spec =
     Inv-loop
     μ-loop
     loop-holds
-    sub-k
+    (λ c. search needs)
     place-requires
     mul-worse
     array-read-worse
@@ -95,7 +87,7 @@ out-of-range-spec =
     shared-slice-read-worse
     mul-worse-5
     shared-slice-read-worse-2
-    worse-requires
-    loop-less
+    (λ c κs. search needs)
+    (λ c. search needs)
     loop-again
     returns)

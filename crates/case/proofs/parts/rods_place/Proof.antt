@@ -1,5 +1,4 @@
 -- `case::parts::rods_place` meets its contract.
--- Assumes nothing.
 use borrow.Author.Needs.{needs}
 use Rattle.case.specs.declared.Form.the-variants.{Present, Former}
 use Rattle.case.specs.Parts.{rodsPlace}
@@ -10,9 +9,6 @@ use Rattle.case.proofs.parts.rods_place.Tie as tie
 enum-told : tie.Need-enum-told
 enum-told c = search needs
 
-enum-told-2 : tie.Need-enum-told-2
-enum-told-2 c = search needs
-
 returns : tie.Need-returns
 unfolding rodsPlace
 returns c = rw (c .enum-told .given .1) (rods-place Present)
@@ -22,4 +18,4 @@ unfolding rodsPlace
 returns-2 c = rw (c .enum-told2 .given .1) (rods-place Former)
 
 pub rods-place-spec : {M : Type 1} → statement M
-rods-place-spec = tie.close (tie.spec enum-told enum-told-2 returns returns-2)
+rods-place-spec = tie.close (tie.spec enum-told (λ c. search needs) returns returns-2)

@@ -1,5 +1,4 @@
 -- `case::range::in_range` meets its contract.
--- Assumes nothing.
 use mathlib.Core.Path.{refl}
 use Rattle.case.specs.Parts.{passes}
 use Rattle.case.proofs.range.in_range.Statement.{statement}

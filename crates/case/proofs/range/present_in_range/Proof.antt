@@ -1,5 +1,5 @@
--- `case::range::present_in_range` meets its contract: the pass of proofs/RangeNumbers.antt, with the code's tables those of the names by one computed test.
--- Assumes nothing.
+-- `case::range::present_in_range` meets its contract: the pass of proofs/RangeNumbers.antt, with the code's tables those of the names by
+-- one computed test.
 use Prim.Native.Nat.{_-_}
 use Rattle.case.specs.Columns.{columns}
 use Rattle.case.specs.Parts.{lowOf, highOf, otherOf}
@@ -17,39 +17,6 @@ abbrev μ-loop : tie.MeasureT-loop
 loop-holds : tie.Need-loop-holds Inv-loop μ-loop
 loop-holds c = tested-start _
 
-mul-x : tie.Need-mul-x Inv-loop μ-loop
-mul-x c = search needs
-
-shared-slice-read-x : tie.Need-shared-slice-read-x Inv-loop μ-loop
-shared-slice-read-x c = search needs
-
-mul-in-range : tie.Need-mul-in-range Inv-loop μ-loop
-mul-in-range c = search needs
-
-array-read-in-range : tie.Need-array-read-in-range Inv-loop μ-loop
-array-read-in-range c = search needs
-
-mul-in-range-2 : tie.Need-mul-in-range-2 Inv-loop μ-loop
-mul-in-range-2 c = search needs
-
-array-read-in-range-2 : tie.Need-array-read-in-range-2 Inv-loop μ-loop
-array-read-in-range-2 c = search needs
-
-mul-in-range-3 : tie.Need-mul-in-range-3 Inv-loop μ-loop
-mul-in-range-3 c = search needs
-
-array-read-in-range-3 : tie.Need-array-read-in-range-3 Inv-loop μ-loop
-array-read-in-range-3 c = search needs
-
-in-range-requires : tie.Need-in-range-requires Inv-loop μ-loop
-in-range-requires c κs = search needs
-
-add-k : tie.Need-add-k Inv-loop μ-loop
-add-k c = search needs
-
-loop-less : tie.Need-loop-less Inv-loop μ-loop
-loop-less c = search needs
-
 loop-again : tie.Need-loop-again Inv-loop μ-loop
 unfolding columns lowOf highOf otherOf
 loop-again c = rw (c .in-range .ensures) (tested-step (c .before .before .before .loop .inv) (c .before .before .loop-test .taken))
@@ -64,16 +31,16 @@ present-in-range-spec =
     Inv-loop
     μ-loop
     loop-holds
-    mul-x
-    shared-slice-read-x
-    mul-in-range
-    array-read-in-range
-    mul-in-range-2
-    array-read-in-range-2
-    mul-in-range-3
-    array-read-in-range-3
-    in-range-requires
-    add-k
-    loop-less
+    (λ c. search needs)
+    (λ c. search needs)
+    (λ c. search needs)
+    (λ c. search needs)
+    (λ c. search needs)
+    (λ c. search needs)
+    (λ c. search needs)
+    (λ c. search needs)
+    (λ c κs. search needs)
+    (λ c. search needs)
+    (λ c. search needs)
     loop-again
     returns)

@@ -1,5 +1,4 @@
 -- `exponent` keeps within 64 bits by the spans of its parts; 2n is inside the range of the logarithm.
--- Assumes nothing.
 use lib.Dec.{lit≤, lit<}
 use Rattle.interval.proofs.Span.{span-point, span-wider}
 use Rattle.interval.proofs.SpanFits.{scaled-fits, product-fits, quotient-fits}
@@ -8,9 +7,6 @@ use Rattle.conductors.proofs.WeightSpans.{twice-span, share-span, twice
 use borrow.Author.Needs.{needs}
 use Rattle.conductors.proofs.inner.exponent.Statement.{statement}
 use Rattle.conductors.proofs.inner.exponent.Tie as tie
-
-point-requires : tie.Need-point-requires
-point-requires c κs = search needs
 
 quotient-requires : tie.Need-quotient-requires
 quotient-requires c κs =
@@ -40,7 +36,7 @@ pub exponent-spec : {M : Type 1} → statement M
 exponent-spec =
     tie.close
     (tie.spec
-    point-requires
+    (λ c κs. search needs)
     quotient-requires
     scaled-requires
     ln-pair-requires

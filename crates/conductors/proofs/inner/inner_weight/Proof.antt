@@ -1,5 +1,4 @@
 -- `inner_weight` is one over the root of a square, else the exponential of an exponent inside its range.
--- Assumes nothing.
 use native.Mathlib.Omega.{arith}
 use lib.Dec.{lit≤, lit<}
 use borrow.Author.Tests.{eq-eqb, ne-eqb}
@@ -14,9 +13,6 @@ use Rattle.conductors.proofs.inner.inner_weight.Tie as tie
 
 lines-root-requires : tie.Need-lines-root-requires
 lines-root-requires c κs = c .before .pre .0 .across
-
-point-requires : tie.Need-point-requires
-point-requires c κs = search needs
 
 add-natural : tie.Need-add-natural
 add-natural c =
@@ -41,9 +37,6 @@ returns : tie.Need-returns
 unfolding innerEnds
 returns c = rw (eq-eqb _ _ (c .before .before .before .before .if1 .taken)) (cc)
 
-exponent-requires : tie.Need-exponent-requires
-exponent-requires c κs = search needs
-
 exp-pair-requires : tie.Need-exp-pair-requires
 exp-pair-requires c κs =
     rw (c .exponent .ensures) (span-wider (exponent-span (c .before .before .pre .1)) (lit≤ tt) (lit≤ tt) (lit≤ tt))
@@ -57,11 +50,11 @@ inner-weight-spec =
     tie.close
     (tie.spec
     lines-root-requires
-    point-requires
+    (λ c κs. search needs)
     add-natural
     natural-requires
     quotient-requires
     returns
-    exponent-requires
+    (λ c κs. search needs)
     exp-pair-requires
     returns-2)

@@ -1,5 +1,4 @@
 -- `conductor_spacings` fits by the bounds of its sum.
--- Assumes nothing.
 use mathlib.Core.Path.{refl}
 use native.Mathlib.Omega.{arith}
 use Rattle.conductors.specs.Counts.{spacings}
@@ -8,15 +7,9 @@ use borrow.Author.Needs.{needs}
 use Rattle.conductors.proofs.number.conductor_spacings.Statement.{statement}
 use Rattle.conductors.proofs.number.conductor_spacings.Tie as tie
 
-sub-result : tie.Need-sub-result
-sub-result c = search needs
-
 mul-result : tie.Need-mul-result
 unfolding spacings
 mul-result c = record { fits = omega (arith, spacings-bounds (c .pre) .high) }
-
-sub-result-2 : tie.Need-sub-result-2
-sub-result-2 c = search needs
 
 mul-result-2 : tie.Need-mul-result-2
 unfolding spacings
@@ -37,4 +30,4 @@ returns c = refl
 pub conductor-spacings-spec : {M : Type 1} → statement M
 conductor-spacings-spec =
     tie.close
-    (tie.spec sub-result mul-result sub-result-2 mul-result-2 add-result cast-result returns)
+    (tie.spec (λ c. search needs) mul-result (λ c. search needs) mul-result-2 add-result cast-result returns)

@@ -1,5 +1,4 @@
 -- `irregularity` keeps within 64 bits by the span of n.
--- Assumes nothing.
 use lib.Dec.{lit≤, lit<}
 use Rattle.interval.proofs.Span.{span-point, span-scaled}
 use Rattle.interval.proofs.SpanFits.{sum-fits, scaled-fits}
@@ -7,9 +6,6 @@ use Rattle.conductors.specs.Number.{KiEnds}
 use borrow.Author.Needs.{needs}
 use Rattle.conductors.proofs.number.irregularity.Statement.{statement}
 use Rattle.conductors.proofs.number.irregularity.Tie as tie
-
-point-requires : tie.Need-point-requires
-point-requires c κs = search needs
 
 scaled-requires : tie.Need-scaled-requires
 scaled-requires c κs = scaled-fits 148 (lit< tt) (lit< tt) (lit≤ tt) (c .before .pre)
@@ -25,4 +21,4 @@ unfolding KiEnds
 returns c = cc
 
 pub irregularity-spec : {M : Type 1} → statement M
-irregularity-spec = tie.close (tie.spec point-requires scaled-requires sum-requires returns)
+irregularity-spec = tie.close (tie.spec (λ c κs. search needs) scaled-requires sum-requires returns)

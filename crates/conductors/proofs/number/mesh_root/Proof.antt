@@ -1,5 +1,4 @@
 -- `mesh_root` takes the root of at most 576 meshes in 10^−16.
--- Assumes nothing.
 use mathlib.Core.Path.{sym}
 use native.Mathlib.Omega.{arith}
 use Rattle.enclosure.proofs.SquareRoot.{square-root-is}
@@ -9,12 +8,6 @@ use Rattle.conductors.proofs.NumberSpans.{meshes-bounds}
 use borrow.Author.Needs.{needs}
 use Rattle.conductors.proofs.number.mesh_root.Statement.{statement}
 use Rattle.conductors.proofs.number.mesh_root.Tie as tie
-
-sub-meshes : tie.Need-sub-meshes
-sub-meshes c = search needs
-
-sub-meshes-2 : tie.Need-sub-meshes-2
-sub-meshes-2 c = search needs
 
 mul-meshes : tie.Need-mul-meshes
 unfolding meshes
@@ -28,9 +21,6 @@ mul-isqrt : tie.Need-mul-isqrt
 unfolding meshes
 mul-isqrt c = record { fits = omega (arith, meshes-bounds (c .pre) .high) }
 
-isqrt-requires : tie.Need-isqrt-requires
-isqrt-requires c κs = search needs
-
 returns : tie.Need-returns
 unfolding meshRoot meshes
 returns c = sym (square-root-is (c .isqrt .ensures))
@@ -38,4 +28,4 @@ returns c = sym (square-root-is (c .isqrt .ensures))
 pub mesh-root-spec : {M : Type 1} → statement M
 mesh-root-spec =
     tie.close
-    (tie.spec sub-meshes sub-meshes-2 mul-meshes cast-meshes mul-isqrt isqrt-requires returns)
+    (tie.spec (λ c. search needs) (λ c. search needs) mul-meshes cast-meshes mul-isqrt (λ c κs. search needs) returns)

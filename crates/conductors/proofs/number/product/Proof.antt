@@ -1,5 +1,4 @@
 -- `product` keeps within 64 bits by the spans of nb and of its multiple.
--- Assumes nothing.
 use native.Mathlib.Omega.{arith}
 use lib.Dec.{lit<}
 use Rattle.interval.proofs.SpanFits.{scaled-fits, outward-fits}
@@ -8,15 +7,6 @@ use Rattle.conductors.proofs.NumberSpans.{spacings-bounds, half-bounds,
 use borrow.Author.Needs.{needs}
 use Rattle.conductors.proofs.number.product.Statement.{statement}
 use Rattle.conductors.proofs.number.product.Tie as tie
-
-conductor-spacings-requires : tie.Need-conductor-spacings-requires
-conductor-spacings-requires c κs = search needs
-
-half-perimeter-requires : tie.Need-half-perimeter-requires
-half-perimeter-requires c κs = search needs
-
-side-factor-requires : tie.Need-side-factor-requires
-side-factor-requires c κs = search needs
 
 scaled-requires : tie.Need-scaled-requires
 scaled-requires c κs =
@@ -46,9 +36,9 @@ pub product-spec : {M : Type 1} → statement M
 product-spec =
     tie.close
     (tie.spec
-    conductor-spacings-requires
-    half-perimeter-requires
-    side-factor-requires
+    (λ c κs. search needs)
+    (λ c κs. search needs)
+    (λ c κs. search needs)
     scaled-requires
     mul-outward
     outward-requires

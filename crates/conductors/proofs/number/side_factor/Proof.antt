@@ -1,5 +1,4 @@
 -- `side_factor` takes the roots of the ratio's ends; these keep within 64 bits, since nb is at most 1.6.
--- Assumes nothing.
 use Prim.Native.Nat.{_*_, _^_, _<_}
 use native.Mathlib.Omega.{arith}
 use Rattle.case.specs.Bounds.{Between}
@@ -22,12 +21,6 @@ high : (c : tie.After-ceil) → c .ceil .result * 10 ^ 9 < 2600000000000000000
 high c =
     let r = c .before .before in
     rw (c .ceil .ensures, r .before .half-perimeter .ensures, r .mesh-root .ensures) (high-below (r .before .before .pre))
-
-half-perimeter-requires : tie.Need-half-perimeter-requires
-half-perimeter-requires c κs = search needs
-
-mesh-root-requires : tie.Need-mesh-root-requires
-mesh-root-requires c κs = search needs
 
 add-floor : tie.Need-add-floor
 add-floor c = record { fits = omega (arith, bounds c .high) }
@@ -52,14 +45,8 @@ ceil-requires c κs =
 mul-isqrt : tie.Need-mul-isqrt
 mul-isqrt c = record { fits = omega (arith, low (c .before)) }
 
-isqrt-requires : tie.Need-isqrt-requires
-isqrt-requires c κs = search needs
-
 mul-isqrt-2 : tie.Need-mul-isqrt-2
 mul-isqrt-2 c = record { fits = omega (arith, high (c .before)) }
-
-isqrt-requires-2 : tie.Need-isqrt-requires-2
-isqrt-requires-2 c κs = search needs
 
 add-natural : tie.Need-add-natural
 add-natural c = record { fits = omega (arith, root-below (c .isqrt2 .ensures) (high (c .before .before))) }
@@ -78,17 +65,17 @@ pub side-factor-spec : {M : Type 1} → statement M
 side-factor-spec =
     tie.close
     (tie.spec
-    half-perimeter-requires
-    mesh-root-requires
+    (λ c κs. search needs)
+    (λ c κs. search needs)
     add-floor
     mul-floor
     floor-requires
     mul-ceil
     ceil-requires
     mul-isqrt
-    isqrt-requires
+    (λ c κs. search needs)
     mul-isqrt-2
-    isqrt-requires-2
+    (λ c κs. search needs)
     add-natural
     natural-requires
     returns)

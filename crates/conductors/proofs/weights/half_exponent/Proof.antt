@@ -1,5 +1,4 @@
 -- `half_exponent` keeps within 64 bits by the spans of its parts.
--- Assumes nothing.
 use lib.Dec.{lit≤, lit<}
 use Rattle.interval.proofs.Span.{span-point}
 use Rattle.interval.proofs.SpanFits.{sum-fits, product-fits}
@@ -9,15 +8,9 @@ use borrow.Author.Needs.{needs}
 use Rattle.conductors.proofs.weights.half_exponent.Statement.{statement}
 use Rattle.conductors.proofs.weights.half_exponent.Tie as tie
 
-point-requires : tie.Need-point-requires
-point-requires c κs = search needs
-
 difference-requires : tie.Need-difference-requires
 difference-requires c κs =
     rw (c .point .ensures) (sum-fits (lit< tt) (c .before .pre) (span-point 20000000 {l = 0} {h = 20000000} (lit≤ tt) (lit≤ tt)))
-
-natural-requires : tie.Need-natural-requires
-natural-requires c κs = search needs
 
 product-requires : tie.Need-product-requires
 unfolding ln2Ends
@@ -34,4 +27,4 @@ returns c = cc
 pub half-exponent-spec : {M : Type 1} → statement M
 half-exponent-spec =
     tie.close
-    (tie.spec point-requires difference-requires natural-requires product-requires returns)
+    (tie.spec (λ c κs. search needs) difference-requires (λ c κs. search needs) product-requires returns)

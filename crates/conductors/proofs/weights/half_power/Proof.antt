@@ -1,5 +1,4 @@
 -- `half_power` takes the exponential of an exponent inside its range.
--- Assumes nothing.
 use lib.Dec.{lit≤}
 use Rattle.interval.proofs.Span.{span-wider}
 use Rattle.conductors.specs.Weights.{halfPowerEnds}
@@ -7,9 +6,6 @@ use Rattle.conductors.proofs.WeightSpans.{half-exponent-span}
 use borrow.Author.Needs.{needs}
 use Rattle.conductors.proofs.weights.half_power.Statement.{statement}
 use Rattle.conductors.proofs.weights.half_power.Tie as tie
-
-half-exponent-requires : tie.Need-half-exponent-requires
-half-exponent-requires c κs = search needs
 
 exp-pair-requires : tie.Need-exp-pair-requires
 exp-pair-requires c κs =
@@ -20,4 +16,4 @@ unfolding halfPowerEnds
 returns c = cc
 
 pub half-power-spec : {M : Type 1} → statement M
-half-power-spec = tie.close (tie.spec half-exponent-requires exp-pair-requires returns)
+half-power-spec = tie.close (tie.spec (λ c κs. search needs) exp-pair-requires returns)

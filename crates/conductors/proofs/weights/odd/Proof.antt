@@ -1,5 +1,4 @@
 -- `odd` keeps within 64 bits by the spans of its parts.
--- Assumes nothing.
 use lib.Dec.{lit≤, lit<}
 use Rattle.interval.proofs.Span.{span-point}
 use Rattle.interval.proofs.SpanFits.{sum-fits, scaled-fits, product-fits}
@@ -12,12 +11,6 @@ use Rattle.conductors.proofs.weights.odd.Tie as tie
 
 scaled-requires : tie.Need-scaled-requires
 scaled-requires c κs = scaled-fits 2 (lit< tt) (lit< tt) (lit≤ tt) (c .pre)
-
-pi-requires : tie.Need-pi-requires
-pi-requires c κs = search needs
-
-point-requires : tie.Need-point-requires
-point-requires c κs = search needs
 
 difference-requires : tie.Need-difference-requires
 difference-requires c κs =
@@ -41,8 +34,8 @@ odd-spec =
     tie.close
     (tie.spec
     scaled-requires
-    pi-requires
-    point-requires
+    (λ c κs. search needs)
+    (λ c κs. search needs)
     difference-requires
     product-requires
     returns)

@@ -1,5 +1,4 @@
 -- `spread` is minus a logarithm: π(2n−1) is above 8, and both are inside its range.
--- Assumes nothing.
 use native.Mathlib.Omega.{arith}
 use lib.Dec.{lit≤}
 use Rattle.interval.proofs.Span.{span-size, span-wider}
@@ -8,9 +7,6 @@ use Rattle.conductors.proofs.WeightSpans.{odd-span, odd-log-span}
 use borrow.Author.Needs.{needs}
 use Rattle.conductors.proofs.weights.spread.Statement.{statement}
 use Rattle.conductors.proofs.weights.spread.Tie as tie
-
-odd-requires : tie.Need-odd-requires
-odd-requires c κs = search needs
 
 ln-pair-requires : tie.Need-ln-pair-requires
 ln-pair-requires c κs =
@@ -27,4 +23,4 @@ unfolding spreadEnds
 returns c = cc
 
 pub spread-spec : {M : Type 1} → statement M
-spread-spec = tie.close (tie.spec odd-requires ln-pair-requires minus-requires returns)
+spread-spec = tie.close (tie.spec (λ c κs. search needs) ln-pair-requires minus-requires returns)

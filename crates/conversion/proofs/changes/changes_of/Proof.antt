@@ -1,5 +1,4 @@
 -- `changes_of` goes line by line: the search of proofs/LineChanges.antt.
--- Assumes nothing.
 use Prim.Native.Nat.{_+_, _*_, _-_, _≤_, _<_}
 use mathlib.Core.Path.{_≡_, sym, ap, _∙_}
 use mathlib.Core.List.{[]}
@@ -32,11 +31,13 @@ start c = c .before .before .before
 within : (c : tie.In-loop Inv-loop μ-loop) → nameCount * c .before .loop .i + nameCount ≤ length (start c .args .values .now)
 within c = omega (arith, start c .pre .0, c .loop-test .taken)
 
-line-there : (c : tie.In-loop Inv-loop μ-loop) → c .before .loop .i < length (partsOf nameCount (start c .args .n) (start c .args .values .now))
+line-there : (c : tie.In-loop Inv-loop μ-loop)
+    → c .before .loop .i < length (partsOf nameCount (start c .args .n) (start c .args .values .now))
 line-there c = omega (arith, c .loop-test .taken, parts-length nameCount (start c .args .n) (start c .args .values .now))
 
 -- what is found of line i
-change-is : (c : tie.After-line-change Inv-loop μ-loop) → c .line-change .result ≡ lineChange (c .before .before .before .loop .i + 2) (Lines 0) (getD (partsOf nameCount (start (c .before .before) .args .n) (start (c .before .before) .args .values .now)) (c .before .before .before .loop .i) [])
+change-is : (c : tie.After-line-change Inv-loop μ-loop)
+    → c .line-change .result ≡ lineChange (c .before .before .before .loop .i + 2) (Lines 0) (getD (partsOf nameCount (start (c .before .before) .args .n) (start (c .before .before) .args .values .now)) (c .before .before .before .loop .i) [])
 change-is c =
     let i = c .before .before in
     let k = i .before .loop .i in
@@ -51,26 +52,14 @@ mul-a c = omega (arith, within c)
 add-b : tie.Need-add-b Inv-loop μ-loop
 add-b c = omega (arith, within c)
 
-add-line-change : tie.Need-add-line-change Inv-loop μ-loop
-add-line-change c = search needs
-
 mul-line-change : tie.Need-mul-line-change Inv-loop μ-loop
 mul-line-change c = omega (arith, within c)
-
-sub-line-change : tie.Need-sub-line-change Inv-loop μ-loop
-sub-line-change c = search needs
-
-part-line-change-start : tie.Need-part-line-change-start Inv-loop μ-loop
-part-line-change-start c = search needs
 
 part-line-change-end : tie.Need-part-line-change-end Inv-loop μ-loop
 part-line-change-end c = within c
 
 line-change-requires : tie.Need-line-change-requires Inv-loop μ-loop
 line-change-requires c κs = mid-len _ _ (start (c .before) .args .values .now) (within (c .before)) ∙ omega arith
-
-enum-known-r : tie.Need-enum-known-r Inv-loop μ-loop
-enum-known-r c = search needs
 
 returns : tie.Need-returns Inv-loop μ-loop
 returns c =
@@ -80,12 +69,6 @@ returns c =
 
 enum-told : tie.Need-enum-told Inv-loop μ-loop
 enum-told c = search needs
-
-add-i : tie.Need-add-i Inv-loop μ-loop
-add-i c = search needs
-
-loop-less : tie.Need-loop-less Inv-loop μ-loop
-loop-less c = search needs
 
 loop-again : tie.Need-loop-again Inv-loop μ-loop
 loop-again c =
@@ -107,16 +90,16 @@ changes-of-spec =
     loop-holds
     mul-a
     add-b
-    add-line-change
+    (λ c. search needs)
     mul-line-change
-    sub-line-change
-    part-line-change-start
+    (λ c. search needs)
+    (λ c. search needs)
     part-line-change-end
     line-change-requires
-    enum-known-r
+    (λ c. search needs)
     returns
     enum-told
-    add-i
-    loop-less
+    (λ c. search needs)
+    (λ c. search needs)
     loop-again
     returns-2)

@@ -1,5 +1,4 @@
 -- `first_change` meets its contract: nothing is left out on the way to today's form.
--- Assumes nothing.
 use borrow.Author.Needs.{needs}
 use Rattle.case.specs.Columns.{name-count}
 use Rattle.case.specs.Parts.{formOf}
@@ -10,9 +9,6 @@ use Rattle.conversion.proofs.changes.first_change.Tie as tie
 
 enum-told : tie.Need-enum-told
 enum-told c = search needs
-
-enum-told-2 : tie.Need-enum-told-2
-enum-told-2 c = search needs
 
 changes-of-requires : tie.Need-changes-of-requires
 unfolding formOf other
@@ -28,4 +24,4 @@ returns-2 c = rw (c .before .enum-told2 .given .1, name-count) (c .changes-of .e
 
 pub first-change-spec : {M : Type 1} → statement M
 first-change-spec =
-    tie.close (tie.spec enum-told enum-told-2 changes-of-requires returns returns-2)
+    tie.close (tie.spec enum-told (λ c. search needs) changes-of-requires returns returns-2)

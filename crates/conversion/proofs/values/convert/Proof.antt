@@ -1,7 +1,6 @@
 -- `convert` goes line by line: the laws of proofs/Converting.antt.
--- Assumes nothing.
 use Prim.Native.Nat.{_+_, _*_, _-_, _≤_}
-use mathlib.Core.Path.{_≡_, sym, ap, _∙_}
+use mathlib.Core.Path.{_≡_, ap, _∙_}
 use native.Mathlib.Omega.{arith}
 use borrow.Author.Needs.{needs}
 use borrow.Rule.Slice.PartMut.{mid-len}
@@ -9,7 +8,8 @@ use lib.ListN.{length}
 use Rattle.tables.proofs.Writing.{put-written-as}
 use Rattle.case.specs.Parts.{formOf}
 use Rattle.conversion.specs.Values.{other, carried}
-use Rattle.conversion.proofs.Converting.{carried-count, part-room, part-is, Converting, converting-start, converting-step, converting-end}
+use Rattle.conversion.proofs.Converting.{carried-count, part-room, part-is, Converting, converting-start, converting-step}
+use Rattle.conversion.proofs.Converting.{converting-end}
 use Rattle.conversion.proofs.values.convert.Statement.{statement}
 use Rattle.conversion.proofs.values.convert.Tie as tie
 
@@ -18,15 +18,6 @@ Inv-loop form values n carried₀ k j i₀ store i = Converting form n values ca
 
 abbrev μ-loop : tie.MeasureT-loop
 μ-loop form values n carried₀ k j i₀ store i = n - i
-
-name-count-requires : tie.Need-name-count-requires Inv-loop μ-loop
-name-count-requires c κs = search needs
-
-other-form-requires : tie.Need-other-form-requires Inv-loop μ-loop
-other-form-requires c κs = search needs
-
-name-count-requires-2 : tie.Need-name-count-requires-2 Inv-loop μ-loop
-name-count-requires-2 c κs = search needs
 
 loop-holds : tie.Need-loop-holds Inv-loop μ-loop
 loop-holds c = converting-start _ _ _ _
@@ -41,11 +32,15 @@ to-count c = c .before .before .before .before .name-count .ensures
 from-count : (c : tie.In-loop Inv-loop μ-loop) → c .before .before .name-count2 .result ≡ length (formOf (other (start c .args .form)))
 from-count c = c .before .before .name-count2 .ensures ∙ ap (λ f. length (formOf f)) (c .before .before .before .other-form .ensures)
 
-read-room : (c : tie.In-loop Inv-loop μ-loop) → c .before .before .name-count2 .result * c .before .loop .i + c .before .before .name-count2 .result ≤ length (start c .args .values .now)
+read-room : (c : tie.In-loop Inv-loop μ-loop)
+    → c .before .before .name-count2 .result * c .before .loop .i + c .before .before .name-count2 .result ≤ length (start c .args .values .now)
 read-room c = part-room (start c .args .n) (c .before .loop .i) _ (from-count c) (start c .pre .0) (c .loop-test .taken)
 
-write-room : (c : tie.In-loop Inv-loop μ-loop) → c .before .before .before .before .name-count .result * c .before .loop .i + c .before .before .before .before .name-count .result ≤ length (c .before .loop .carried)
-write-room c = part-room (start c .args .n) (c .before .loop .i) _ (to-count c) (omega (arith, start c .pre .1, c .before .loop .inv .size)) (c .loop-test .taken)
+write-room : (c : tie.In-loop Inv-loop μ-loop)
+    → c .before .before .before .before .name-count .result * c .before .loop .i + c .before .before .before .before .name-count .result ≤ length (c .before .loop .carried)
+write-room c =
+    part-room (start c .args .n) (c .before .loop .i) _ (to-count c) (omega (arith, start c .pre .1, c .before .loop .inv .size))
+    (c .loop-test .taken)
 
 mul-a : tie.Need-mul-a Inv-loop μ-loop
 mul-a c = omega (arith, read-room c)
@@ -62,44 +57,31 @@ add-d c = omega (arith, write-room c)
 mul-convert-line : tie.Need-mul-convert-line Inv-loop μ-loop
 mul-convert-line c = omega (arith, read-room c)
 
-sub-convert-line : tie.Need-sub-convert-line Inv-loop μ-loop
-sub-convert-line c = search needs
-
-part-convert-line-start : tie.Need-part-convert-line-start Inv-loop μ-loop
-part-convert-line-start c = search needs
-
 part-convert-line-end : tie.Need-part-convert-line-end Inv-loop μ-loop
 part-convert-line-end c = read-room c
 
 mul-convert-line-2 : tie.Need-mul-convert-line-2 Inv-loop μ-loop
 mul-convert-line-2 c = omega (arith, write-room (c .before))
 
-sub-convert-line-2 : tie.Need-sub-convert-line-2 Inv-loop μ-loop
-sub-convert-line-2 c = search needs
-
-part-convert-line-start-2 : tie.Need-part-convert-line-start-2 Inv-loop μ-loop
-part-convert-line-start-2 c = search needs
-
 part-convert-line-end-2 : tie.Need-part-convert-line-end-2 Inv-loop μ-loop
 part-convert-line-end-2 c = write-room (c .before)
 
 convert-line-requires : tie.Need-convert-line-requires Inv-loop μ-loop
 convert-line-requires c κs =
-    let i = c .before .before in
-    (mid-len _ _ (start i .args .values .now) (read-room i) ∙ omega (arith, from-count i), mid-len _ _ (i .before .loop .carried) (write-room i) ∙ omega (arith, to-count i))
-
-add-i : tie.Need-add-i Inv-loop μ-loop
-add-i c = search needs
-
-loop-less : tie.Need-loop-less Inv-loop μ-loop
-loop-less c = search needs
+    let i = c .before .before in (
+      mid-len _ _ (start i .args .values .now) (read-room i) ∙ omega (arith, from-count i),
+      mid-len _ _ (i .before .loop .carried)
+          (write-room i) ∙ omega (arith, to-count i),
+    )
 
 loop-again : tie.Need-loop-again Inv-loop μ-loop
 loop-again c =
     let l = c .before .before in
     let i = l .before .before .before in
-    converting-step (i .before .loop .inv) (i .loop-test .taken) (put-written-as _ _ _ _ (to-count i) (write-room i) (ap length (l .convert-line .ensures) ∙ carried-count _ _))
-    (l .convert-line .ensures ∙ ap (carried (start i .args .form)) (part-is (start i .args .values .now) (i .before .loop .i) (from-count i)))
+    converting-step (i .before .loop .inv) (i .loop-test .taken)
+    (put-written-as _ _ _ _ (to-count i) (write-room i) (ap length (l .convert-line .ensures) ∙ carried-count _ _))
+    (l .convert-line .ensures ∙ ap (carried (start i .args .form))
+    (part-is (start i .args .values .now) (i .before .loop .i) (from-count i)))
 
 same-length : tie.Need-same-length Inv-loop μ-loop
 same-length c = c .before .loop .inv .size
@@ -113,25 +95,25 @@ convert-spec =
     (tie.spec
     Inv-loop
     μ-loop
-    name-count-requires
-    other-form-requires
-    name-count-requires-2
+    (λ c κs. search needs)
+    (λ c κs. search needs)
+    (λ c κs. search needs)
     loop-holds
     mul-a
     add-b
     mul-c
     add-d
     mul-convert-line
-    sub-convert-line
-    part-convert-line-start
+    (λ c. search needs)
+    (λ c. search needs)
     part-convert-line-end
     mul-convert-line-2
-    sub-convert-line-2
-    part-convert-line-start-2
+    (λ c. search needs)
+    (λ c. search needs)
     part-convert-line-end-2
     convert-line-requires
-    add-i
-    loop-less
+    (λ c. search needs)
+    (λ c. search needs)
     loop-again
     same-length
     returns)

@@ -1,5 +1,4 @@
 -- `other_form` meets its contract.
--- Assumes nothing.
 use borrow.Author.Needs.{needs}
 use Rattle.conversion.specs.Values.{other}
 use Rattle.conversion.proofs.values.other_form.Statement.{statement}
@@ -7,9 +6,6 @@ use Rattle.conversion.proofs.values.other_form.Tie as tie
 
 enum-told : tie.Need-enum-told
 enum-told c = search needs
-
-enum-told-2 : tie.Need-enum-told-2
-enum-told-2 c = search needs
 
 returns : tie.Need-returns
 unfolding other
@@ -20,4 +16,4 @@ unfolding other
 returns-2 c = rw (c .enum-told2 .given .1)
 
 pub other-form-spec : {M : Type 1} → statement M
-other-form-spec = tie.close (tie.spec enum-told enum-told-2 returns returns-2)
+other-form-spec = tie.close (tie.spec enum-told (λ c. search needs) returns returns-2)

@@ -1,5 +1,4 @@
 -- `grid_current` scales the factor by fault·split, within 64 bits by the factor's span.
--- Assumes nothing.
 use native.Mathlib.Omega.{arith}
 use lib.Dec.{lit<}
 use Rattle.interval.proofs.SpanFits.{scaled-fits, outward-fits}

@@ -1,5 +1,4 @@
 -- `conductor_size` is the smallest number for the rounded square.
--- Assumes nothing.
 use native.Mathlib.Omega.{arith}
 use borrow.Author.Needs.{needs}
 use Rattle.formulas.proofs.Size.{duty-bound}
@@ -8,12 +7,6 @@ use Rattle.current.proofs.SquareLoad.{load-bound}
 use Rattle.current.proofs.Smallest.{size-is}
 use Rattle.current.proofs.size.conductor_size.Statement.{statement}
 use Rattle.current.proofs.size.conductor_size.Tie as tie
-
-load-requires : tie.Need-load-requires
-load-requires c κs = search needs
-
-cast-square-load : tie.Need-cast-square-load
-cast-square-load c = search needs
 
 square-load-requires : tie.Need-square-load-requires
 square-load-requires c κs =
@@ -29,7 +22,8 @@ returns : tie.Need-returns
 returns c =
     let q = c .before in
     let s = q .before .before .before in
-    size-is (s .args .c) _ (c .smallest-square .result) (rw (q .square-load .ensures, q .before .before .load .ensures) at (c .smallest-square .ensures))
+    size-is (s .args .c) _ (c .smallest-square .result)
+    (rw (q .square-load .ensures, q .before .before .load .ensures) at (c .smallest-square .ensures))
 
 pub conductor-size-spec : {M : Type 1} → statement M
-conductor-size-spec = tie.close (tie.spec load-requires cast-square-load square-load-requires smallest-square-requires returns)
+conductor-size-spec = tie.close (tie.spec (λ c κs. search needs) (λ c. search needs) square-load-requires smallest-square-requires returns)

@@ -1,5 +1,4 @@
 -- `fault_current` is the product of fault and the factor's upper end.
--- Assumes nothing.
 use lib.Dec.{lit<}
 use mir.Facts.{toZ-ofZ}
 use Rattle.interval.specs.Span.{Span}
@@ -22,9 +21,6 @@ module _ (c : tie.After-struct-told) where
   span : Span (start .args .factor) billion 2236068000 500
   span = rw (start .pre .1) (factor-span (start .pre .0))
 
-cast-result : tie.Need-cast-result
-cast-result c = search needs
-
 cast-result-2 : tie.Need-cast-result-2
 cast-result-2 c = natural-cast (span c .b) (held c .1) (read-upper (held c) (span c))
 
@@ -36,4 +32,4 @@ returns : tie.Need-returns
 returns c = rw (toZ-ofZ (held c .1), start c .pre .1)
 
 pub fault-current-spec : {M : Type 1} → statement M
-fault-current-spec = tie.close (tie.spec cast-result cast-result-2 mul-result returns)
+fault-current-spec = tie.close (tie.spec (λ c. search needs) cast-result-2 mul-result returns)

@@ -1,5 +1,4 @@
 -- `load` is the product of I and Kf. Every metal of a case has its Kf.
--- Assumes nothing.
 use mathlib.Core.Path.{_≡_}
 use borrow.Author.Needs.{needs}
 use lib.Dec.{lit<}
@@ -11,15 +10,6 @@ use Rattle.current.proofs.Metals.{kf-found, kf-missing}
 use Rattle.current.proofs.size.load.Statement.{statement}
 use Rattle.current.proofs.size.load.Tie as tie
 
-fault-current-requires : tie.Need-fault-current-requires
-fault-current-requires c κs = search needs
-
-kf-requires : tie.Need-kf-requires
-kf-requires c κs = search needs
-
-enum-known-constant : tie.Need-enum-known-constant
-enum-known-constant c = search needs
-
 enum-told : tie.Need-enum-told
 enum-told c = search needs
 
@@ -27,9 +17,6 @@ returns : tie.Need-returns
 returns c =
     let k = c .before .before in
     absurd (kf-missing (k .before .before .pre .0 .metal) (k .kf .ensures) (c .enum-told .given .1))
-
-cast-result : tie.Need-cast-result
-cast-result c = search needs
 
 -- the number found is Kf of the case's metal
 kf-is : (c : tie.After-known-told) → c .before .constant .given .0 .0 ≡ Kf (c .before .before .before .before .before .args .c .metal)
@@ -50,4 +37,5 @@ returns-2 c = rw (c .before .before .before .before .fault-current .ensures, kf-
 
 pub load-spec : {M : Type 1} → statement M
 load-spec =
-    tie.close (tie.spec fault-current-requires kf-requires enum-known-constant enum-told returns cast-result mul-result returns-2)
+    tie.close (tie.spec (λ c κs. search needs) (λ c κs. search needs) (λ c. search needs) enum-told returns (λ c. search needs) mul-result
+    returns-2)

@@ -1,5 +1,4 @@
 -- `part` keeps within 64 bits.
--- Assumes nothing.
 use native.Mathlib.Nat.{le-of-lt}
 use lib.Dec.{lit<}
 use Rattle.interval.proofs.Fits.{fits-product, fits-triple}
@@ -13,8 +12,5 @@ mul-result c = fits-product (le-of-lt (c .pre .0)) (le-of-lt (c .pre .1 .0)) (li
 mul-result-2 : tie.Need-mul-result-2
 mul-result-2 c = fits-triple (le-of-lt (c .pre .0)) (le-of-lt (c .pre .1 .0)) (c .pre .1 .1) (lit< tt)
 
-returns : tie.Need-returns
-returns c = search needs
-
 pub part-spec : {M : Type 1} → statement M
-part-spec = tie.close (tie.spec mul-result mul-result-2 returns)
+part-spec = tie.close (tie.spec mul-result mul-result-2 (λ c. search needs))

@@ -1,15 +1,9 @@
 -- `smallest_square` is the whole root or the next number.
--- Assumes nothing.
-use Prim.Native.Nat.{_*_, _<_}
 use native.Mathlib.Omega.{arith}
-use native.Mathlib.Nat.{lt-of-le-of-lt}
 use borrow.Author.Needs.{needs}
 use Rattle.current.proofs.WholeRoot.{root-square, root-small, root-smallest, next-smallest}
 use Rattle.current.proofs.size.smallest_square.Statement.{statement}
 use Rattle.current.proofs.size.smallest_square.Tie as tie
-
-isqrt-requires : tie.Need-isqrt-requires
-isqrt-requires c κs = search needs
 
 mul-if1 : tie.Need-mul-if1
 mul-if1 c = record { fits = omega (arith, root-square (c .isqrt .ensures)) }
@@ -27,4 +21,4 @@ returns-2 : tie.Need-returns-2
 returns-2 c = root-smallest (c .before .isqrt .ensures) (c .if1 .left)
 
 pub smallest-square-spec : {M : Type 1} → statement M
-smallest-square-spec = tie.close (tie.spec isqrt-requires mul-if1 mul-if1-2 add-result returns returns-2)
+smallest-square-spec = tie.close (tie.spec (λ c κs. search needs) mul-if1 mul-if1-2 add-result returns returns-2)

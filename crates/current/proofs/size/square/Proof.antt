@@ -1,5 +1,4 @@
 -- `square` adds up the parts of the square from the lowest; each keeps within 64 bits.
--- Assumes nothing.
 use Prim.Native.Nat.{_*_}
 use mathlib.Core.Path.{_≡_}
 use native.Mathlib.Omega.{arith}
@@ -15,7 +14,8 @@ lowest-is : (c : tie.After-carried) → let a = c .before .before .args in c .ca
 unfolding lowest
 lowest-is c = rw (c .carried .ensures, c .before .part .ensures)
 
-low-is : (c : tie.After-carried2) → let a = c .before .before .before .before .args in c .carried2 .result ≡ low (a .u) (a .v) (a .w) (a .ms)
+low-is : (c : tie.After-carried2)
+    → let a = c .before .before .before .before .args in c .carried2 .result ≡ low (a .u) (a .v) (a .w) (a .ms)
 unfolding low
 low-is c = rw (c .carried2 .ensures, c .before .part2 .ensures, lowest-is (c .before .before))
 
@@ -29,19 +29,10 @@ high-is : (c : tie.After-carried4)
 unfolding high
 high-is c = rw (c .carried4 .ensures, c .before .part6 .ensures, middle-is (c .before .before .before))
 
-part-requires : tie.Need-part-requires
-part-requires c κs = search needs
-
 carried-requires : tie.Need-carried-requires
 carried-requires c κs =
     let p = c .before .pre in
     rw (c .part .ensures) (omega (arith, part-small {p = c .before .args .w} (omega (arith, p .lower)) (p .lower) (p .time)), lit< tt)
-
-mul-part : tie.Need-mul-part
-mul-part c = search needs
-
-part-requires-2 : tie.Need-part-requires-2
-part-requires-2 c κs = search needs
 
 carried-requires-2 : tie.Need-carried-requires-2
 carried-requires-2 c κs =
@@ -49,17 +40,10 @@ carried-requires-2 c κs =
     let s = l .before .before in
     let a = s .args in
     let p = s .pre in
-    rw (c .part2 .ensures, lowest-is l)
-    (omega (arith, part-small {p = 2 * a .v} (omega (arith, p .middle)) (p .lower) (p .time)), omega (arith, lowest-small (a .u) (a .v) (a .w) (a .ms) p))
-
-mul-part-2 : tie.Need-mul-part-2
-mul-part-2 c = search needs
-
-part-requires-3 : tie.Need-part-requires-3
-part-requires-3 c κs = search needs
-
-part-requires-4 : tie.Need-part-requires-4
-part-requires-4 c κs = search needs
+    rw (c .part2 .ensures, lowest-is l) (
+      omega (arith, part-small {p = 2 * a .v} (omega (arith, p .middle)) (p .lower) (p .time)),
+      omega (arith, lowest-small (a .u) (a .v) (a .w) (a .ms) p),
+    )
 
 -- the two parts of the middle
 add-carried : tie.Need-add-carried
@@ -68,7 +52,14 @@ add-carried c =
     let a = s .args in
     let p = s .pre in
     rw (c .part4 .ensures, c .before .part3 .ensures)
-    (record { fits = omega (arith, part-small {p = 2 * a .u} (omega (arith, p .upper)) (p .lower) (p .time), part-small {p = a .v} (omega (arith, p .middle)) (p .middle) (p .time)) })
+    (record {
+      fits = omega (
+        arith,
+        part-small {p = 2 * a .u} (omega (arith, p .upper)) (p .lower) (p .time),
+        part-small {p = a .v}
+            (omega (arith, p .middle)) (p .middle) (p .time),
+      );
+    })
 
 carried-requires-3 : tie.Need-carried-requires-3
 carried-requires-3 c κs =
@@ -77,18 +68,14 @@ carried-requires-3 c κs =
     let a = s .args in
     let p = s .pre in
     rw (c .part4 .ensures, c .before .part3 .ensures, low-is l) (
-      omega (arith, part-small {p = 2 * a .u} (omega (arith, p .upper)) (p .lower) (p .time), part-small {p = a .v} (omega (arith, p .middle)) (p .middle) (p .time)),
+      omega (
+        arith,
+        part-small {p = 2 * a .u} (omega (arith, p .upper)) (p .lower) (p .time),
+        part-small {p = a .v}
+            (omega (arith, p .middle)) (p .middle) (p .time),
+      ),
       omega (arith, low-small (a .u) (a .v) (a .w) (a .ms) p),
     )
-
-part-requires-5 : tie.Need-part-requires-5
-part-requires-5 c κs = search needs
-
-mul-part-3 : tie.Need-mul-part-3
-mul-part-3 c = search needs
-
-part-requires-6 : tie.Need-part-requires-6
-part-requires-6 c κs = search needs
 
 carried-requires-4 : tie.Need-carried-requires-4
 carried-requires-4 c κs =
@@ -96,8 +83,10 @@ carried-requires-4 c κs =
     let s = l .before .before .before .before .before .before .before in
     let a = s .args in
     let p = s .pre in
-    rw (c .part6 .ensures, middle-is l)
-    (omega (arith, part-small {p = 2 * a .u} (omega (arith, p .upper)) (p .middle) (p .time)), omega (arith, middle-small (a .u) (a .v) (a .w) (a .ms) p))
+    rw (c .part6 .ensures, middle-is l) (
+      omega (arith, part-small {p = 2 * a .u} (omega (arith, p .upper)) (p .middle) (p .time)),
+      omega (arith, middle-small (a .u) (a .v) (a .w) (a .ms) p),
+    )
 
 add-result : tie.Need-add-result
 add-result c =
@@ -106,7 +95,14 @@ add-result c =
     let a = s .args in
     let p = s .pre in
     rw (l .part5 .ensures, high-is c)
-    (record { fits = omega (arith, part-small {p = a .u} (omega (arith, p .upper)) (p .upper) (p .time), high-small (a .u) (a .v) (a .w) (a .ms) p) })
+    (record {
+      fits = omega (
+        arith,
+        part-small {p = a .u} (omega (arith, p .upper)) (p .upper) (p .time),
+        high-small (a .u) (a .v) (a .w)
+            (a .ms) p,
+      );
+    })
 
 returns : tie.Need-returns
 unfolding squareOf lowest low middle high
@@ -116,19 +112,19 @@ pub square-spec : {M : Type 1} → statement M
 square-spec =
     tie.close
     (tie.spec
-    part-requires
+    (λ c κs. search needs)
     carried-requires
-    mul-part
-    part-requires-2
+    (λ c. search needs)
+    (λ c κs. search needs)
     carried-requires-2
-    mul-part-2
-    part-requires-3
-    part-requires-4
+    (λ c. search needs)
+    (λ c κs. search needs)
+    (λ c κs. search needs)
     add-carried
     carried-requires-3
-    part-requires-5
-    mul-part-3
-    part-requires-6
+    (λ c κs. search needs)
+    (λ c. search needs)
+    (λ c κs. search needs)
     carried-requires-4
     add-result
     returns)

@@ -1,5 +1,4 @@
 -- `square_load` parts x by a million.
--- Assumes nothing.
 use Rattle.current.specs.Size.{squareLoad}
 use Rattle.current.proofs.SquareLoad.{within}
 use Rattle.current.proofs.size.square_load.Statement.{statement}

@@ -1,13 +1,9 @@
 -- `header::names::is_name` meets its contract.
--- Assumes nothing.
-use mathlib.Core.Path.{sym, _∙_}
+use mathlib.Core.Path.{sym}
 use lib.Seq.{length-take-le}
 use borrow.Author.Needs.{needs}
 use Rattle.header.proofs.names.is_name.Statement.{statement}
 use Rattle.header.proofs.names.is_name.Tie as tie
-
-place-requires : tie.Need-place-requires
-place-requires c κs = search needs
 
 entry-requires : tie.Need-entry-requires
 entry-requires c κs = c .place .ensures .within
@@ -18,9 +14,6 @@ array-share-prefix-text c = c .before .entry .ensures .fits
 slice-aggregate-same : tie.Need-slice-aggregate-same
 slice-aggregate-same c = sym (length-take-le _ _ (c .before .before .entry .ensures .fits))
 
-same-requires : tie.Need-same-requires
-same-requires c κs = search needs
-
 returns : tie.Need-returns
 returns c =
     let e = c .before .before .before in
@@ -29,4 +22,4 @@ returns c =
 pub is-name-spec : {M : Type 1} → statement M
 is-name-spec =
     tie.close
-    (tie.spec place-requires entry-requires array-share-prefix-text slice-aggregate-same same-requires returns)
+    (tie.spec (λ c κs. search needs) entry-requires array-share-prefix-text slice-aggregate-same (λ c κs. search needs) returns)

@@ -1,8 +1,6 @@
 -- `header::names::name_of` meets its contract: the search of proofs/Naming.antt.
--- Assumes nothing.
 use Prim.Native.Nat.{_-_}
 use mathlib.Core.Path.{sym, _∙_}
-use native.Mathlib.Omega.{arith}
 use borrow.Author.Needs.{needs}
 use Rattle.case.specs.Parts.{formOf}
 use Rattle.header.proofs.Naming.{Naming, naming-start, naming-found, naming-step, naming-end}
@@ -15,24 +13,12 @@ Inv-loop form s n k₀ k = Naming (formOf form) s k
 abbrev μ-loop : tie.MeasureT-loop
 μ-loop form s n k₀ k = n - k
 
-name-count-requires : tie.Need-name-count-requires Inv-loop μ-loop
-name-count-requires c κs = search needs
-
 loop-holds : tie.Need-loop-holds Inv-loop μ-loop
 loop-holds c = naming-start _ _
-
-is-name-requires : tie.Need-is-name-requires Inv-loop μ-loop
-is-name-requires c κs = search needs
 
 returns : tie.Need-returns Inv-loop μ-loop
 returns c =
     naming-found (c .before .before .before .loop .inv) (search needs) (sym (c .before .is-name .ensures) ∙ c .if1 .taken)
-
-add-k : tie.Need-add-k Inv-loop μ-loop
-add-k c = search needs
-
-loop-less : tie.Need-loop-less Inv-loop μ-loop
-loop-less c = search needs
 
 loop-again : tie.Need-loop-again Inv-loop μ-loop
 loop-again c =
@@ -47,11 +33,11 @@ name-of-spec =
     (tie.spec
     Inv-loop
     μ-loop
-    name-count-requires
+    (λ c κs. search needs)
     loop-holds
-    is-name-requires
+    (λ c κs. search needs)
     returns
-    add-k
-    loop-less
+    (λ c. search needs)
+    (λ c. search needs)
     loop-again
     returns-2)

@@ -1,5 +1,4 @@
 -- `greatest_fault` is the search of proofs/Halving.antt. The measure counts the rows that are left, at most 17.
--- Assumes nothing.
 use Prim.Native.Nat.{_-_}
 use mathlib.Core.Path.{sym, ap, _∙_}
 use native.Mathlib.Omega.{arith}
@@ -18,12 +17,6 @@ Inv-loop c safe₀ over₀ safe over = Halving c safe over
 abbrev μ-loop : tie.MeasureT-loop
 μ-loop c safe₀ over₀ safe over = rowsLeft (over - safe)
 
-sub-safe : tie.Need-sub-safe Inv-loop μ-loop
-sub-safe c = search needs
-
-add-over : tie.Need-add-over Inv-loop μ-loop
-add-over c = search needs
-
 loop-holds : tie.Need-loop-holds Inv-loop μ-loop
 loop-holds c = halving-start _
 
@@ -35,9 +28,6 @@ sub-middle c = omega arith
 
 add-middle : tie.Need-add-middle Inv-loop μ-loop
 add-middle c = omega arith
-
-with-fault-requires : tie.Need-with-fault-requires Inv-loop μ-loop
-with-fault-requires c κs = search needs
 
 is-safe-requires : tie.Need-is-safe-requires Inv-loop μ-loop
 is-safe-requires c κs =
@@ -82,13 +72,13 @@ greatest-fault-spec =
     (tie.spec
     Inv-loop
     μ-loop
-    sub-safe
-    add-over
+    (λ c. search needs)
+    (λ c. search needs)
     loop-holds
     sub-loop
     sub-middle
     add-middle
-    with-fault-requires
+    (λ c κs. search needs)
     is-safe-requires
     loop-less
     loop-again

@@ -1,5 +1,4 @@
 -- `Interval::corners` multiplies the other pair by each end.
--- Assumes nothing.
 use native.Mathlib.Nat.{lt-of-le-of-lt, mul-le-mul-right}
 use borrow.Author.Needs.{needs}
 use mir.Facts.{toZ-ofZ}
@@ -22,13 +21,10 @@ times-requires-2 c κs =
     let s = c .before .before .before in
     rw (toZ-ofZ (held s .1)) (lt-of-le-of-lt (mul-le-mul-right (size (s .args .other)) (size-upper (s .args .self))) (s .pre))
 
-hull-requires : tie.Need-hull-requires
-hull-requires c κs = search needs
-
 returns : tie.Need-returns
 returns c =
     let s = c .before .before .before .before .before in
     cc (toZ-ofZ (held s .0), toZ-ofZ (held s .1), corners-hull (s .args .self) (s .args .other))
 
 pub corners-spec : {M : Type 1} → statement M
-corners-spec = tie.close (tie.spec times-requires times-requires-2 hull-requires returns)
+corners-spec = tie.close (tie.spec times-requires times-requires-2 (λ c κs. search needs) returns)

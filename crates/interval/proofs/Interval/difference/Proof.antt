@@ -1,5 +1,4 @@
 -- `Interval::difference` takes the other's upper end from the lower one, and its lower end from the upper.
--- Assumes nothing.
 use Prim.Native.Nat.{_<_, _^_}
 use native.Mathlib.Nat.{lt-of-le-of-lt}
 use borrow.Author.Needs.{needs}

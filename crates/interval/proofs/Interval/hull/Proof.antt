@@ -1,5 +1,4 @@
 -- `Interval::hull` takes the lesser lower end and the greater upper one.
--- Assumes nothing.
 use borrow.Author.Needs.{needs}
 use mir.Facts.{toZ-ofZ}
 use Rattle.interval.specs.Operations.{hullOf}
@@ -9,12 +8,6 @@ use Rattle.interval.proofs.Interval.hull.Tie as tie
 
 held : (s : tie.Start) → Held (s .args .self) × Held (s .args .other)
 held s = search needs
-
-least-requires : tie.Need-least-requires
-least-requires c κs = search needs
-
-most-requires : tie.Need-most-requires
-most-requires c κs = search needs
 
 returns : tie.Need-returns
 unfolding hullOf
@@ -31,4 +24,4 @@ returns c =
     )
 
 pub hull-spec : {M : Type 1} → statement M
-hull-spec = tie.close (tie.spec least-requires most-requires returns)
+hull-spec = tie.close (tie.spec (λ c κs. search needs) (λ c κs. search needs) returns)

@@ -1,5 +1,4 @@
 -- `Interval::outward` rounds the lower end down and the upper end up.
--- Assumes nothing.
 use borrow.Author.Needs.{needs}
 use mir.Facts.{toZ-ofZ}
 use Rattle.interval.specs.Operations.{outwardOf}
@@ -10,9 +9,6 @@ use Rattle.interval.proofs.Interval.outward.Tie as tie
 
 held : (s : tie.Start) → Held (s .args .self)
 held s = search needs
-
-floor-div-requires : tie.Need-floor-div-requires
-floor-div-requires c κs = search needs
 
 ceil-div-requires : tie.Need-ceil-div-requires
 ceil-div-requires c κs =
@@ -32,4 +28,4 @@ returns c =
     )
 
 pub outward-spec : {M : Type 1} → statement M
-outward-spec = tie.close (tie.spec floor-div-requires ceil-div-requires returns)
+outward-spec = tie.close (tie.spec (λ c κs. search needs) ceil-div-requires returns)

@@ -1,14 +1,10 @@
 -- `Interval::product` rounds the corners outward.
--- Assumes nothing.
 use native.Mathlib.Nat.{lt-of-le-of-lt}
 use borrow.Author.Needs.{needs}
 use Rattle.interval.specs.Operations.{productOf}
 use Rattle.interval.proofs.Sizes.{size-corners}
 use Rattle.interval.proofs.Interval.product.Statement.{statement}
 use Rattle.interval.proofs.Interval.product.Tie as tie
-
-corners-requires : tie.Need-corners-requires
-corners-requires c κs = search needs
 
 outward-requires : tie.Need-outward-requires
 outward-requires c κs =
@@ -20,4 +16,4 @@ unfolding productOf
 returns c = cc
 
 pub product-spec : {M : Type 1} → statement M
-product-spec = tie.close (tie.spec corners-requires outward-requires returns)
+product-spec = tie.close (tie.spec (λ c κs. search needs) outward-requires returns)

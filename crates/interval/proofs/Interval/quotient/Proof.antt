@@ -1,5 +1,4 @@
 -- `Interval::quotient` divides by each end of the divisor.
--- Assumes nothing.
 use Prim.Native.Nat.{_<_, _^_}
 use native.Mathlib.Nat.{lt-of-le-of-lt}
 use borrow.Author.Needs.{needs}
@@ -29,9 +28,6 @@ small c =
     let s = c .before in
     rw (c .scaled .ensures) (lt-of-le-of-lt (size-scaled (s .args .self) (s .args .scale)) (s .pre .1 .1))
 
-scaled-requires : tie.Need-scaled-requires
-scaled-requires c κs = search needs
-
 cast-outward : tie.Need-cast-outward
 cast-outward c =
     let s = c .before .before .before in
@@ -52,9 +48,6 @@ outward-requires-2 c κs =
     let t = c .before .before .before .before .before in
     rw (toZ-ofZ (held (t .before) .1)) (size-positive (upper-positive (t .before)), small t)
 
-hull-requires : tie.Need-hull-requires
-hull-requires c κs = search needs
-
 returns : tie.Need-returns
 unfolding quotientOf
 returns c =
@@ -64,4 +57,4 @@ returns c =
 pub quotient-spec : {M : Type 1} → statement M
 quotient-spec =
     tie.close
-    (tie.spec scaled-requires cast-outward outward-requires cast-outward-2 outward-requires-2 hull-requires returns)
+    (tie.spec (λ c κs. search needs) cast-outward outward-requires cast-outward-2 outward-requires-2 (λ c κs. search needs) returns)

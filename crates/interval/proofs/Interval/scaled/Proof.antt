@@ -1,5 +1,4 @@
 -- `Interval::scaled` multiplies both ends by a natural.
--- Assumes nothing.
 use Prim.Native.Nat.{_<_, _^_}
 use native.Mathlib.Nat.{lt-of-le-of-lt}
 use borrow.Author.Needs.{needs}
@@ -30,16 +29,10 @@ module _ (s : tie.Start) where
   unfolding scaledOf
   upper-small = upper-below _ small
 
-cast-t3 : tie.Need-cast-t3
-cast-t3 c = search needs
-
 mul-t4 : tie.Need-mul-t4
 mul-t4 c =
     let s = c .before .before in
     result-fits _*ℤ_ (held s .0) (factor s) (lower-small s)
-
-cast-t5 : tie.Need-cast-t5
-cast-t5 c = search needs
 
 mul-t6 : tie.Need-mul-t6
 mul-t6 c =
@@ -53,4 +46,4 @@ returns c =
     cc (result-is _*ℤ_ (held s .0) (factor s) (lower-small s), result-is _*ℤ_ (held s .1) (factor s) (upper-small s))
 
 pub scaled-spec : {M : Type 1} → statement M
-scaled-spec = tie.close (tie.spec cast-t3 mul-t4 cast-t5 mul-t6 returns)
+scaled-spec = tie.close (tie.spec (λ c. search needs) mul-t4 (λ c. search needs) mul-t6 returns)

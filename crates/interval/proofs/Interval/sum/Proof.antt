@@ -1,5 +1,4 @@
 -- `Interval::sum` adds the ends.
--- Assumes nothing.
 use Prim.Native.Nat.{_<_, _^_}
 use native.Mathlib.Nat.{lt-of-le-of-lt}
 use borrow.Author.Needs.{needs}

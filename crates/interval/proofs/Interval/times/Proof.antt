@@ -1,5 +1,4 @@
 -- `Interval::times` takes the lesser and the greater of the two products.
--- Assumes nothing.
 use Prim.Native.Nat.{_≤_, _<_, _^_}
 use native.Mathlib.Nat.{lt-of-le-of-lt, le-refl}
 use borrow.Author.Needs.{needs}
@@ -29,12 +28,6 @@ mul-a c = let s = c .before .before in result-fits _*ℤ_ (s .fits .z) (held s .
 mul-b : tie.Need-mul-b
 mul-b c = let s = c .before .before .before .before in result-fits _*ℤ_ (s .fits .z) (held s .1) (upper-small s)
 
-least-requires : tie.Need-least-requires
-least-requires c κs = search needs
-
-most-requires : tie.Need-most-requires
-most-requires c κs = search needs
-
 returns : tie.Need-returns
 unfolding timesOf
 returns c =
@@ -48,4 +41,4 @@ returns c =
     )
 
 pub times-spec : {M : Type 1} → statement M
-times-spec = tie.close (tie.spec mul-a mul-b least-requires most-requires returns)
+times-spec = tie.close (tie.spec mul-a mul-b (λ c κs. search needs) (λ c κs. search needs) returns)

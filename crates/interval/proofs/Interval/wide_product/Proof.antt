@@ -1,5 +1,4 @@
 -- `Interval::wide_product` multiplies the lower ends, rounded down, and the upper ends, rounded up.
--- Assumes nothing.
 use mathlib.Core.Path.{_≡_, sym, ap, _∙_}
 use borrow.Author.Needs.{needs}
 use lib.IntN.{pos}

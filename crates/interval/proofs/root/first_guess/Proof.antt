@@ -1,5 +1,4 @@
 -- `first_guess` shifts by half the length of x in bits, rounded up.
--- Assumes nothing.
 use native.Mathlib.Omega.{arith}
 use borrow.Author.Needs.{needs}
 use lib.Count.{leading-le, leading-length}
@@ -9,9 +8,6 @@ use Rattle.interval.proofs.root.first_guess.Tie as tie
 
 sub-result : tie.Need-sub-result
 sub-result c = omega (arith, leading-le 64 (c .args .x))
-
-cast-result : tie.Need-cast-result
-cast-result c = search needs
 
 shl-result : tie.Need-shl-result
 shl-result c = omega arith
@@ -25,4 +21,4 @@ returns c =
     shift-not-below _ (omega arith) (c .args .x) (n .0) (n .2) (omega (arith, n .1))
 
 pub first-guess-spec : {M : Type 1} → statement M
-first-guess-spec = tie.close (tie.spec sub-result cast-result shl-result sub-result-2 returns)
+first-guess-spec = tie.close (tie.spec sub-result (λ c. search needs) shl-result sub-result-2 returns)

@@ -1,6 +1,5 @@
 -- `isqrt` falls to the root: no guess is below it, and a guess whose square is not above x is the root.
--- Assumes nothing.
-use Prim.Native.Nat.{_+_, _*_, _/_, _≤_, _<_}
+use Prim.Native.Nat.{_≤_}
 use native.Mathlib.Omega.{arith}
 use borrow.Author.Needs.{needs}
 use lib.Dec.{lit<}
@@ -15,9 +14,6 @@ Inv-loop x r₀ r = NotBelow x r
 
 abbrev μ-loop : tie.MeasureT-loop
 μ-loop x r₀ r = r
-
-first-guess-requires : tie.Need-first-guess-requires Inv-loop μ-loop
-first-guess-requires c κs = search needs
 
 loop-holds : tie.Need-loop-holds Inv-loop μ-loop
 loop-holds c = c .first-guess .ensures
@@ -44,4 +40,4 @@ returns c = record { low = c .loop-test .left; high = c .before .loop .inv .high
 
 pub isqrt-spec : {M : Type 1} → statement M
 isqrt-spec =
-    tie.close (tie.spec Inv-loop μ-loop first-guess-requires loop-holds mul-loop div-r add-r loop-less loop-again returns)
+    tie.close (tie.spec Inv-loop μ-loop (λ c κs. search needs) loop-holds mul-loop div-r add-r loop-less loop-again returns)

@@ -1,5 +1,4 @@
 -- `root_ends` gives the root and the next number.
--- Assumes nothing.
 use Prim.Native.Nat.{_<_}
 use native.Mathlib.Nat.{lt-of-lt-of-le}
 use native.Mathlib.Omega.{arith}
@@ -11,9 +10,6 @@ use Rattle.interval.proofs.root.root_ends.Tie as tie
 
 small : (c : tie.After-isqrt) → c .isqrt .result < 4294967296
 small c = root-below (c .isqrt .ensures) 4294967296 (lt-of-lt-of-le (c .before .fits .x .fits) (lit≤ tt))
-
-isqrt-requires : tie.Need-isqrt-requires
-isqrt-requires c κs = search needs
 
 add-natural : tie.Need-add-natural
 add-natural c = omega (arith, small c)
@@ -27,4 +23,4 @@ returns c =
     record { root = i .result; is-root = i .ensures; ends = c .natural .ensures }
 
 pub root-ends-spec : {M : Type 1} → statement M
-root-ends-spec = tie.close (tie.spec isqrt-requires add-natural natural-requires returns)
+root-ends-spec = tie.close (tie.spec (λ c κs. search needs) add-natural natural-requires returns)

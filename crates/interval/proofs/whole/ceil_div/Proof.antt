@@ -1,5 +1,4 @@
 -- `ceil_div` rounds the negated number down, and negates again.
--- Assumes nothing.
 use Prim.Native.Nat.{_<_, _^_}
 use mathlib.Core.Path.{_≡_, ap, _∙_}
 use native.Mathlib.Omega.{arith}
@@ -13,9 +12,6 @@ use Rattle.interval.proofs.whole.ceil_div.Tie as tie
 
 sub-floor-div : tie.Need-sub-floor-div
 sub-floor-div c = negated-fits (c .fits .a) (c .pre .1)
-
-floor-div-requires : tie.Need-floor-div-requires
-floor-div-requires c κs = search needs
 
 floored : (c : tie.After-floor-div) → c .floor-div .result ≡ floorZ (negℤ (c .before .args .a)) (c .before .args .d)
 floored c = rw (negated-is (c .before .fits .a) (c .before .pre .1)) at (c .floor-div .ensures)
@@ -33,4 +29,4 @@ unfolding ceilZ
 returns c = negated-is {z = c .floor-div .result} (sfits-of (c .floor-div .ok)) (small c) ∙ ap negℤ (floored c)
 
 pub ceil-div-spec : {M : Type 1} → statement M
-ceil-div-spec = tie.close (tie.spec sub-floor-div floor-div-requires sub-result returns)
+ceil-div-spec = tie.close (tie.spec sub-floor-div (λ c κs. search needs) sub-result returns)

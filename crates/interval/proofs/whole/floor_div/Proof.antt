@@ -1,5 +1,4 @@
 -- `floor_div`: a number below 0 is turned round, divided, and turned round again.
--- Assumes nothing.
 use Prim.Native.Nat.{_-_, _/_, _<_, _^_}
 use mathlib.Core.Path.{_≡_, sym, ap, _∙_}
 use mathlib.Core.Bool.{true, false}
@@ -32,17 +31,11 @@ module _ (s : tie.Start) where
 cast-result : tie.Need-cast-result
 cast-result c = rw (turned (c .before) (c .if1 .taken)) (tt, number-fits (c .before))
 
-div-result : tie.Need-div-result
-div-result c = search needs
-
 cast-result-2 : tie.Need-cast-result-2
 cast-result-2 c = rw (turned (c .before) (c .if1 .taken)) (record { sfits = quotient-small (c .before) })
 
 cast-result-3 : tie.Need-cast-result-3
 cast-result-3 c = rw (straight (c .before) (c .if1 .left)) (tt, number-fits (c .before))
-
-div-result-2 : tie.Need-div-result-2
-div-result-2 c = search needs
 
 cast-result-4 : tie.Need-cast-result-4
 cast-result-4 c = rw (straight (c .before) (c .if1 .left)) (record { sfits = quotient-small (c .before) })
@@ -66,4 +59,4 @@ returns-2 c =
 
 pub floor-div-spec : {M : Type 1} → statement M
 floor-div-spec =
-    tie.close (tie.spec cast-result div-result cast-result-2 cast-result-3 div-result-2 cast-result-4 returns returns-2)
+    tie.close (tie.spec cast-result (λ c. search needs) cast-result-2 cast-result-3 (λ c. search needs) cast-result-4 returns returns-2)

@@ -1,5 +1,4 @@
 -- `least` gives the lesser of two.
--- Assumes nothing.
 use mathlib.Core.Path.{_≡_}
 use mathlib.Core.Bool.{true, false}
 use lib.Signed.{leZ}

@@ -1,5 +1,4 @@
 -- `most` gives the greater of two.
--- Assumes nothing.
 use mathlib.Core.Path.{_≡_}
 use mathlib.Core.Bool.{true, false}
 use lib.Signed.{leZ}

@@ -1,5 +1,4 @@
 -- `judgement::check::check_line` meets its contract, by the laws of proofs/LineJudged.antt.
--- Assumes nothing.
 use lib.ListN.{length}
 use Rattle.case.specs.Parts.{formOf}
 use Rattle.case.proofs.Order.{distinct}
@@ -39,7 +38,8 @@ returns-2 : tie.Need-returns-2
 returns-2 c =
     let e = c .before .before in
     let v = e .before .before .before in
-    judged-values _ (line-values v) _ _ (form-keyed (start v .args .form)) (key-fits (start v .args .form) _ (start v .pre .0) (line-values v .count)) (e .if1 .left)
+    judged-values _ (line-values v) _ _ (form-keyed (start v .args .form))
+    (key-fits (start v .args .form) _ (start v .pre .0) (line-values v .count)) (e .if1 .left)
     (arranged (start v .pre .0) (start v .pre .1 .0) (line-values v) (e .if1 .left)) (c .values-finding .ensures)
 
 pub check-line-spec : {M : Type 1} → statement M

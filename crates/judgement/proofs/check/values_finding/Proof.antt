@@ -1,5 +1,4 @@
 -- `judgement::check::values_finding` meets its contract, by what the checks of the values find.
--- Assumes nothing.
 use mathlib.Core.Path.{sym, _∙_}
 use native.Mathlib.Omega.{arith}
 use borrow.Author.Needs.{needs}
@@ -8,15 +7,6 @@ use Rattle.judgement.specs.Findings.{orFinding}
 use Rattle.judgement.proofs.Keys.{key-fits}
 use Rattle.judgement.proofs.check.values_finding.Statement.{statement}
 use Rattle.judgement.proofs.check.values_finding.Tie as tie
-
-check-values-requires : tie.Need-check-values-requires
-check-values-requires c κs = search needs
-
-enum-known-column : tie.Need-enum-known-column
-enum-known-column c = search needs
-
-enum-known-column-2 : tie.Need-enum-known-column-2
-enum-known-column-2 c = search needs
 
 enum-told : tie.Need-enum-told
 enum-told c = search needs
@@ -37,9 +27,6 @@ key-requires c κs =
     let s = c .before .before .before .before .before .before .before .before in
     key-fits (s .args .form) _ (s .pre .0) (s .pre .1 .0) (sym (e .before .before .check-values .ensures) ∙ e .enum-told .given .1)
 
-seen-requires : tie.Need-seen-requires
-seen-requires c κs = search needs
-
 returns : tie.Need-returns
 unfolding orFinding
 returns c = rw (sym (c .before .before .before .check-values .ensures) ∙ c .before .column .given .1)
@@ -52,26 +39,34 @@ returns-3 : tie.Need-returns-3
 unfolding orFinding
 returns-3 c =
     let e = c .before .before .before .before .before in
-    rw (sym (e .before .before .check-values .ensures) ∙ e .enum-told .given .1, ← c .before .before .key .ensures, sym (c .before .seen .ensures) ∙ c .if1 .taken)
+    rw (
+      sym (e .before .before .check-values .ensures) ∙ e .enum-told .given .1,
+      ← c .before .before .key .ensures,
+      sym (c .before .seen .ensures) ∙ c .if1 .taken,
+    )
 
 returns-4 : tie.Need-returns-4
 unfolding orFinding
 returns-4 c =
     let e = c .before .before .before .before .before in
-    rw (sym (e .before .before .check-values .ensures) ∙ e .enum-told .given .1, ← c .before .before .key .ensures, sym (c .before .seen .ensures) ∙ c .if1 .left)
+    rw (
+      sym (e .before .before .check-values .ensures) ∙ e .enum-told .given .1,
+      ← c .before .before .key .ensures,
+      sym (c .before .seen .ensures) ∙ c .if1 .left,
+    )
 
 pub values-finding-spec : {M : Type 1} → statement M
 values-finding-spec =
     tie.close
     (tie.spec
-    check-values-requires
-    enum-known-column
-    enum-known-column-2
+    (λ c κs. search needs)
+    (λ c. search needs)
+    (λ c. search needs)
     enum-told
     shared-slice-read-key
     shared-slice-read-key-2
     key-requires
-    seen-requires
+    (λ c κs. search needs)
     returns
     returns-2
     returns-3

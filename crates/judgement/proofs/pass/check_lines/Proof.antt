@@ -1,5 +1,4 @@
 -- `judgement::pass::check_lines` meets its contract: the pass of proofs/Passing.antt.
--- Assumes nothing.
 use Prim.Native.Nat.{_+_, _*_, _≤_, _<_}
 use mathlib.Core.Path.{refl, _∙_}
 use native.Mathlib.Omega.{arith}
@@ -13,7 +12,8 @@ use Rattle.judgement.specs.declared.Judgement.the-variants.{Lines}
 use Rattle.judgement.specs.Limits.{mostLines}
 use Rattle.judgement.proofs.Keys.{form-keyed}
 use Rattle.judgement.proofs.LineJudged.{sound-line}
-use Rattle.judgement.proofs.Passing.{Passing, passing-start, passing-room, passing-store, stored-value, stored-first, passing-refused, passing-step, passing-end}
+use Rattle.judgement.proofs.Passing.{Passing, passing-start, passing-room, passing-store, stored-value, stored-first}
+use Rattle.judgement.proofs.Passing.{passing-refused, passing-step, passing-end}
 use Rattle.judgement.proofs.pass.check_lines.Statement.{statement}
 use Rattle.judgement.proofs.pass.check_lines.Tie as tie
 
@@ -27,14 +27,8 @@ abbrev μ-loop : tie.MeasureT-loop
 loop-holds : tie.Need-loop-holds Inv-loop μ-loop
 loop-holds c = passing-start _ _ _ _ _ (search needs)
 
-find-requires : tie.Need-find-requires Inv-loop μ-loop
-find-requires c κs = search needs
-
 slice-aggregate-store-line : tie.Need-slice-aggregate-store-line Inv-loop μ-loop
 slice-aggregate-store-line c = part-length 10 _ _ (c .before .find .ensures)
-
-slice-aggregate-store-line-2 : tie.Need-slice-aggregate-store-line-2 Inv-loop μ-loop
-slice-aggregate-store-line-2 c = search needs
 
 abbrev start : tie.In-loop Inv-loop μ-loop → tie.Start Inv-loop μ-loop
 start c = c .before .before .before .before .before .before
@@ -53,12 +47,6 @@ store-line-requires c κs =
 add-refusal : tie.Need-add-refusal Inv-loop μ-loop
 add-refusal c = omega (arith, room (c .before .before .before .before .before .before .before))
 
-refusal-requires : tie.Need-refusal-requires Inv-loop μ-loop
-refusal-requires c κs = search needs
-
-enum-known-j : tie.Need-enum-known-j Inv-loop μ-loop
-enum-known-j c = search needs
-
 same-length : tie.Need-same-length Inv-loop μ-loop
 same-length c =
     let l = c .before .before .before .before .before .before in
@@ -69,7 +57,8 @@ returns c =
     let r = c .before .before .before in
     let l = r .before .before .before in
     let i = l .before .before .before .before .before in
-    passing-refused _ (form-keyed (start i .args .form)) (i .before .loop .inv) (i .loop-test .taken) (l .before .before .before .before .find .ensures) (l .store-line .ensures)
+    passing-refused _ (form-keyed (start i .args .form)) (i .before .loop .inv) (i .loop-test .taken)
+    (l .before .before .before .before .find .ensures) (l .store-line .ensures)
     (r .refusal .ensures) (c .before .j .given .1)
 
 enum-told : tie.Need-enum-told Inv-loop μ-loop
@@ -84,7 +73,12 @@ within : (c : tie.After-enum-told Inv-loop μ-loop)
     → length (start (turn c) .args .at .now) * turn c .before .loop .n + length (start (turn c) .args .at .now) ≤ length (c .before .before .before .before .before .store-line .last .1 .1 .1 .1 .1 .1 .0)
 within c =
     let i = turn c in
-    omega (arith, c .before .before .before .before .before .store-line .ensures .written .size, passing-store (i .before .loop .inv) (start i .pre .0 .count) (start i .pre .1 .1 .1 .1) (i .loop-test .taken))
+    omega (
+      arith,
+      c .before .before .before .before .before .store-line .ensures .written .size,
+      passing-store (i .before .loop .inv)
+          (start i .pre .0 .count) (start i .pre .1 .1 .1 .1) (i .loop-test .taken),
+    )
 
 some : (c : tie.After-enum-told Inv-loop μ-loop) → 1 < length (start (turn c) .args .at .now)
 some c = omega (arith, start (turn c) .pre .0 .count, rods-place (start (turn c) .args .form) .thick)
@@ -114,7 +108,8 @@ key-requires c κs =
     let r = t .before .before in
     let j = r .before .before .before .store-line .ensures in
     let p = start (turn t) .pre .0 .count in
-    rw (stored-first j p (omega (arith, some t)), stored-value 1 j p (some t)) (j .checks .keyable (sound-line _ _ _ (r .refusal .ensures) (t .enum-told .given .1) .0))
+    rw (stored-first j p (omega (arith, some t)), stored-value 1 j p (some t))
+    (j .checks .keyable (sound-line _ _ _ (r .refusal .ensures) (t .enum-told .given .1) .0))
 
 mul-keys : tie.Need-mul-keys Inv-loop μ-loop
 mul-keys c = omega (arith, room (turn (c .before .before .before)))
@@ -124,18 +119,6 @@ array-write-keys c = room (turn (c .before .before .before))
 
 add-n : tie.Need-add-n Inv-loop μ-loop
 add-n c = omega (arith, room (turn (c .before .before .before)))
-
-skip-requires : tie.Need-skip-requires Inv-loop μ-loop
-skip-requires c κs = search needs
-
-sub-rest : tie.Need-sub-rest Inv-loop μ-loop
-sub-rest c = search needs
-
-part-rest-start : tie.Need-part-rest-start Inv-loop μ-loop
-part-rest-start c = search needs
-
-part-rest-end : tie.Need-part-rest-end Inv-loop μ-loop
-part-rest-end c = search needs
 
 loop-less : tie.Need-loop-less Inv-loop μ-loop
 loop-less c =
@@ -153,7 +136,8 @@ loop-again c =
     let j = l .store-line .ensures in
     let p = start i .pre .0 .count in
     rw (c .before .before .key .ensures)
-    (passing-step _ (form-keyed (start i .args .form)) (i .before .loop .inv) (i .loop-test .taken) (f .find .ensures) j (r .refusal .ensures) _ (t .enum-told .given .1)
+    (passing-step _ (form-keyed (start i .args .form)) (i .before .loop .inv) (i .loop-test .taken) (f .find .ensures) j
+    (r .refusal .ensures) _ (t .enum-told .given .1)
     (stored-first j p (omega (arith, some t))) (stored-value 1 j p (some t)) (c .before .skip .ensures))
 
 same-length-2 : tie.Need-same-length-2 Inv-loop μ-loop
@@ -169,13 +153,13 @@ check-lines-spec =
     Inv-loop
     μ-loop
     loop-holds
-    find-requires
+    (λ c κs. search needs)
     slice-aggregate-store-line
-    slice-aggregate-store-line-2
+    (λ c. search needs)
     store-line-requires
     add-refusal
-    refusal-requires
-    enum-known-j
+    (λ c κs. search needs)
+    (λ c. search needs)
     same-length
     returns
     enum-told
@@ -189,10 +173,10 @@ check-lines-spec =
     mul-keys
     array-write-keys
     add-n
-    skip-requires
-    sub-rest
-    part-rest-start
-    part-rest-end
+    (λ c κs. search needs)
+    (λ c. search needs)
+    (λ c. search needs)
+    (λ c. search needs)
     loop-less
     loop-again
     same-length-2

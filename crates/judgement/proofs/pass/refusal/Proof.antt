@@ -1,5 +1,4 @@
 -- `judgement::pass::refusal` meets its contract.
--- Assumes nothing.
 use borrow.Author.Needs.{needs}
 use Rattle.judgement.specs.Refusal.{lineJudgement}
 use Rattle.judgement.proofs.pass.refusal.Statement.{statement}
@@ -7,18 +6,6 @@ use Rattle.judgement.proofs.pass.refusal.Tie as tie
 
 enum-told : tie.Need-enum-told
 enum-told c = search needs
-
-enum-known-f : tie.Need-enum-known-f
-enum-known-f c = search needs
-
-enum-known-f-2 : tie.Need-enum-known-f-2
-enum-known-f-2 c = search needs
-
-enum-known-f-3 : tie.Need-enum-known-f-3
-enum-known-f-3 c = search needs
-
-enum-told-2 : tie.Need-enum-told-2
-enum-told-2 c = search needs
 
 returns : tie.Need-returns
 unfolding lineJudgement
@@ -45,10 +32,10 @@ refusal-spec =
     tie.close
     (tie.spec
     enum-told
-    enum-known-f
-    enum-known-f-2
-    enum-known-f-3
-    enum-told-2
+    (λ c. search needs)
+    (λ c. search needs)
+    (λ c. search needs)
+    (λ c. search needs)
     returns
     returns-2
     returns-3

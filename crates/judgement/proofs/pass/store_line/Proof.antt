@@ -1,5 +1,4 @@
 -- `judgement::pass::store_line` meets its contract: the line's values are a part of the store.
--- Assumes nothing.
 use Prim.Native.Nat.{_+_, _*_, _-_, _≤_}
 use mathlib.Core.Path.{_∙_}
 use native.Mathlib.Omega.{arith}
@@ -29,12 +28,6 @@ add-b c = omega (arith, room c)
 mul-check-line : tie.Need-mul-check-line
 mul-check-line c = omega (arith, room c)
 
-sub-check-line : tie.Need-sub-check-line
-sub-check-line c = search needs
-
-part-check-line-start : tie.Need-part-check-line-start
-part-check-line-start c = search needs
-
 part-check-line-end : tie.Need-part-check-line-end
 part-check-line-end c = room c
 
@@ -49,7 +42,10 @@ stored : (v : tie.After-check-line)
     → LineStored (formOf (start (v .before .before) .args .form)) (start (v .before .before) .args .at .now)
     (keysOf (start (v .before .before) .args .keys .now) (start (v .before .before) .args .n))
     (start (v .before .before) .args .line .now) (start (v .before .before) .args .n) (start (v .before .before) .args .values .now)
-    (putMid (length (start (v .before .before) .args .at .now) * start (v .before .before) .args .n) (length (start (v .before .before) .args .at .now) * start (v .before .before) .args .n + length (start (v .before .before) .args .at .now) - length (start (v .before .before) .args .at .now) * start (v .before .before) .args .n) (start (v .before .before) .args .values .now) (v .check-line .last .1 .1 .1 .1 .1 .1 .0))
+    (putMid (length (start (v .before .before) .args .at .now) * start (v .before .before) .args .n)
+    (length (start (v .before .before) .args .at .now) * start (v .before .before) .args .n + length
+    (start (v .before .before) .args .at .now) - length (start (v .before .before) .args .at .now) * start (v .before .before) .args .n)
+    (start (v .before .before) .args .values .now) (v .check-line .last .1 .1 .1 .1 .1 .1 .0))
     (v .check-line .result)
 stored v =
     let k = v .before .before in
@@ -72,8 +68,8 @@ store-line-spec =
     mul-a
     add-b
     mul-check-line
-    sub-check-line
-    part-check-line-start
+    (λ c. search needs)
+    (λ c. search needs)
     part-check-line-end
     check-line-requires
     same-length

@@ -1,5 +1,4 @@
 -- `licences::licence::read_licence` is safe and ends: each turn puts one number more.
--- Assumes nothing.
 use Prim.Native.Nat.{_-_, _≤_}
 use mathlib.Core.Path.{_≡_}
 use lib.ListN.{length}

@@ -1,5 +1,4 @@
 -- `listing::held::hold` is safe and ends: the measure is what is left of the table.
--- Assumes nothing.
 use Prim.Native.Nat.{_-_}
 use mathlib.Core.Path.{_≡_, refl}
 use native.Mathlib.Omega.{arith}

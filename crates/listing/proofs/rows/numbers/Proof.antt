@@ -1,5 +1,4 @@
 -- `listing::rows::numbers` is safe and ends: the measure is what is left of the numbers.
--- Assumes nothing.
 use Prim.Native.Nat.{_-_}
 use mathlib.Core.Path.{_≡_}
 use borrow.Author.Needs.{needs}

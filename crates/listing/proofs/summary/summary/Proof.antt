@@ -1,5 +1,4 @@
 -- `listing::summary::summary` lists the stations that the question answered: they lie within the table.
--- Assumes nothing.
 use Rattle.stations.proofs.Within.{summary-within}
 use borrow.Author.Needs.{needs}
 use Rattle.listing.proofs.summary.summary.Statement.{statement}

@@ -1,5 +1,4 @@
 -- `listing::summary::summary_and_rows` lists the stations and the rows that the question answered: both lie within their tables.
--- Assumes nothing.
 use mathlib.Core.Path.{refl}
 use Rattle.stations.proofs.Within.{rows-of-sheet, summary-within}
 use Rattle.listing.proofs.Room.{rows-within}

@@ -1,5 +1,4 @@
 -- `logarithm::argument::halve` meets its contract: the base is q · 2^times and does not pass p.
--- Assumes nothing.
 use Prim.Native.Nat.{_-_, _<_}
 use native.Mathlib.Omega.{arith}
 use Rattle.logarithm.proofs.Ratio.{Doubled, doubled-start, doubled-again, doubled-times, doubled-base}

@@ -1,5 +1,4 @@
 -- `reduce` divides by the base that `halve` found: its numbers are those of the definition, and small enough.
--- Assumes nothing.
 use Prim.Native.Nat.{_≤_}
 use mathlib.Core.Path.{_≡_, ap, _∙_}
 use native.Mathlib.Omega.{arith}
@@ -26,9 +25,6 @@ base-bounds c =
     let s = c .before in
     rw (base-is c) (base-pos (s .pre .1 .0 .low) (s .pre .1 .1), base-below (s .pre .1 .0 .low) (s .pre .1 .1))
 
-halve-requires : tie.Need-halve-requires
-halve-requires c κs = search needs
-
 sub-quotient : tie.Need-sub-quotient
 sub-quotient c = omega (arith, base-bounds (c .before))
 
@@ -44,4 +40,4 @@ returns : tie.Need-returns
 returns c = cc (times-is (c .before .before .before), argument-is c)
 
 pub reduce-spec : {M : Type 1} → statement M
-reduce-spec = tie.close (tie.spec halve-requires sub-quotient add-quotient quotient-requires returns)
+reduce-spec = tie.close (tie.spec (λ c κs. search needs) sub-quotient add-quotient quotient-requires returns)

@@ -1,5 +1,4 @@
 -- `logarithm::terms::end` meets its contract.
--- Assumes nothing.
 use Prim.Native.Nat.{_+_, _*_, _≤_}
 use native.Mathlib.Omega.{arith}
 use Rattle.logarithm.specs.Ends.{doublings, nearOf, endOf}

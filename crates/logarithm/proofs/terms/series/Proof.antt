@@ -1,5 +1,4 @@
 -- `logarithm::terms::series` meets its contract: after i terms the power and the sum are those of the definition.
--- Assumes nothing.
 use Prim.Native.Nat.{_+_, _-_, _*_, _/_, _≤_}
 use mathlib.Core.Path.{_≡_}
 use native.Mathlib.Omega.{arith}

@@ -1,5 +1,4 @@
 -- `argument_bottom` is the lower number of G; it fits by its bound.
--- Assumes nothing.
 use mathlib.Core.Path.{refl}
 use native.Mathlib.Nat.{mul-le-mul-left}
 use lib.Dec.{lit<}
@@ -10,22 +9,10 @@ use borrow.Author.Needs.{needs}
 use Rattle.mesh.proofs.factor.argument_bottom.Statement.{statement}
 use Rattle.mesh.proofs.factor.argument_bottom.Tie as tie
 
-cast-result : tie.Need-cast-result
-cast-result c = search needs
-
-mul-result : tie.Need-mul-result
-mul-result c = search needs
-
-cast-result-2 : tie.Need-cast-result-2
-cast-result-2 c = search needs
-
 mul-result-2 : tie.Need-mul-result-2
 mul-result-2 c =
     let s = c .before .before in
     fits-product (mul-le-mul-left 16 (s .pre .depth .high)) (s .pre .dia .high) (lit< tt)
-
-cast-result-3 : tie.Need-cast-result-3
-cast-result-3 c = search needs
 
 mul-result-3 : tie.Need-mul-result-3
 unfolding argumentBottom
@@ -38,4 +25,4 @@ returns c = refl
 pub argument-bottom-spec : {M : Type 1} → statement M
 argument-bottom-spec =
     tie.close
-    (tie.spec cast-result mul-result cast-result-2 mul-result-2 cast-result-3 mul-result-3 returns)
+    (tie.spec (λ c. search needs) (λ c. search needs) (λ c. search needs) mul-result-2 (λ c. search needs) mul-result-3 returns)

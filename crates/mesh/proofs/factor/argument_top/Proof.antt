@@ -1,5 +1,4 @@
 -- `argument_top` is the upper number of G; it fits by its bound.
--- Assumes nothing.
 use mathlib.Core.Path.{refl}
 use native.Mathlib.Nat.{mul-le-mul, mul-le-mul-left}
 use lib.Dec.{lit<}
@@ -10,21 +9,6 @@ use borrow.Author.Needs.{needs}
 use Rattle.mesh.proofs.factor.argument_top.Statement.{statement}
 use Rattle.mesh.proofs.factor.argument_top.Tie as tie
 
-cast-space : tie.Need-cast-space
-cast-space c = search needs
-
-cast-depth : tie.Need-cast-depth
-cast-depth c = search needs
-
-mul-result : tie.Need-mul-result
-mul-result c = search needs
-
-add-result : tie.Need-add-result
-add-result c = search needs
-
-mul-result-2 : tie.Need-mul-result-2
-mul-result-2 c = search needs
-
 mul-result-3 : tie.Need-mul-result-3
 mul-result-3 c = let s = c .before .before in fits-product (s .pre .space .high) (s .pre .space .high) (lit< tt)
 
@@ -32,7 +16,8 @@ mul-result-4 : tie.Need-mul-result-4
 mul-result-4 c = let s = c .before .before in fits-product (s .pre .depth .high) (s .pre .depth .high) (lit< tt)
 
 mul-result-5 : tie.Need-mul-result-5
-mul-result-5 c = let s = c .before .before in fits-below (mul-le-mul-left 4 (mul-le-mul (s .pre .depth .high) (s .pre .depth .high))) (lit< tt)
+mul-result-5 c =
+    let s = c .before .before in fits-below (mul-le-mul-left 4 (mul-le-mul (s .pre .depth .high) (s .pre .depth .high))) (lit< tt)
 
 add-result-2 : tie.Need-add-result-2
 add-result-2 c = fits-below (squares-high (c .before .before .pre)) (lit< tt)
@@ -49,11 +34,11 @@ pub argument-top-spec : {M : Type 1} → statement M
 argument-top-spec =
     tie.close
     (tie.spec
-    cast-space
-    cast-depth
-    mul-result
-    add-result
-    mul-result-2
+    (λ c. search needs)
+    (λ c. search needs)
+    (λ c. search needs)
+    (λ c. search needs)
+    (λ c. search needs)
     mul-result-3
     mul-result-4
     mul-result-5

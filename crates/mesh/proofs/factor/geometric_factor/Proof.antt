@@ -1,5 +1,4 @@
 -- `geometric_factor` keeps within 64 bits by the spans of its parts.
--- Assumes nothing.
 use native.Mathlib.Omega.{arith}
 use lib.Dec.{lit≤, lit<}
 use Rattle.interval.proofs.Span.{span-size, span-divisor}
@@ -11,28 +10,26 @@ use borrow.Author.Needs.{needs}
 use Rattle.mesh.proofs.factor.geometric_factor.Statement.{statement}
 use Rattle.mesh.proofs.factor.geometric_factor.Tie as tie
 
-pi-requires : tie.Need-pi-requires
-pi-requires c κs = search needs
-
 scaled-requires : tie.Need-scaled-requires
 scaled-requires c κs = rw (c .pi .ensures) (lit< tt, omega (arith, span-size π-span))
-
-argument-log-requires : tie.Need-argument-log-requires
-argument-log-requires c κs = search needs
-
-inner-term-requires : tie.Need-inner-term-requires
-inner-term-requires c κs = search needs
 
 sum-requires : tie.Need-sum-requires
 sum-requires c κs =
     let s = c .before .before .before .before in
-    rw (c .inner-term .ensures, c .before .argument-log .ensures) (omega (arith, span-size (argument-span (s .pre .0)), term-size (s .pre .0)))
+    rw (c .inner-term .ensures, c .before .argument-log .ensures)
+    (omega (arith, span-size (argument-span (s .pre .0)), term-size (s .pre .0)))
 
 quotient-requires : tie.Need-quotient-requires
 quotient-requires c κs =
     let l = c .before .before in
     let s = l .before .before .before in
-    rw (c .sum .ensures, c .before .inner-term .ensures, l .argument-log .ensures, l .before .scaled .ensures, l .before .before .pi .ensures)
+    rw (
+      c .sum .ensures,
+      c .before .inner-term .ensures,
+      l .argument-log .ensures,
+      l .before .scaled .ensures,
+      l .before .before .pi .ensures,
+    )
     (span-divisor (lit≤ tt) turn-span, (lit< tt, omega (arith, span-size (total-span (s .pre .0)))))
 
 returns : tie.Need-returns
@@ -43,10 +40,10 @@ pub geometric-factor-spec : {M : Type 1} → statement M
 geometric-factor-spec =
     tie.close
     (tie.spec
-    pi-requires
+    (λ c κs. search needs)
     scaled-requires
-    argument-log-requires
-    inner-term-requires
+    (λ c κs. search needs)
+    (λ c κs. search needs)
     sum-requires
     quotient-requires
     returns)

@@ -1,5 +1,4 @@
 -- `inner_factor` is 1 for rods along the perimeter, else the inner conductors' weight.
--- Assumes nothing.
 use borrow.Author.Tests.{eq-eqb, ne-eqb}
 use Rattle.conductors.proofs.NumberSpans.{n-span}
 use Rattle.conductors.proofs.NumberEnclosed.{counts}
@@ -7,9 +6,6 @@ use Rattle.mesh.specs.Factor.{innerFactor}
 use borrow.Author.Needs.{needs}
 use Rattle.mesh.proofs.factor.inner_factor.Statement.{statement}
 use Rattle.mesh.proofs.factor.inner_factor.Tie as tie
-
-point-requires : tie.Need-point-requires
-point-requires c κs = search needs
 
 returns : tie.Need-returns
 unfolding innerFactor
@@ -28,4 +24,4 @@ returns-2 c =
     rw (ne-eqb (s .args .c .place) 1 (e .if1 .left)) (rw (s .pre .1) at (c .inner-weight .ensures))
 
 pub inner-factor-spec : {M : Type 1} → statement M
-inner-factor-spec = tie.close (tie.spec point-requires returns inner-weight-requires returns-2)
+inner-factor-spec = tie.close (tie.spec (λ c κs. search needs) returns inner-weight-requires returns-2)

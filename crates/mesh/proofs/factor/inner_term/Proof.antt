@@ -1,5 +1,4 @@
 -- `inner_term` keeps within 64 bits by the spans of its parts.
--- Assumes nothing.
 use native.Mathlib.Omega.{arith}
 use native.Mathlib.Nat.{mul-le-mul}
 use lib.Dec.{lit≤, lit<}
@@ -12,12 +11,6 @@ use Rattle.mesh.proofs.FactorSpans.{depth-span, inner-factor-span, rati
 use borrow.Author.Needs.{needs}
 use Rattle.mesh.proofs.factor.inner_term.Statement.{statement}
 use Rattle.mesh.proofs.factor.inner_term.Tie as tie
-
-inner-factor-requires : tie.Need-inner-factor-requires
-inner-factor-requires c κs = search needs
-
-depth-factor-requires : tie.Need-depth-factor-requires
-depth-factor-requires c κs = search needs
 
 quotient-requires : tie.Need-quotient-requires
 quotient-requires c κs =
@@ -45,8 +38,8 @@ pub inner-term-spec : {M : Type 1} → statement M
 inner-term-spec =
     tie.close
     (tie.spec
-    inner-factor-requires
-    depth-factor-requires
+    (λ c κs. search needs)
+    (λ c κs. search needs)
     quotient-requires
     spread-requires
     product-requires

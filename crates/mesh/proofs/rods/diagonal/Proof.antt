@@ -1,5 +1,4 @@
 -- `diagonal` is the pair of the root and the next number.
--- Assumes nothing.
 use native.Mathlib.Nat.{mul-le-mul-right}
 use lib.Dec.{lit<}
 use Rattle.interval.proofs.Fits.{fits-below, fits-product}
@@ -10,12 +9,6 @@ use Rattle.mesh.proofs.LengthSpans.{squares-bounds}
 use borrow.Author.Needs.{needs}
 use Rattle.mesh.proofs.rods.diagonal.Statement.{statement}
 use Rattle.mesh.proofs.rods.diagonal.Tie as tie
-
-side-x-requires : tie.Need-side-x-requires
-side-x-requires c κs = search needs
-
-side-y-requires : tie.Need-side-y-requires
-side-y-requires c κs = search needs
 
 mul-root-ends : tie.Need-mul-root-ends
 mul-root-ends c =
@@ -32,10 +25,8 @@ add-root-ends c = rw (c .before .side-x .ensures, c .side-y .ensures) (fits-belo
 
 mul-root-ends-3 : tie.Need-mul-root-ends-3
 mul-root-ends-3 c =
-    rw (c .before .side-x .ensures, c .side-y .ensures) (fits-below (mul-le-mul-right 1000000 (squares-bounds (c .before .before .pre) .high)) (lit< tt))
-
-root-ends-requires : tie.Need-root-ends-requires
-root-ends-requires c κs = search needs
+    rw (c .before .side-x .ensures, c .side-y .ensures)
+    (fits-below (mul-le-mul-right 1000000 (squares-bounds (c .before .before .pre) .high)) (lit< tt))
 
 returns : tie.Need-returns
 unfolding diagonalEnds
@@ -45,11 +36,11 @@ pub diagonal-spec : {M : Type 1} → statement M
 diagonal-spec =
     tie.close
     (tie.spec
-    side-x-requires
-    side-y-requires
+    (λ c κs. search needs)
+    (λ c κs. search needs)
     mul-root-ends
     mul-root-ends-2
     add-root-ends
     mul-root-ends-3
-    root-ends-requires
+    (λ c κs. search needs)
     returns)

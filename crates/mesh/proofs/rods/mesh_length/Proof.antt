@@ -1,5 +1,4 @@
 -- `mesh_length` is LM by the place of the rods.
--- Assumes nothing.
 use native.Mathlib.Omega.{arith}
 use native.Mathlib.Nat.{mul-le-mul-left}
 use lib.Dec.{lit<}
@@ -11,15 +10,9 @@ use borrow.Author.Needs.{needs}
 use Rattle.mesh.proofs.rods.mesh_length.Statement.{statement}
 use Rattle.mesh.proofs.rods.mesh_length.Tie as tie
 
-weighed-length-requires : tie.Need-weighed-length-requires
-weighed-length-requires c κs = search needs
-
 returns : tie.Need-returns
 unfolding meshLength
 returns c = simp (eq-eqb (c .before .before .before .args .c .place) 1 (c .before .if1 .taken)) (c .weighed-length .ensures)
-
-total-length-requires : tie.Need-total-length-requires
-total-length-requires c κs = search needs
 
 mul-point : tie.Need-mul-point
 mul-point c =
@@ -41,9 +34,9 @@ pub mesh-length-spec : {M : Type 1} → statement M
 mesh-length-spec =
     tie.close
     (tie.spec
-    weighed-length-requires
+    (λ c κs. search needs)
     returns
-    total-length-requires
+    (λ c κs. search needs)
     mul-point
     point-requires
     returns-2)

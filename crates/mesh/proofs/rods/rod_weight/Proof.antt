@@ -1,5 +1,4 @@
 -- `rod_weight` keeps within 64 bits by the spans of its parts.
--- Assumes nothing.
 use native.Mathlib.Omega.{arith}
 use lib.Dec.{lit≤, lit<}
 use Rattle.interval.proofs.Sizes.{size-point}
@@ -10,26 +9,11 @@ use borrow.Author.Needs.{needs}
 use Rattle.mesh.proofs.rods.rod_weight.Statement.{statement}
 use Rattle.mesh.proofs.rods.rod_weight.Tie as tie
 
-cast-point : tie.Need-cast-point
-cast-point c = search needs
-
-mul-point : tie.Need-mul-point
-mul-point c = search needs
-
-point-requires : tie.Need-point-requires
-point-requires c κs = search needs
-
-diagonal-requires : tie.Need-diagonal-requires
-diagonal-requires c κs = search needs
-
 quotient-requires : tie.Need-quotient-requires
 quotient-requires c κs =
     let s = c .before .before .before in
     rw (c .diagonal .ensures, c .before .point .ensures)
     (span-divisor (lit≤ tt) (diagonal-span (s .pre)), (lit< tt, omega (arith, span-size (rodlen-span (s .pre)))))
-
-point-requires-2 : tie.Need-point-requires-2
-point-requires-2 c κs = search needs
 
 sum-requires : tie.Need-sum-requires
 sum-requires c κs =
@@ -46,11 +30,11 @@ pub rod-weight-spec : {M : Type 1} → statement M
 rod-weight-spec =
     tie.close
     (tie.spec
-    cast-point
-    mul-point
-    point-requires
-    diagonal-requires
+    (λ c. search needs)
+    (λ c. search needs)
+    (λ c κs. search needs)
+    (λ c κs. search needs)
     quotient-requires
-    point-requires-2
+    (λ c κs. search needs)
     sum-requires
     returns)

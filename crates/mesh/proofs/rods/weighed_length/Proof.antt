@@ -1,5 +1,4 @@
 -- `weighed_length` keeps within 64 bits by the spans of its parts.
--- Assumes nothing.
 use native.Mathlib.Omega.{arith}
 use native.Mathlib.Nat.{mul-le-mul, mul-le-mul-left}
 use lib.Dec.{lit<}
@@ -12,12 +11,6 @@ use borrow.Author.Needs.{needs}
 use Rattle.mesh.proofs.rods.weighed_length.Statement.{statement}
 use Rattle.mesh.proofs.rods.weighed_length.Tie as tie
 
-rod-weight-requires : tie.Need-rod-weight-requires
-rod-weight-requires c κs = search needs
-
-rod-length-requires : tie.Need-rod-length-requires
-rod-length-requires c κs = search needs
-
 point-requires : tie.Need-point-requires
 point-requires c κs = rw (c .rod-length .ensures) (omega (arith, rod-bound (c .before .before .pre)))
 
@@ -26,9 +19,6 @@ product-requires c κs =
     let s = c .before .before .before in
     rw (c .point .ensures, c .before .rod-length .ensures, c .before .before .rod-weight .ensures)
     (lit< tt, omega (arith, mul-le-mul (span-size (weight-span (s .pre))) (span-size (rods-point (s .pre)))))
-
-conductor-length-requires : tie.Need-conductor-length-requires
-conductor-length-requires c κs = search needs
 
 mul-point : tie.Need-mul-point
 mul-point c =
@@ -44,7 +34,14 @@ sum-requires : tie.Need-sum-requires
 sum-requires c κs =
     let p = c .before .before in
     let w = p .before .before .before in
-    rw (c .point2 .ensures, c .before .conductor-length .ensures, p .product .ensures, p .before .point .ensures, p .before .before .rod-length .ensures, w .rod-weight .ensures)
+    rw (
+      c .point2 .ensures,
+      c .before .conductor-length .ensures,
+      p .product .ensures,
+      p .before .point .ensures,
+      p .before .before .rod-length .ensures,
+      w .rod-weight .ensures,
+    )
     (omega (arith, span-size (conductors-span (w .before .pre)), span-size (rods-span (w .before .pre))))
 
 returns : tie.Need-returns
@@ -55,11 +52,11 @@ pub weighed-length-spec : {M : Type 1} → statement M
 weighed-length-spec =
     tie.close
     (tie.spec
-    rod-weight-requires
-    rod-length-requires
+    (λ c κs. search needs)
+    (λ c κs. search needs)
     point-requires
     product-requires
-    conductor-length-requires
+    (λ c κs. search needs)
     mul-point
     point-requires-2
     sum-requires

@@ -1,5 +1,4 @@
 -- `put_numbers` puts number after number, each in its own eight bytes.
--- Assumes nothing.
 use Prim.Native.Nat.{_-_, _≤_}
 use mathlib.Core.Path.{_≡_}
 use native.Mathlib.Omega.{arith}
@@ -23,32 +22,8 @@ abbrev μ-loop : tie.MeasureT-loop
 loop-holds : tie.Need-loop-holds Inv-loop μ-loop
 loop-holds c = (omega arith, put-start _ _)
 
-mul-a : tie.Need-mul-a Inv-loop μ-loop
-mul-a c = search needs
-
-add-b : tie.Need-add-b Inv-loop μ-loop
-add-b c = search needs
-
-mul-put-number : tie.Need-mul-put-number Inv-loop μ-loop
-mul-put-number c = search needs
-
-shared-slice-copy-out-put-number : tie.Need-shared-slice-copy-out-put-number Inv-loop μ-loop
-shared-slice-copy-out-put-number c = search needs
-
-sub-put-number : tie.Need-sub-put-number Inv-loop μ-loop
-sub-put-number c = search needs
-
-part-put-number-start : tie.Need-part-put-number-start Inv-loop μ-loop
-part-put-number-start c = search needs
-
 part-put-number-end : tie.Need-part-put-number-end Inv-loop μ-loop
 part-put-number-end c = omega (arith, c .before .before .loop .inv .1 .size)
-
-put-number-requires : tie.Need-put-number-requires Inv-loop μ-loop
-put-number-requires c κs = search needs
-
-add-i : tie.Need-add-i Inv-loop μ-loop
-add-i c = search needs
 
 loop-less : tie.Need-loop-less Inv-loop μ-loop
 loop-less c = omega arith
@@ -76,15 +51,15 @@ put-numbers-spec =
     Inv-loop
     μ-loop
     loop-holds
-    mul-a
-    add-b
-    mul-put-number
-    shared-slice-copy-out-put-number
-    sub-put-number
-    part-put-number-start
+    (λ c. search needs)
+    (λ c. search needs)
+    (λ c. search needs)
+    (λ c. search needs)
+    (λ c. search needs)
+    (λ c. search needs)
     part-put-number-end
-    put-number-requires
-    add-i
+    (λ c κs. search needs)
+    (λ c. search needs)
     loop-less
     loop-again
     same-length

@@ -1,6 +1,5 @@
 -- `put_word` puts the least significant byte of what is left of the word, eight times.
--- Assumes nothing.
-use Prim.Native.Nat.{ℕ, zero, suc, _+_, _-_, _/_, _%_, _≤_, _<_}
+use Prim.Native.Nat.{ℕ, zero, suc, _-_, _/_, _%_, _≤_, _<_}
 use mathlib.Core.Path.{_≡_, refl, sym, _∙_}
 use mathlib.Core.List.{List, _∷_, _++_, append-assoc, append-nil}
 use native.Mathlib.Omega.{arith}
@@ -53,14 +52,8 @@ loop-holds c = record { most = omega arith; size = c .pre; bytes = refl }
 sub-i : tie.Need-sub-i Inv-loop μ-loop
 sub-i c = omega (arith, c .before .loop .inv .most)
 
-cast-part : tie.Need-cast-part Inv-loop μ-loop
-cast-part c = search needs
-
 slice-write-part : tie.Need-slice-write-part Inv-loop μ-loop
 slice-write-part c = omega (arith, c .before .loop .inv .size, c .before .loop .inv .most)
-
-sub-left : tie.Need-sub-left Inv-loop μ-loop
-sub-left c = search needs
 
 loop-less : tie.Need-loop-less Inv-loop μ-loop
 loop-less c = omega arith
@@ -82,9 +75,9 @@ put-word-spec =
     μ-loop
     loop-holds
     sub-i
-    cast-part
+    (λ c. search needs)
     slice-write-part
-    sub-left
+    (λ c. search needs)
     loop-less
     loop-again
     same-length

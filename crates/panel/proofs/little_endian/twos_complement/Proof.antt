@@ -1,5 +1,4 @@
 -- `twos_complement`: a number below 0 is turned round and counted down from 2^64 − 1.
--- Assumes nothing.
 use Prim.Native.Nat.{ℕ, suc, _-_}
 use mathlib.Core.Path.{_≡_, sym, ap, _∙_}
 use mathlib.Core.Bool.{true, false}
@@ -41,7 +40,8 @@ returns : tie.Need-returns
 unfolding twosComplement
 returns c =
     let s = c .before in
-    rw (turned s (c .if1 .taken)) (counted-down (mag (s .args .z)) ∙ ap twosComplement (sym (below-zero (s .args .z) (s .fits .z) (c .if1 .taken))))
+    rw (turned s (c .if1 .taken)) (counted-down (mag (s .args .z)) ∙ ap twosComplement
+    (sym (below-zero (s .args .z) (s .fits .z) (c .if1 .taken))))
 
 returns-2 : tie.Need-returns-2
 unfolding twosComplement

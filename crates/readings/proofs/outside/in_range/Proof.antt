@@ -1,5 +1,4 @@
 -- `in_range` tests both ends of the range.
--- Assumes nothing.
 use borrow.Author.Tests.{le-leb, lt-leb}
 use Rattle.readings.specs.Limits.{inRange}
 use Rattle.readings.proofs.outside.in_range.Statement.{statement}

@@ -1,5 +1,4 @@
 -- `gather` takes the pairs from the last to the first: the laws of proofs/Gathering.antt.
--- Assumes nothing.
 use Prim.Native.Nat.{ℕ, _+_, _*_, _-_, _≤_}
 use mathlib.Core.List.{List}
 use native.Mathlib.Omega.{arith}
@@ -18,9 +17,6 @@ abbrev μ-loop : tie.MeasureT-loop
 
 loop-holds : tie.Need-loop-holds Inv-loop μ-loop
 loop-holds c = gathered-start _
-
-sub-k : tie.Need-sub-k Inv-loop μ-loop
-sub-k c = search needs
 
 mul-a : tie.Need-mul-a Inv-loop μ-loop
 mul-a c = omega (arith, c .before .loop .inv .within)
@@ -69,9 +65,6 @@ mul-with c = record { fits = omega (arith, next c) }
 with-requires : tie.Need-with-requires Inv-loop μ-loop
 with-requires c κs = omega (arith, next c, so-far c)
 
-loop-less : tie.Need-loop-less Inv-loop μ-loop
-loop-less c = search needs
-
 loop-again : tie.Need-loop-again Inv-loop μ-loop
 loop-again c =
     let l = loop (c .before) in
@@ -87,7 +80,7 @@ gather-spec =
     Inv-loop
     μ-loop
     loop-holds
-    sub-k
+    (λ c. search needs)
     mul-a
     mul-a-2
     shared-slice-read-a
@@ -99,6 +92,6 @@ gather-spec =
     cast-r
     mul-with
     with-requires
-    loop-less
+    (λ c. search needs)
     loop-again
     returns)

@@ -1,5 +1,4 @@
 -- `add` adds a line to each count.
--- Assumes nothing.
 use mathlib.Core.Path.{ap, _∙_}
 use native.Mathlib.Omega.{arith}
 use borrow.Author.Needs.{needs}
@@ -22,32 +21,22 @@ worked c = c .before .before .before .before .before .before .before
 held : (w : tie.After-work-row) → SFits w64 (w .work-row .result .size)
 held w = search needs
 
-work-row-requires : tie.Need-work-row-requires
-work-row-requires c κs = search needs
-
-count-unsafe-requires : tie.Need-count-unsafe-requires
-count-unsafe-requires c κs = search needs
-
 add-not-safe : tie.Need-add-not-safe
 add-not-safe c =
     let u = c .before in
     record { fits = omega (arith, start (u .before) .pre .1 .not-safe, counts-most _ (u .count-unsafe .ensures)) }
-
-count-undecided-requires : tie.Need-count-undecided-requires
-count-undecided-requires c κs = search needs
 
 add-undecided : tie.Need-add-undecided
 add-undecided c =
     let u = c .before in
     record { fits = omega (arith, start (u .before .before .before) .pre .1 .undecided, counts-most _ (u .count-undecided .ensures)) }
 
-count-other-requires : tie.Need-count-other-requires
-count-other-requires c κs = search needs
-
 add-other : tie.Need-add-other
 add-other c =
     let u = c .before in
-    record { fits = omega (arith, start (u .before .before .before .before .before) .pre .1 .other, counts-most _ (u .count-other .ensures)) }
+    record {
+      fits = omega (arith, start (u .before .before .before .before .before) .pre .1 .other, counts-most _ (u .count-other .ensures));
+    }
 
 count-small-requires : tie.Need-count-small-requires
 count-small-requires c κs =
@@ -62,23 +51,8 @@ add-small c =
 add-t10 : tie.Need-add-t10
 add-t10 c = record { fits = omega (arith, start (worked (c .before .before .before)) .pre .1 .lines) }
 
-has-requires : tie.Need-has-requires
-has-requires c κs = search needs
-
-has-requires-2 : tie.Need-has-requires-2
-has-requires-2 c κs = search needs
-
-has-requires-3 : tie.Need-has-requires-3
-has-requires-3 c κs = search needs
-
-has-requires-4 : tie.Need-has-requires-4
-has-requires-4 c κs = search needs
-
 line-fault-requires : tie.Need-line-fault-requires
 line-fault-requires c κs = start (worked (c .before .before .before .before .before .before .before)) .pre .0
-
-lesser-requires : tie.Need-lesser-requires
-lesser-requires c κs = search needs
 
 returns : tie.Need-returns
 unfolding addLine answeredUnsafe answeredUndecided
@@ -97,20 +71,20 @@ pub add-spec : {M : Type 1} → statement M
 add-spec =
     tie.close
     (tie.spec
-    work-row-requires
-    count-unsafe-requires
+    (λ c κs. search needs)
+    (λ c κs. search needs)
     add-not-safe
-    count-undecided-requires
+    (λ c κs. search needs)
     add-undecided
-    count-other-requires
+    (λ c κs. search needs)
     add-other
     count-small-requires
     add-small
     add-t10
-    has-requires
-    has-requires-2
-    has-requires-3
-    has-requires-4
+    (λ c κs. search needs)
+    (λ c κs. search needs)
+    (λ c κs. search needs)
+    (λ c κs. search needs)
     line-fault-requires
-    lesser-requires
+    (λ c κs. search needs)
     returns)

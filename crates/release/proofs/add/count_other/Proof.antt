@@ -1,13 +1,9 @@
 -- `count_other` goes by the nine columns.
--- Assumes nothing.
 use mathlib.Core.Path.{sym, _∙_}
 use borrow.Author.Needs.{needs}
 use Rattle.release.specs.Lines.{one, otherYard}
 use Rattle.release.proofs.add.count_other.Statement.{statement}
 use Rattle.release.proofs.add.count_other.Tie as tie
-
-same-yard-requires : tie.Need-same-yard-requires
-same-yard-requires c κs = search needs
 
 returns : tie.Need-returns
 unfolding one otherYard
@@ -18,4 +14,4 @@ unfolding one otherYard
 returns-2 c = rw (sym (c .before .same-yard .ensures) ∙ c .if1 .left)
 
 pub count-other-spec : {M : Type 1} → statement M
-count-other-spec = tie.close (tie.spec same-yard-requires returns returns-2)
+count-other-spec = tie.close (tie.spec (λ c κs. search needs) returns returns-2)

@@ -1,5 +1,4 @@
 -- `count_small` compares the rounded quotient with the size.
--- Assumes nothing.
 use Prim.Native.Nat.{_/_, _*_}
 use mathlib.Core.Path.{sym, _∙_, _≡_}
 use native.Mathlib.Omega.{arith}
@@ -21,9 +20,6 @@ mul-kcmil-2 c = record { fits = omega (arith, square-most (c .before .pre .0)) }
 cast-below : tie.Need-cast-below
 cast-below c = record { sfits = omega (arith, square-most (c .before .pre .0)) }
 
-below-requires : tie.Need-below-requires
-below-requires c κs = search needs
-
 -- the test is that of the definition
 module _ (b : tie.After-below) where
   abbrev start : tie.Start
@@ -34,7 +30,10 @@ module _ (b : tie.After-below) where
 
   tested : b .below .result ≡ tooSmall (start .args .c)
   tested =
-      (rw (toZ-pos w64 {n = 1000 * (start .args .c .dia * start .args .c .dia) / 64516} (omega (arith, square-most (start .pre .0))), toZ-ofZ held)
+      (rw (
+        toZ-pos w64 {n = 1000 * (start .args .c .dia * start .args .c .dia) / 64516} (omega (arith, square-most (start .pre .0))),
+        toZ-ofZ held,
+      )
       at (b .below .ensures))
       ∙ small-is (start .args .c) (start .args .size) (start .pre .1)
 
@@ -48,4 +47,4 @@ returns-2 c = rw (sym (tested (c .before)) ∙ c .if1 .left)
 
 pub count-small-spec : {M : Type 1} → statement M
 count-small-spec =
-    tie.close (tie.spec mul-kcmil mul-kcmil-2 cast-below below-requires returns returns-2)
+    tie.close (tie.spec mul-kcmil mul-kcmil-2 cast-below (λ c κs. search needs) returns returns-2)

@@ -1,5 +1,4 @@
 -- `count_unsafe` goes by the verdict.
--- Assumes nothing.
 use borrow.Author.Needs.{needs}
 use Rattle.row.specs.Verdict.{verdictNumber}
 use Rattle.release.specs.Lines.{one}
@@ -8,12 +7,6 @@ use Rattle.release.proofs.add.count_unsafe.Tie as tie
 
 enum-told : tie.Need-enum-told
 enum-told c = search needs
-
-enum-told-2 : tie.Need-enum-told-2
-enum-told-2 c = search needs
-
-enum-told-3 : tie.Need-enum-told-3
-enum-told-3 c = search needs
 
 returns : tie.Need-returns
 unfolding one verdictNumber
@@ -29,4 +22,4 @@ returns-3 c = rw (c .enum-told3 .given .1)
 
 pub count-unsafe-spec : {M : Type 1} → statement M
 count-unsafe-spec =
-    tie.close (tie.spec enum-told enum-told-2 enum-told-3 returns returns-2 returns-3)
+    tie.close (tie.spec enum-told (λ c. search needs) (λ c. search needs) returns returns-2 returns-3)

@@ -1,5 +1,4 @@
 -- `has` compares the seasons.
--- Assumes nothing.
 use borrow.Author.Tests.{eq-eqb, ne-eqb}
 use Rattle.release.proofs.add.has.Statement.{statement}
 use Rattle.release.proofs.add.has.Tie as tie

@@ -1,9 +1,7 @@
 -- `line_fault` is the headroom of the line.
--- Assumes nothing.
-use Prim.Native.Nat.{ℕ}
 use mathlib.Core.Path.{sym, _∙_, _≡_}
-use native.Mathlib.Omega.{arith}
 use borrow.Author.Needs.{needs}
+use Rattle.text.proofs.Clash.{clash}
 use Rattle.case.proofs.BoundsSound.{bounds-sound}
 use Rattle.headroom.specs.declared.Room.{Room}
 use Rattle.headroom.specs.Headroom.{HeadroomAnswered, RightRoom, checked}
@@ -11,17 +9,8 @@ use Rattle.release.proofs.Faults.{headroom-common, no-headroom-common}
 use Rattle.release.proofs.add.line_fault.Statement.{statement}
 use Rattle.release.proofs.add.line_fault.Tie as tie
 
-headroom-requires : tie.Need-headroom-requires
-headroom-requires c κs = search needs
-
-enum-known-fault : tie.Need-enum-known-fault
-enum-known-fault c = search needs
-
 enum-told : tie.Need-enum-told
 enum-told c = search needs
-
-enum-known-number : tie.Need-enum-known-number
-enum-known-number c = search needs
 
 -- what the answer says
 module _ (h : tie.After-headroom) where
@@ -46,17 +35,16 @@ unfolding checked
 returns-3 c =
     let h = c .before .before .before in
     let e = sym (bounds-sound (h .before .pre)) ∙ answered h (c .before .number .given .1) .checks in
-    let z : _≡_ {A = ℕ} 0 1 = cc in
-    absurd (omega arith)
+    clash cc
 
 pub line-fault-spec : {M : Type 1} → statement M
 line-fault-spec =
     tie.close
     (tie.spec
-    headroom-requires
-    enum-known-fault
+    (λ c κs. search needs)
+    (λ c. search needs)
     enum-told
-    enum-known-number
+    (λ c. search needs)
     returns
     returns-2
     returns-3)

@@ -1,5 +1,4 @@
 -- `same_yard` compares the nine columns.
--- Assumes nothing.
 use mathlib.Core.Path.{refl}
 use Rattle.release.specs.Lines.{sameYard}
 use Rattle.release.proofs.add.same_yard.Statement.{statement}

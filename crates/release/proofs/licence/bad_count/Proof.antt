@@ -1,5 +1,4 @@
 -- `bad_count` tests 0, odd and the most numbers.
--- Assumes nothing.
 use borrow.Author.Tests.{eq-eqb, ne-eqb}
 use Rattle.release.specs.Licence.{badCount}
 use Rattle.release.proofs.licence.bad_count.Statement.{statement}

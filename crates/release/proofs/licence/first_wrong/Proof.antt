@@ -1,5 +1,4 @@
 -- `first_wrong` goes through the pairs: the search of proofs/Pairs.antt.
--- Assumes nothing.
 use Prim.Native.Nat.{_-_}
 use mathlib.Core.Path.{sym, _∙_}
 use native.Mathlib.Omega.{arith}
@@ -17,25 +16,14 @@ abbrev μ-loop : tie.MeasureT-loop
 loop-holds : tie.Need-loop-holds Inv-loop μ-loop
 loop-holds c = searching-start _
 
-wrong-column-requires : tie.Need-wrong-column-requires Inv-loop μ-loop
-wrong-column-requires c κs = search needs
-
-add-t7 : tie.Need-add-t7 Inv-loop μ-loop
-add-t7 c = search needs
-
 returns : tie.Need-returns Inv-loop μ-loop
 returns c = let w = c .before in
     let e = w .wrong-column .ensures in
     rw e (searching-found (w .before .before .loop .inv) (omega arith) (λ z. c .if1 .taken (e ∙ z)))
 
-add-k : tie.Need-add-k Inv-loop μ-loop
-add-k c = search needs
-
-loop-less : tie.Need-loop-less Inv-loop μ-loop
-loop-less c = search needs
-
 loop-again : tie.Need-loop-again Inv-loop μ-loop
-loop-again c = let w = c .before in searching-step (w .before .before .loop .inv) (omega arith) (sym (w .wrong-column .ensures) ∙ c .if1 .left)
+loop-again c =
+    let w = c .before in searching-step (w .before .before .loop .inv) (omega arith) (sym (w .wrong-column .ensures) ∙ c .if1 .left)
 
 returns-2 : tie.Need-returns-2 Inv-loop μ-loop
 returns-2 c = searching-end (c .before .loop .inv) (omega arith)
@@ -47,10 +35,10 @@ first-wrong-spec =
     Inv-loop
     μ-loop
     loop-holds
-    wrong-column-requires
-    add-t7
+    (λ c κs. search needs)
+    (λ c. search needs)
     returns
-    add-k
-    loop-less
+    (λ c. search needs)
+    (λ c. search needs)
     loop-again
     returns-2)

@@ -1,5 +1,4 @@
 -- `stands_before` compares every earlier station.
--- Assumes nothing.
 use Prim.Native.Nat.{_-_, _≤_}
 use mathlib.Core.Path.{_≡_}
 use native.Mathlib.Omega.{arith}
@@ -19,21 +18,6 @@ abbrev μ-loop : tie.MeasureT-loop
 loop-holds : tie.Need-loop-holds Inv-loop μ-loop
 loop-holds c = (among-none _ _, omega arith)
 
-mul-here : tie.Need-mul-here Inv-loop μ-loop
-mul-here c = search needs
-
-mul-here-2 : tie.Need-mul-here-2 Inv-loop μ-loop
-mul-here-2 c = search needs
-
-shared-slice-read-here : tie.Need-shared-slice-read-here Inv-loop μ-loop
-shared-slice-read-here c = search needs
-
-add-i : tie.Need-add-i Inv-loop μ-loop
-add-i c = search needs
-
-loop-less : tie.Need-loop-less Inv-loop μ-loop
-loop-less c = search needs
-
 loop-again : tie.Need-loop-again Inv-loop μ-loop
 loop-again c = let l = c .before .before in (among-step _ _ _ (l .loop .inv .0), omega arith)
 
@@ -47,10 +31,10 @@ stands-before-spec =
     Inv-loop
     μ-loop
     loop-holds
-    mul-here
-    mul-here-2
-    shared-slice-read-here
-    add-i
-    loop-less
+    (λ c. search needs)
+    (λ c. search needs)
+    (λ c. search needs)
+    (λ c. search needs)
+    (λ c. search needs)
     loop-again
     returns)

@@ -1,5 +1,4 @@
 -- `wrong_column` tests the station, then the seasons.
--- Assumes nothing.
 use Prim.Native.Nat.{ℕ, _*_}
 use mathlib.Core.Path.{sym, _∙_, _≡_}
 use mathlib.Core.List.{List}
@@ -11,27 +10,6 @@ use Rattle.release.specs.Earlier.{earlier, wrongAt}
 use Rattle.release.proofs.licence.wrong_column.Statement.{statement}
 use Rattle.release.proofs.licence.wrong_column.Tie as tie
 
-mul-station : tie.Need-mul-station
-mul-station c = search needs
-
-mul-station-2 : tie.Need-mul-station-2
-mul-station-2 c = search needs
-
-shared-slice-read-station : tie.Need-shared-slice-read-station
-shared-slice-read-station c = search needs
-
-mul-seasons : tie.Need-mul-seasons
-mul-seasons c = search needs
-
-add-seasons : tie.Need-add-seasons
-add-seasons c = search needs
-
-mul-seasons-2 : tie.Need-mul-seasons-2
-mul-seasons-2 c = search needs
-
-shared-slice-read-seasons : tie.Need-shared-slice-read-seasons
-shared-slice-read-seasons c = search needs
-
 returns : tie.Need-returns
 unfolding wrongAt wrongStation
 returns c = rw (lt-leb _ _ (c .if1 .taken))
@@ -39,9 +17,6 @@ returns c = rw (lt-leb _ _ (c .if1 .taken))
 returns-2 : tie.Need-returns-2
 unfolding wrongAt wrongStation
 returns-2 c = rw (le-leb _ _ (c .before .if1 .left), lt-leb _ _ (c .if2 .taken))
-
-stands-before-requires : tie.Need-stands-before-requires
-stands-before-requires c κs = search needs
 
 -- the station is tested: its range, then the earlier pairs
 module _ (c : tie.After-stands-before) where
@@ -82,16 +57,16 @@ pub wrong-column-spec : {M : Type 1} → statement M
 wrong-column-spec =
     tie.close
     (tie.spec
-    mul-station
-    mul-station-2
-    shared-slice-read-station
-    mul-seasons
-    add-seasons
-    mul-seasons-2
-    shared-slice-read-seasons
+    (λ c. search needs)
+    (λ c. search needs)
+    (λ c. search needs)
+    (λ c. search needs)
+    (λ c. search needs)
+    (λ c. search needs)
+    (λ c. search needs)
     returns
     returns-2
-    stands-before-requires
+    (λ c κs. search needs)
     returns-3
     returns-4
     returns-5

@@ -1,13 +1,9 @@
 -- `lacking` tests the licence, then the lines.
--- Assumes nothing.
 use borrow.Author.Tests.{eq-eqb, ne-eqb}
 use borrow.Author.Needs.{needs}
 use Rattle.release.specs.Lines.{one}
 use Rattle.release.proofs.put.lacking.Statement.{statement}
 use Rattle.release.proofs.put.lacking.Tie as tie
-
-div-if1 : tie.Need-div-if1
-div-if1 c = search needs
 
 returns : tie.Need-returns
 unfolding one
@@ -22,4 +18,4 @@ unfolding one
 returns-3 c = rw (eq-eqb _ _ (c .before .if1 .left), c .if2 .left)
 
 pub lacking-spec : {M : Type 1} → statement M
-lacking-spec = tie.close (tie.spec div-if1 returns returns-2 returns-3)
+lacking-spec = tie.close (tie.spec (λ c. search needs) returns returns-2 returns-3)

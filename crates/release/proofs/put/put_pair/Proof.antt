@@ -1,5 +1,4 @@
 -- `put_pair` counts the lines of its station and puts the eight numbers in their own part of the table.
--- Assumes nothing.
 use Prim.Native.Nat.{ℕ, _≤_}
 use mathlib.Core.Path.{ap, _∙_, _≡_}
 use mathlib.Core.List.{List}
@@ -15,33 +14,6 @@ use Rattle.release.proofs.StationLines.{lines-most}
 use Rattle.release.proofs.Tables.{pair-written}
 use Rattle.release.proofs.put.put_pair.Statement.{statement}
 use Rattle.release.proofs.put.put_pair.Tie as tie
-
-first-line-requires : tie.Need-first-line-requires
-first-line-requires c κs = search needs
-
-count-lines-requires : tie.Need-count-lines-requires
-count-lines-requires c κs = search needs
-
-missing-seasons-requires : tie.Need-missing-seasons-requires
-missing-seasons-requires c κs = search needs
-
-mul-a : tie.Need-mul-a
-mul-a c = search needs
-
-add-b : tie.Need-add-b
-add-b c = search needs
-
-mul-put-numbers : tie.Need-mul-put-numbers
-mul-put-numbers c = search needs
-
-sub-put-numbers : tie.Need-sub-put-numbers
-sub-put-numbers c = search needs
-
-part-put-numbers-start : tie.Need-part-put-numbers-start
-part-put-numbers-start c = search needs
-
-part-put-numbers-end : tie.Need-part-put-numbers-end
-part-put-numbers-end c = search needs
 
 -- what is counted of the station
 module _ (m : tie.After-missing-seasons) where
@@ -71,9 +43,6 @@ module _ (m : tie.After-missing-seasons) where
 put-numbers-requires : tie.Need-put-numbers-requires
 put-numbers-requires c κs = let m = c .before in (counted m .0, (counted m .1, search needs))
 
-same-length : tie.Need-same-length
-same-length c = search needs
-
 returns : tie.Need-returns
 returns c = let p = c .before in
     let m = p .before .before in
@@ -84,15 +53,15 @@ pub put-pair-spec : {M : Type 1} → statement M
 put-pair-spec =
     tie.close
     (tie.spec
-    first-line-requires
-    count-lines-requires
-    missing-seasons-requires
-    mul-a
-    add-b
-    mul-put-numbers
-    sub-put-numbers
-    part-put-numbers-start
-    part-put-numbers-end
+    (λ c κs. search needs)
+    (λ c κs. search needs)
+    (λ c κs. search needs)
+    (λ c. search needs)
+    (λ c. search needs)
+    (λ c. search needs)
+    (λ c. search needs)
+    (λ c. search needs)
+    (λ c. search needs)
     put-numbers-requires
-    same-length
+    (λ c. search needs)
     returns)

@@ -1,5 +1,4 @@
 -- `reported_fault` tests the count of lines.
--- Assumes nothing.
 use borrow.Author.Tests.{eq-eqb, ne-eqb}
 use Rattle.release.proofs.put.reported_fault.Statement.{statement}
 use Rattle.release.proofs.put.reported_fault.Tie as tie

@@ -1,5 +1,4 @@
 -- `count_lines` adds line after line, from the last to the first: the pass of proofs/StationLines.antt.
--- Assumes nothing.
 use Prim.Native.Nat.{_+_, _*_, _-_, _≤_}
 use native.Mathlib.Omega.{arith}
 use lib.ListN.{length}
@@ -32,9 +31,6 @@ bounds c =
 loop-holds : tie.Need-loop-holds Inv-loop μ-loop
 loop-holds c = counting-start _ _ _ _
 
-sub-i : tie.Need-sub-i Inv-loop μ-loop
-sub-i c = search needs
-
 mul-if1 : tie.Need-mul-if1 Inv-loop μ-loop
 mul-if1 c = omega (arith, within c)
 
@@ -50,16 +46,10 @@ line-requires c κs = within (c .before .before)
 add-requires : tie.Need-add-requires Inv-loop μ-loop
 add-requires c κs = let i = c .before .before .before in (bounds c, counting-small (i .before .loop .inv) (start i .pre .0))
 
-loop-less : tie.Need-loop-less Inv-loop μ-loop
-loop-less c = search needs
-
 loop-again : tie.Need-loop-again Inv-loop μ-loop
 loop-again c = let l = c .before in
     let i = l .before .before .before in
     rw (c .add .ensures) (counting-own (i .before .loop .inv) (omega arith) (bounds l) (l .before .if1 .taken) (l .line .ensures))
-
-loop-less-2 : tie.Need-loop-less-2 Inv-loop μ-loop
-loop-less-2 c = search needs
 
 loop-again-2 : tie.Need-loop-again-2 Inv-loop μ-loop
 loop-again-2 c = let i = c .before .before in counting-other (i .before .loop .inv) (omega arith) (c .if1 .left)
@@ -74,14 +64,14 @@ count-lines-spec =
     Inv-loop
     μ-loop
     loop-holds
-    sub-i
+    (λ c. search needs)
     mul-if1
     mul-if1-2
     shared-slice-read-if1
     line-requires
     add-requires
-    loop-less
+    (λ c. search needs)
     loop-again
-    loop-less-2
+    (λ c. search needs)
     loop-again-2
     returns)

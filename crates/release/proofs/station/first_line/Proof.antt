@@ -1,5 +1,4 @@
 -- `first_line` goes from the last line to the first: the pass of proofs/StationLines.antt.
--- Assumes nothing.
 use Prim.Native.Nat.{_+_, _*_, _-_, _≤_}
 use native.Mathlib.Omega.{arith}
 use lib.ListN.{length}
@@ -22,17 +21,8 @@ start c = c .before .before .before .before .before
 within : (c : tie.In-loop Inv-loop μ-loop) → nameCount * (c .before .loop .i - 1) + nameCount ≤ length (start c .args .values .now)
 within c = omega (arith, start c .pre, c .before .loop .inv .within, c .loop-test .taken)
 
-slice-aggregate-case-of : tie.Need-slice-aggregate-case-of Inv-loop μ-loop
-slice-aggregate-case-of c = search needs
-
-case-of-requires : tie.Need-case-of-requires Inv-loop μ-loop
-case-of-requires c κs = search needs
-
 loop-holds : tie.Need-loop-holds Inv-loop μ-loop
 loop-holds c = rw (c .case-of .ensures) (first-start _ _ _)
-
-sub-i : tie.Need-sub-i Inv-loop μ-loop
-sub-i c = search needs
 
 mul-if1 : tie.Need-mul-if1 Inv-loop μ-loop
 mul-if1 c = omega (arith, within c)
@@ -46,14 +36,9 @@ shared-slice-read-if1 c = omega (arith, within (c .before))
 line-requires : tie.Need-line-requires Inv-loop μ-loop
 line-requires c κs = within (c .before .before)
 
-loop-less : tie.Need-loop-less Inv-loop μ-loop
-loop-less c = search needs
-
 loop-again : tie.Need-loop-again Inv-loop μ-loop
-loop-again c = let i = c .before .before .before in first-own (i .before .loop .inv) (i .loop-test .taken) (c .before .if1 .taken) (c .line .ensures)
-
-loop-less-2 : tie.Need-loop-less-2 Inv-loop μ-loop
-loop-less-2 c = search needs
+loop-again c =
+    let i = c .before .before .before in first-own (i .before .loop .inv) (i .loop-test .taken) (c .before .if1 .taken) (c .line .ensures)
 
 loop-again-2 : tie.Need-loop-again-2 Inv-loop μ-loop
 loop-again-2 c = let i = c .before .before in first-other (i .before .loop .inv) (i .loop-test .taken) (c .if1 .left)
@@ -67,16 +52,16 @@ first-line-spec =
     (tie.spec
     Inv-loop
     μ-loop
-    slice-aggregate-case-of
-    case-of-requires
+    (λ c. search needs)
+    (λ c κs. search needs)
     loop-holds
-    sub-i
+    (λ c. search needs)
     mul-if1
     mul-if1-2
     shared-slice-read-if1
     line-requires
-    loop-less
+    (λ c. search needs)
     loop-again
-    loop-less-2
+    (λ c. search needs)
     loop-again-2
     returns)

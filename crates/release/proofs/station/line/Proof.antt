@@ -1,5 +1,4 @@
 -- `line` reads the values of its own part.
--- Assumes nothing.
 use Prim.Native.Nat.{_+_, _*_, _-_}
 use mathlib.Core.Path.{ap, _∙_, _≡_}
 use native.Mathlib.Omega.{arith}
@@ -10,21 +9,6 @@ use Rattle.case.specs.Case.{caseOf}
 use Rattle.case.specs.Columns.{nameCount}
 use Rattle.release.proofs.station.line.Statement.{statement}
 use Rattle.release.proofs.station.line.Tie as tie
-
-mul-a : tie.Need-mul-a
-mul-a c = search needs
-
-add-b : tie.Need-add-b
-add-b c = search needs
-
-mul-case-of : tie.Need-mul-case-of
-mul-case-of c = search needs
-
-sub-case-of : tie.Need-sub-case-of
-sub-case-of c = search needs
-
-part-case-of-start : tie.Need-part-case-of-start
-part-case-of-start c = search needs
 
 part-case-of-end : tie.Need-part-case-of-end
 part-case-of-end c = search needs
@@ -42,11 +26,11 @@ pub line-spec : {M : Type 1} → statement M
 line-spec =
     tie.close
     (tie.spec
-    mul-a
-    add-b
-    mul-case-of
-    sub-case-of
-    part-case-of-start
+    (λ c. search needs)
+    (λ c. search needs)
+    (λ c. search needs)
+    (λ c. search needs)
+    (λ c. search needs)
     part-case-of-end
     case-of-requires
     returns)

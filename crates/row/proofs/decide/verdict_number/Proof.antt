@@ -1,5 +1,4 @@
 -- `verdict_number` is the number of each verdict.
--- Assumes nothing.
 use Rattle.row.specs.Verdict.{verdictNumber}
 use borrow.Author.Needs.{needs}
 use Rattle.row.proofs.decide.verdict_number.Statement.{statement}
@@ -7,12 +6,6 @@ use Rattle.row.proofs.decide.verdict_number.Tie as tie
 
 enum-told : tie.Need-enum-told
 enum-told c = search needs
-
-enum-told-2 : tie.Need-enum-told-2
-enum-told-2 c = search needs
-
-enum-told-3 : tie.Need-enum-told-3
-enum-told-3 c = search needs
 
 returns : tie.Need-returns
 unfolding verdictNumber
@@ -28,4 +21,4 @@ returns-3 c = rw (c .enum-told3 .given .1)
 
 pub verdict-number-spec : {M : Type 1} → statement M
 verdict-number-spec =
-    tie.close (tie.spec enum-told enum-told-2 enum-told-3 returns returns-2 returns-3)
+    tie.close (tie.spec enum-told (λ c. search needs) (λ c. search needs) returns returns-2 returns-3)

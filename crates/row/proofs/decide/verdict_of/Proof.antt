@@ -1,29 +1,32 @@
 -- `verdict_of` follows the two tests.
--- Assumes nothing.
 use mathlib.Core.Path.{sym, _∙_}
 use Rattle.row.specs.Verdict.{verdict}
 use borrow.Author.Needs.{needs}
 use Rattle.row.proofs.decide.verdict_of.Statement.{statement}
 use Rattle.row.proofs.decide.verdict_of.Tie as tie
 
-is-safe-requires : tie.Need-is-safe-requires
-is-safe-requires c κs = search needs
-
 returns : tie.Need-returns
 unfolding verdict
 returns c = rw (sym (c .before .is-safe .ensures) ∙ c .if1 .taken)
 
-is-unsafe-requires : tie.Need-is-unsafe-requires
-is-unsafe-requires c κs = search needs
-
 returns-2 : tie.Need-returns-2
 unfolding verdict
-returns-2 c = rw (sym (c .before .before .before .is-safe .ensures) ∙ c .before .before .if1 .left, sym (c .before .is-unsafe .ensures) ∙ c .if2 .taken)
+returns-2 c =
+    rw (
+      sym (c .before .before .before .is-safe .ensures) ∙ c .before .before .if1 .left,
+      sym (c .before .is-unsafe .ensures)
+          ∙ c .if2 .taken,
+    )
 
 returns-3 : tie.Need-returns-3
 unfolding verdict
-returns-3 c = rw (sym (c .before .before .before .is-safe .ensures) ∙ c .before .before .if1 .left, sym (c .before .is-unsafe .ensures) ∙ c .if2 .left)
+returns-3 c =
+    rw (
+      sym (c .before .before .before .is-safe .ensures) ∙ c .before .before .if1 .left,
+      sym (c .before .is-unsafe .ensures)
+          ∙ c .if2 .left,
+    )
 
 pub verdict-of-spec : {M : Type 1} → statement M
 verdict-of-spec =
-    tie.close (tie.spec is-safe-requires returns is-unsafe-requires returns-2 returns-3)
+    tie.close (tie.spec (λ c κs. search needs) returns (λ c κs. search needs) returns-2 returns-3)

@@ -1,15 +1,14 @@
 -- `copy_row` copies number by number.
--- Assumes nothing.
 use mir.Syntax.{w64}
 use mir.Val.{SFits}
 use mir.Facts.{toZ-ofZ}
-use Prim.Native.Nat.{ℕ, suc, _+_, _-_, _≤_, _<_}
+use Prim.Native.Nat.{ℕ, _+_, _-_, _≤_, _<_}
 use mathlib.Core.List.{List}
 use native.Mathlib.Numerals.{add-one}
 use lib.IntN.{ℤ, pos}
 use lib.ListN.{length, getD, take, set, length-set}
 use lib.Seq.{take-suc, take-suc-set, take-all}
-use Prim.Native.Nat.{ℕ, suc, _+_, _-_, _≤_}
+use Prim.Native.Nat.{ℕ, _+_, _-_, _≤_}
 use mathlib.Core.Path.{_≡_, refl, sym, _∙_}
 use native.Mathlib.Omega.{arith}
 use lib.ListN.{length, take, set}
@@ -19,7 +18,8 @@ use Rattle.row.proofs.put.copy_row.Statement.{statement}
 use Rattle.row.proofs.put.copy_row.Tie as tie
 
 -- after the last number
-copied : (row a : List ℤ) (i : ℕ) → length a ≡ rowLength → (i ≤ rowLength) × ((length row ≡ rowLength) × (take i row ≡ take i a)) → rowLength ≤ i → row ≡ a
+copied : (row a : List ℤ) (i : ℕ) → length a ≡ rowLength → (i ≤ rowLength) × ((length row ≡ rowLength) × (take i row ≡ take i a))
+    → rowLength ≤ i → row ≡ a
 copied row a i n h l =
     sym (take-all i row (omega (arith, h .1 .0))) ∙ h .1 .1 ∙ take-all i a (omega arith)
 
@@ -37,20 +37,8 @@ abbrev μ-loop : tie.MeasureT-loop
 loop-holds : tie.Need-loop-holds Inv-loop μ-loop
 loop-holds c = (omega arith, (c .pre, refl))
 
-mul-z : tie.Need-mul-z Inv-loop μ-loop
-mul-z c = search needs
-
-array-copy-out-z : tie.Need-array-copy-out-z Inv-loop μ-loop
-array-copy-out-z c = search needs
-
-mul-z-2 : tie.Need-mul-z-2 Inv-loop μ-loop
-mul-z-2 c = search needs
-
 slice-set-from-z : tie.Need-slice-set-from-z Inv-loop μ-loop
 slice-set-from-z c = omega (arith, c .before .before .loop .inv .1 .0)
-
-add-i : tie.Need-add-i Inv-loop μ-loop
-add-i c = search needs
 
 loop-less : tie.Need-loop-less Inv-loop μ-loop
 loop-less c = omega arith
@@ -59,14 +47,22 @@ loop-again : tie.Need-loop-again Inv-loop μ-loop
 loop-again c =
     let l = c .before .before in
     let f : SFits w64 (getD (l .before .args .t1) (l .loop .i) (pos 0)) = search needs in
-    rw (toZ-ofZ f)
-    (omega arith, (length-set (l .loop .row) (l .loop .i) (getD (l .before .args .t1) (l .loop .i) (pos 0)) ∙ l .loop .inv .1 .0, next (l .loop .row) (l .before .args .t1) (l .loop .i) (omega arith) (l .loop .inv .1 .0) (search needs) (l .loop .inv .1 .1)))
+    rw (toZ-ofZ f) (
+      omega arith,
+      (
+        length-set (l .loop .row) (l .loop .i) (getD (l .before .args .t1) (l .loop .i) (pos 0)) ∙ l .loop .inv .1 .0,
+        next
+            (l .loop .row) (l .before .args .t1) (l .loop .i) (omega arith) (l .loop .inv .1 .0) (search needs) (l .loop .inv .1 .1),
+      ),
+    )
 
 same-length : tie.Need-same-length Inv-loop μ-loop
 same-length c = c .before .loop .inv .1 .0 ∙ sym (c .before .before .pre)
 
 returns : tie.Need-returns Inv-loop μ-loop
-returns c = copied (c .before .loop .row) (c .before .before .args .t1) (c .before .loop .i) (search needs) (c .before .loop .inv) (c .loop-test .left)
+returns c =
+    copied (c .before .loop .row) (c .before .before .args .t1) (c .before .loop .i) (search needs) (c .before .loop .inv)
+    (c .loop-test .left)
 
 pub copy-row-spec : {M : Type 1} → statement M
 copy-row-spec =
@@ -75,11 +71,11 @@ copy-row-spec =
     Inv-loop
     μ-loop
     loop-holds
-    mul-z
-    array-copy-out-z
-    mul-z-2
+    (λ c. search needs)
+    (λ c. search needs)
+    (λ c. search needs)
     slice-set-from-z
-    add-i
+    (λ c. search needs)
     loop-less
     loop-again
     same-length

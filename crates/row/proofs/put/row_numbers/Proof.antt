@@ -1,5 +1,4 @@
 -- `row_numbers` lists the numbers of a row; each fits 64 bits with its sign.
--- Assumes nothing.
 use borrow.Author.Needs.{needs}
 use mir.Syntax.{w64}
 use mir.Val.{SFits}
@@ -21,9 +20,6 @@ module _ (c : tie.After-struct-told) where
 
   last-held : let r = c .before .before .args .r in Held (r .mesh) × Held (r .step) × Held (r .resistance) × Held (r .rise)
   last-held = search (needs, c .before .before .good .0 .1 .1 .1 .1 .1 .1 .1 .1)
-
-verdict-number-requires : tie.Need-verdict-number-requires
-verdict-number-requires c κs = search needs
 
 returns : tie.Need-returns
 unfolding numbers
@@ -55,4 +51,4 @@ returns c =
     ) (rw (c .before .verdict-number .ensures))
 
 pub row-numbers-spec : {M : Type 1} → statement M
-row-numbers-spec = tie.close (tie.spec verdict-number-requires returns)
+row-numbers-spec = tie.close (tie.spec (λ c κs. search needs) returns)

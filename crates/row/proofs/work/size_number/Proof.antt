@@ -1,5 +1,4 @@
 -- `size_number` is the number as a signed one; it fits.
--- Assumes nothing.
 use Rattle.formulas.proofs.Size.{size-bound}
 use Rattle.current.proofs.GridCurrent.{upper-bounds}
 use mathlib.Core.Path.{ap}
@@ -13,10 +12,8 @@ use Rattle.row.proofs.work.size_number.Statement.{statement}
 use Rattle.row.proofs.work.size_number.Tie as tie
 
 fits : (c : tie.After-conductor-size) → SFits w64 (pos (c .conductor-size .result))
-fits c = record { sfits = rw (c .conductor-size .ensures) (omega (arith, size-bound (c .before .pre .0) (upper-bounds (c .before .pre .0)))) }
-
-conductor-size-requires : tie.Need-conductor-size-requires
-conductor-size-requires c κs = search needs
+fits c =
+    record { sfits = rw (c .conductor-size .ensures) (omega (arith, size-bound (c .before .pre .0) (upper-bounds (c .before .pre .0)))) }
 
 cast-result : tie.Need-cast-result
 cast-result c = fits c
@@ -25,4 +22,4 @@ returns : tie.Need-returns
 returns c = rw (toZ-pos w64 (fits c .sfits)) (ap pos (c .conductor-size .ensures))
 
 pub size-number-spec : {M : Type 1} → statement M
-size-number-spec = tie.close (tie.spec conductor-size-requires cast-result returns)
+size-number-spec = tie.close (tie.spec (λ c κs. search needs) cast-result returns)

@@ -1,5 +1,4 @@
 -- `work_row` puts the parts together.
--- Assumes nothing.
 use native.Mathlib.Omega.{arith}
 use mir.Syntax.{w64}
 use mir.Val.{SFits}
@@ -18,41 +17,8 @@ size-held c = search needs
 abbrev worked : tie.After-verdict-of → tie.After-grid-current
 worked c = c .before .before .before .before .before .before .before .before .before .before .before .before
 
-factor-ends-requires : tie.Need-factor-ends-requires
-factor-ends-requires c κs = search needs
-
-grid-current-requires : tie.Need-grid-current-requires
-grid-current-requires c κs = search needs
-
-touch-and-step-requires : tie.Need-touch-and-step-requires
-touch-and-step-requires c κs = search needs
-
 effective-number-requires : tie.Need-effective-number-requires
 effective-number-requires c κs = counts (c .before .before .before .before .before .pre)
-
-drive-requires : tie.Need-drive-requires
-drive-requires c κs = search needs
-
-mesh-voltage-requires : tie.Need-mesh-voltage-requires
-mesh-voltage-requires c κs = search needs
-
-step-voltage-requires : tie.Need-step-voltage-requires
-step-voltage-requires c κs = search needs
-
-resistance-requires : tie.Need-resistance-requires
-resistance-requires c κs = search needs
-
-potential-rise-requires : tie.Need-potential-rise-requires
-potential-rise-requires c κs = search needs
-
-cast-t13 : tie.Need-cast-t13
-cast-t13 c = search needs
-
-cast-t14 : tie.Need-cast-t14
-cast-t14 c = search needs
-
-verdict-of-requires : tie.Need-verdict-of-requires
-verdict-of-requires c κs = search needs
 
 size-number-requires : tie.Need-size-number-requires
 size-number-requires c κs = let f = worked c .before in (f .before .pre, f .factor-ends .ensures)
@@ -69,23 +35,36 @@ returns c =
     let i = t .before in
     let f = i .before in
     let s = f .before in
-    rw (toZ-pos w64 {n = s .args .c .station} (omega arith), toZ-pos w64 {n = s .args .c .season} (omega arith), toZ-ofZ (size-held c), r .potential-rise .ensures, p .resistance .ensures, c .size-number .ensures, o .verdict-of .ensures, m .step-voltage .ensures, k .mesh-voltage .ensures, t .touch-and-step .ensures, i .grid-current .ensures, f .factor-ends .ensures)
+    rw (
+      toZ-pos w64 {n = s .args .c .station} (omega arith),
+      toZ-pos w64 {n = s .args .c .season} (omega arith),
+      toZ-ofZ (size-held c),
+      r .potential-rise .ensures,
+      p .resistance .ensures,
+      c .size-number .ensures,
+      o .verdict-of .ensures,
+      m .step-voltage .ensures,
+      k .mesh-voltage .ensures,
+      t .touch-and-step .ensures,
+      i .grid-current .ensures,
+      f .factor-ends .ensures,
+    )
 
 pub work-row-spec : {M : Type 1} → statement M
 work-row-spec =
     tie.close
     (tie.spec
-    factor-ends-requires
-    grid-current-requires
-    touch-and-step-requires
+    (λ c κs. search needs)
+    (λ c κs. search needs)
+    (λ c κs. search needs)
     effective-number-requires
-    drive-requires
-    mesh-voltage-requires
-    step-voltage-requires
-    resistance-requires
-    potential-rise-requires
-    cast-t13
-    cast-t14
-    verdict-of-requires
+    (λ c κs. search needs)
+    (λ c κs. search needs)
+    (λ c κs. search needs)
+    (λ c κs. search needs)
+    (λ c κs. search needs)
+    (λ c. search needs)
+    (λ c. search needs)
+    (λ c κs. search needs)
     size-number-requires
     returns)

@@ -1,18 +1,17 @@
 -- `write_rows` writes row after row.
--- Assumes nothing.
 use Prim.Native.Nat.{_+_, _*_, _-_, _≤_}
-use mathlib.Core.Path.{_≡_, refl, sym, ap, _∙_}
+use mathlib.Core.Path.{_≡_, refl, ap, _∙_}
 use native.Mathlib.Omega.{arith}
 use borrow.Author.Needs.{needs}
 use borrow.Rule.Slice.PartMut.{mid-len}
 use lib.ListN.{length, take, drop}
 use Rattle.tables.specs.Parts.{partAt}
+use Rattle.tables.proofs.Filling.{filled-start, filled-step, filled-end}
 use Rattle.case.specs.Columns.{nameCount}
 use Rattle.case.specs.Case.{caseOf}
 use Rattle.case.specs.Bounds.{Bounds}
 use Rattle.row.proofs.Right.{right-row}
 use Rattle.sheet.specs.Rows.{FilledTo, storedCases}
-use Rattle.sheet.proofs.RowParts.{filled-start, filled-step, filled-end}
 use Rattle.sheet.proofs.StoredCases.{cases-count, stored-case}
 use Rattle.sheet.proofs.rows.write_rows.Statement.{statement}
 use Rattle.sheet.proofs.rows.write_rows.Tie as tie
@@ -24,7 +23,7 @@ abbrev μ-loop : tie.MeasureT-loop
 μ-loop values n table₀ i₀ table i = n - i
 
 loop-holds : tie.Need-loop-holds Inv-loop μ-loop
-loop-holds c = (filled-start _ _, search needs)
+loop-holds c = (filled-start _, search needs)
 
 abbrev start : tie.In-loop Inv-loop μ-loop → tie.Start Inv-loop μ-loop
 start c = c .before .before .before
@@ -42,12 +41,6 @@ add-b c = omega (arith, within c)
 mul-case-of : tie.Need-mul-case-of Inv-loop μ-loop
 mul-case-of c = omega (arith, within c)
 
-sub-case-of : tie.Need-sub-case-of Inv-loop μ-loop
-sub-case-of c = search needs
-
-part-case-of-start : tie.Need-part-case-of-start Inv-loop μ-loop
-part-case-of-start c = search needs
-
 part-case-of-end : tie.Need-part-case-of-end Inv-loop μ-loop
 part-case-of-end c = omega (arith, within c)
 
@@ -55,7 +48,8 @@ case-of-requires : tie.Need-case-of-requires Inv-loop μ-loop
 case-of-requires c κs = mid-len _ _ (start (c .before) .args .values .now) (part-case-of-end (c .before)) ∙ omega arith
 
 -- the case of line i
-case-is : (c : tie.After-case-of Inv-loop μ-loop) → c .case-of .result ≡ caseOf (partAt nameCount (start (c .before .before) .args .values .now) (c .before .before .before .loop .i))
+case-is : (c : tie.After-case-of Inv-loop μ-loop)
+    → c .case-of .result ≡ caseOf (partAt nameCount (start (c .before .before) .args .values .now) (c .before .before .before .loop .i))
 case-is c =
     let i = c .before .before in
     let w : nameCount * i .before .loop .i + nameCount - nameCount * i .before .loop .i ≡ nameCount = omega arith in
@@ -69,18 +63,13 @@ write-row-requires c κs =
     let i = c .before .before .before in
     (bounds (c .before), omega (arith, i .before .loop .inv .0 .size, start i .pre .1 .1, i .loop-test .taken))
 
-add-i : tie.Need-add-i Inv-loop μ-loop
-add-i c = search needs
-
-loop-less : tie.Need-loop-less Inv-loop μ-loop
-loop-less c = search needs
-
 loop-again : tie.Need-loop-again Inv-loop μ-loop
 loop-again c =
     let k = c .before .before .before in
     let i = k .before .before in (
       filled-step (i .before .loop .inv .0) (c .before .write-row .ensures)
-          (rw (stored-case (start i .args .values .now) _ _ (i .loop-test .taken), ← case-is k) (record { is = refl; right = right-row (bounds k) })),
+          (rw (stored-case (start i .args .values .now) _ _ (i .loop-test .taken), ← case-is k)
+          (record { is = refl; right = right-row (bounds k) })),
       search needs,
     )
 
@@ -102,13 +91,13 @@ write-rows-spec =
     mul-a
     add-b
     mul-case-of
-    sub-case-of
-    part-case-of-start
+    (λ c. search needs)
+    (λ c. search needs)
     part-case-of-end
     case-of-requires
     write-row-requires
-    add-i
-    loop-less
+    (λ c. search needs)
+    (λ c. search needs)
     loop-again
     same-length
     returns)

@@ -1,5 +1,4 @@
 -- `soundings::numbers::fields` is safe and ends: the measure is how many numbers may come yet.
--- Assumes nothing.
 use Prim.Native.Nat.{_-_, _≤_}
 use native.Mathlib.Omega.{arith}
 use lib.ListN.{length}

@@ -1,5 +1,4 @@
 -- `soundings::sounding::first` is safe: the numbers are a part of the list.
--- Assumes nothing.
 use mathlib.Core.Path.{sym}
 use native.Mathlib.Omega.{arith}
 use borrow.Author.Needs.{needs}

@@ -1,5 +1,4 @@
 -- `splits::fields::below_zero` keeps within 64 bits.
--- Assumes nothing.
 use native.Mathlib.Omega.{arith}
 use borrow.Author.Needs.{needs}
 use lib.IntN.{pos}

@@ -1,5 +1,4 @@
 -- `splits::test::ask` is safe: the numbers are a part of v.
--- Assumes nothing.
 use mathlib.Core.Path.{sym}
 use lib.Seq.{length-take-le}
 use borrow.Author.Needs.{needs}

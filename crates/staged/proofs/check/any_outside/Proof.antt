@@ -1,5 +1,4 @@
 -- `any_outside` looks at one number after the other: none before i is outside.
--- Assumes nothing.
 use Prim.Native.Nat.{_-_}
 use mathlib.Core.Path.{_≡_, sym, _∙_}
 use lib.IntN.{pos}
@@ -17,18 +16,6 @@ Inv-loop parts i₀ i = anyOutside (drop i parts) ≡ anyOutside parts
 abbrev μ-loop : tie.MeasureT-loop
 μ-loop parts i₀ i = length parts - i
 
-loop-holds : tie.Need-loop-holds Inv-loop μ-loop
-loop-holds c = search needs
-
-mul-is-outside : tie.Need-mul-is-outside Inv-loop μ-loop
-mul-is-outside c = search needs
-
-shared-slice-copy-out-is-outside : tie.Need-shared-slice-copy-out-is-outside Inv-loop μ-loop
-shared-slice-copy-out-is-outside c = search needs
-
-is-outside-requires : tie.Need-is-outside-requires Inv-loop μ-loop
-is-outside-requires c κs = search needs
-
 -- what the element is, and what the test says of it
 element : (c : tie.After-is-outside Inv-loop μ-loop)
     → let l = c .before .before .before in c .is-outside .result ≡ outside (getD (l .before .args .parts .now) (l .loop .i) (pos 0))
@@ -39,18 +26,14 @@ element c =
 returns : tie.Need-returns Inv-loop μ-loop
 returns c =
     let l = c .before .before .before in
-    sym (any-found (l .before .before .args .parts .now) (l .before .loop .i) (l .loop-test .taken) (sym (element (c .before)) ∙ c .if1 .taken)) ∙ l .before .loop .inv
-
-add-i : tie.Need-add-i Inv-loop μ-loop
-add-i c = search needs
-
-loop-less : tie.Need-loop-less Inv-loop μ-loop
-loop-less c = search needs
+    sym (any-found (l .before .before .args .parts .now) (l .before .loop .i) (l .loop-test .taken)
+    (sym (element (c .before)) ∙ c .if1 .taken)) ∙ l .before .loop .inv
 
 loop-again : tie.Need-loop-again Inv-loop μ-loop
 loop-again c =
     let l = c .before .before .before in
-    any-step (l .before .before .args .parts .now) (l .before .loop .i) (l .loop-test .taken) (sym (element (c .before)) ∙ c .if1 .left) ∙ l .before .loop .inv
+    any-step (l .before .before .args .parts .now) (l .before .loop .i) (l .loop-test .taken) (sym (element (c .before)) ∙ c .if1 .left)
+    ∙ l .before .loop .inv
 
 returns-2 : tie.Need-returns-2 Inv-loop μ-loop
 returns-2 c = sym (any-end (c .before .before .args .parts .now) (c .before .loop .i) (c .loop-test .left)) ∙ c .before .loop .inv
@@ -61,12 +44,12 @@ any-outside-spec =
     (tie.spec
     Inv-loop
     μ-loop
-    loop-holds
-    mul-is-outside
-    shared-slice-copy-out-is-outside
-    is-outside-requires
+    (λ c. search needs)
+    (λ c. search needs)
+    (λ c. search needs)
+    (λ c κs. search needs)
     returns
-    add-i
-    loop-less
+    (λ c. search needs)
+    (λ c. search needs)
     loop-again
     returns-2)

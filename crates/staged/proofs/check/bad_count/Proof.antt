@@ -1,5 +1,4 @@
 -- `bad_count` tests the count in the order of the definition.
--- Assumes nothing.
 use borrow.Author.Tests.{eq-eqb, ne-eqb, lt-ltb, le-ltb}
 use Rattle.staged.specs.Check.{fewestNumbers, mostNumbers, badCount}
 use Rattle.staged.proofs.check.bad_count.Statement.{statement}

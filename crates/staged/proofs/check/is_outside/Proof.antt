@@ -1,5 +1,4 @@
 -- `is_outside` tests the lower end, then the upper.
--- Assumes nothing.
 use mathlib.Core.Path.{_≡_}
 use mathlib.Core.Bool.{true, false}
 use borrow.Author.Needs.{needs}
@@ -10,9 +9,6 @@ use Rattle.interval.proofs.Bits.{read}
 use Rattle.staged.specs.Check.{largestPart, outside}
 use Rattle.staged.proofs.check.is_outside.Statement.{statement}
 use Rattle.staged.proofs.check.is_outside.Tie as tie
-
-sub-if1 : tie.Need-sub-if1
-sub-if1 c = search needs
 
 returns : tie.Need-returns
 unfolding largestPart outside
@@ -30,4 +26,4 @@ returns-2 c =
     rw (e, toZ-ofZ (s .fits .part))
 
 pub is-outside-spec : {M : Type 1} → statement M
-is-outside-spec = tie.close (tie.spec sub-if1 returns returns-2)
+is-outside-spec = tie.close (tie.spec (λ c. search needs) returns returns-2)

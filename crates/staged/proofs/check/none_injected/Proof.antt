@@ -1,5 +1,4 @@
 -- `none_injected` looks at the first two numbers, which the count lets be there.
--- Assumes nothing.
 use native.Mathlib.Omega.{arith}
 use borrow.Author.Tests.{eq-eqb, ne-eqb}
 use lib.IntN.{pos}
@@ -28,7 +27,12 @@ unfolding noneInjected
 returns-2 c =
     let k = c .before in
     let s = k .before .before .args .parts .now in
-    rw (← zero-bits (getD s 0 (pos 0)) (k .before .if12 .given), ← zero-bits (getD s 1 (pos 0)) (c .result .given), eq-eqb _ _ (k .if1 .left))
+    rw (
+      ← zero-bits (getD s 0 (pos 0)) (k .before .if12 .given),
+      ← zero-bits (getD s 1 (pos 0)) (c .result .given),
+      eq-eqb _ _
+          (k .if1 .left),
+    )
 
 pub none-injected-spec : {M : Type 1} → statement M
 none-injected-spec =

@@ -1,5 +1,4 @@
 -- `grid_part` takes one branch after the other from the injected current.
--- Assumes nothing.
 use Prim.Native.Nat.{_+_, _-_}
 use mathlib.Core.Path.{_≡_}
 use native.Mathlib.Omega.{arith}
@@ -28,12 +27,6 @@ loop-holds c =
     let s = c .before .args .parts .now in
     rw (back (getD s 0 (pos 0)) (c .left .given)) (left-start (c .before .pre))
 
-mul-left : tie.Need-mul-left Inv-loop μ-loop
-mul-left c = search needs
-
-shared-slice-copy-out-left-2 : tie.Need-shared-slice-copy-out-left-2 Inv-loop μ-loop
-shared-slice-copy-out-left-2 c = search needs
-
 -- what is left after one branch more
 module _ (c : tie.After-left2 Inv-loop μ-loop) where
   abbrev turn : tie.In-loop Inv-loop μ-loop
@@ -57,9 +50,6 @@ sub-left c = rw (element c) (next-fits c)
 add-i : tie.Need-add-i Inv-loop μ-loop
 add-i c = record { fits = omega (arith, next c .place, next c .few) }
 
-loop-less : tie.Need-loop-less Inv-loop μ-loop
-loop-less c = search needs
-
 loop-again : tie.Need-loop-again Inv-loop μ-loop
 loop-again c = rw (element c, toZ-ofZ (next-fits c)) (next c)
 
@@ -76,10 +66,10 @@ grid-part-spec =
     μ-loop
     shared-slice-copy-out-left
     loop-holds
-    mul-left
-    shared-slice-copy-out-left-2
+    (λ c. search needs)
+    (λ c. search needs)
     sub-left
     add-i
-    loop-less
+    (λ c. search needs)
     loop-again
     returns)

@@ -1,5 +1,4 @@
 -- `measured` works the grid's two parts and the split by the two squares.
--- Assumes nothing.
 use mathlib.Core.Path.{_≡_}
 use native.Mathlib.Omega.{arith}
 use lib.IntN.{pos}
@@ -20,7 +19,8 @@ in-phase c = c .grid-part .ensures
 quadrature : (c : tie.After-grid-part2) → GridPart (drop 1 (c .before .before .before .args .parts .now)) (c .grid-part2 .result)
 quadrature c = rw (part-to-end (c .before .before .before .args .parts .now) 1) at (c .grid-part2 .ensures)
 
-grid-square : (c : tie.After-square) → c .square .result ≡ squareOf (c .before .before .before .grid-part .result) (c .before .grid-part2 .result)
+grid-square : (c : tie.After-square)
+    → c .square .result ≡ squareOf (c .before .before .before .grid-part .result) (c .before .grid-part2 .result)
 grid-square c =
     let q = c .before in
     let p = q .before .before in
@@ -42,16 +42,14 @@ sub-grid-part c = omega (arith, two-numbers (c .before .pre))
 part-grid-part-start : tie.Need-part-grid-part-start
 part-grid-part-start c = omega (arith, two-numbers (c .before .pre))
 
-part-grid-part-end : tie.Need-part-grid-part-end
-part-grid-part-end c = search needs
-
 grid-part-requires-2 : tie.Need-grid-part-requires-2
 grid-part-requires-2 c κs = rw (part-to-end (c .before .before .args .parts .now) 1) (parts-after-first (c .before .before .pre))
 
 square-requires : tie.Need-square-requires
 square-requires c κs =
     let p = c .before .before in
-    rw (back (p .grid-part .result) (p .grid-part .ok), back (c .grid-part2 .result) (c .grid-part2 .ok)) (in-phase p .small, quadrature c .small)
+    rw (back (p .grid-part .result) (p .grid-part .ok), back (c .grid-part2 .result) (c .grid-part2 .ok))
+    (in-phase p .small, quadrature c .small)
 
 shared-slice-copy-out-square : tie.Need-shared-slice-copy-out-square
 shared-slice-copy-out-square c = omega (arith, two-numbers (c .before .before .before .before .pre))
@@ -70,7 +68,8 @@ per-mille-requires c κs =
     let g = c .before .before .before in
     let q = g .before in
     let p = q .before .before in
-    rw (grid-square g, injected-square c) (squares (p .before .pre) (p .grid-part .result) (q .grid-part2 .result) (in-phase p .small) (quadrature q .small))
+    rw (grid-square g, injected-square c) (squares (p .before .pre) (p .grid-part .result) (q .grid-part2 .result) (in-phase p .small)
+    (quadrature q .small))
 
 returns : tie.Need-returns
 returns c =
@@ -88,7 +87,7 @@ measured-spec =
     grid-part-requires
     sub-grid-part
     part-grid-part-start
-    part-grid-part-end
+    (λ c. search needs)
     grid-part-requires-2
     square-requires
     shared-slice-copy-out-square

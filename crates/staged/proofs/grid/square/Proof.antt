@@ -1,5 +1,4 @@
 -- `square` adds the squares of the sizes.
--- Assumes nothing.
 use mathlib.Core.Path.{_≡_}
 use native.Mathlib.Omega.{arith}
 use native.Mathlib.Nat.{mul-le-mul}
@@ -17,12 +16,6 @@ in-phase-is c = rw (toZ-ofZ (c .before .fits .in-phase)) at (c .size .ensures)
 
 quadrature-is : (c : tie.After-size2) → c .size2 .result ≡ natAbs (c .before .before .args .quadrature)
 quadrature-is c = rw (toZ-ofZ (c .before .before .fits .quadrature)) at (c .size2 .ensures)
-
-size-requires : tie.Need-size-requires
-size-requires c κs = search needs
-
-size-requires-2 : tie.Need-size-requires-2
-size-requires-2 c κs = search needs
 
 mul-result : tie.Need-mul-result
 mul-result c =
@@ -46,4 +39,4 @@ returns c = rw (in-phase-is (c .before), quadrature-is c)
 
 pub square-spec : {M : Type 1} → statement M
 square-spec =
-    tie.close (tie.spec size-requires size-requires-2 mul-result mul-result-2 add-result returns)
+    tie.close (tie.spec (λ c κs. search needs) (λ c κs. search needs) mul-result mul-result-2 add-result returns)

@@ -1,5 +1,4 @@
 -- `append` takes the greatest digit from a hundred times the rest.
--- Assumes nothing.
 use Prim.Native.Nat.{_+_, _*_, _≤_, _^_}
 use native.Mathlib.Omega.{arith}
 use lib.Dec.{lit<}

@@ -1,5 +1,4 @@
 -- `begin` takes the root of the whole part of the quotient.
--- Assumes nothing.
 use native.Mathlib.Nat.{le-trans, div-le-self}
 use borrow.Author.Needs.{needs}
 use lib.Dec.{lit<}
@@ -7,12 +6,6 @@ use Rattle.interval.proofs.Fits.{fits-below}
 use Rattle.staged.proofs.LongRoot.{begun-low, begun}
 use Rattle.staged.proofs.long_root.begin.Statement.{statement}
 use Rattle.staged.proofs.long_root.begin.Tie as tie
-
-div-isqrt : tie.Need-div-isqrt
-div-isqrt c = search needs
-
-isqrt-requires : tie.Need-isqrt-requires
-isqrt-requires c κs = search needs
 
 mul-t4 : tie.Need-mul-t4
 mul-t4 c =
@@ -28,4 +21,4 @@ returns : tie.Need-returns
 returns c = begun (c .before .pre) (c .isqrt .ensures)
 
 pub begin-spec : {M : Type 1} → statement M
-begin-spec = tie.close (tie.spec div-isqrt isqrt-requires mul-t4 mul-t5 sub-t6 returns)
+begin-spec = tie.close (tie.spec (λ c. search needs) (λ c κs. search needs) mul-t4 mul-t5 sub-t6 returns)

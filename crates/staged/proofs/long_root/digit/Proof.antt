@@ -1,5 +1,4 @@
 -- `digit` counts up while the next digit is not too large; ten always is.
--- Assumes nothing.
 use Prim.Native.Nat.{_+_, _-_, _*_, _^_, _≤_, _<_}
 use native.Mathlib.Omega.{arith}
 use lib.Dec.{lit<}

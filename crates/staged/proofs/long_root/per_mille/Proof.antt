@@ -1,5 +1,4 @@
 -- `per_mille` appends three digits to the root, and rounds up.
--- Assumes nothing.
 use Prim.Native.Nat.{_*_}
 use mathlib.Core.Path.{_≡_}
 use native.Mathlib.Omega.{arith}
@@ -25,9 +24,6 @@ two-digits c = omega (arith, c .append2 .ensures .more, one-digit (c .before))
 three-digits : (c : tie.After-append3)
     → radicand (c .before .before .before .before .args .injected) (c .append3 .result) ≡ 1000000 * c .before .before .before .before .args .grid
 three-digits c = omega (arith, c .append3 .ensures .more, two-digits (c .before))
-
-begin-requires : tie.Need-begin-requires
-begin-requires c κs = search needs
 
 append-requires : tie.Need-append-requires
 append-requires c κs = room (c .before .pre) (c .begin .ensures .greatest) 1 (lit≤ tt) (no-digit c)
@@ -61,7 +57,7 @@ pub per-mille-spec : {M : Type 1} → statement M
 per-mille-spec =
     tie.close
     (tie.spec
-    begin-requires
+    (λ c κs. search needs)
     append-requires
     append-requires-2
     append-requires-3

@@ -1,6 +1,4 @@
 -- `add` adds a row.
--- Assumes nothing.
-use Prim.Native.Nat.{_-_}
 use lib.IntN.{pos}
 use mathlib.Core.Path.{sym, _∙_}
 use mir.Syntax.{w64}
@@ -14,32 +12,25 @@ use borrow.Author.Needs.{needs}
 use Rattle.stations.proofs.adding.add.Statement.{statement}
 use Rattle.stations.proofs.adding.add.Tie as tie
 
-held : (s : tie.Start) → SFits w64 (s .args .e .season) × SFits w64 (s .args .e .mesh) × SFits w64 (s .args .s .season) × SFits w64 (s .args .s .mesh)
+held : (s : tie.Start)
+    → SFits w64 (s .args .e .season) × SFits w64 (s .args .e .mesh) × SFits w64 (s .args .s .season) × SFits w64 (s .args .s .mesh)
 held s = search needs
-
-add-seasons : tie.Need-add-seasons
-add-seasons c = search needs
-
-counted-requires : tie.Need-counted-requires
-counted-requires c κs = search needs
 
 add-safe : tie.Need-add-safe
 add-safe c = omega (arith, c .before .counted .ensures, one-most (sameZ (c .before .before .before .args .e .verdict) (pos 1)))
 
-counted-requires-2 : tie.Need-counted-requires-2
-counted-requires-2 c κs = search needs
-
 add-not-safe : tie.Need-add-not-safe
-add-not-safe c = omega (arith, c .before .counted2 .ensures, one-most (sameZ (c .before .before .before .before .before .args .e .verdict) (pos 2)))
-
-counted-requires-3 : tie.Need-counted-requires-3
-counted-requires-3 c κs = search needs
+add-not-safe c =
+    omega (arith, c .before .counted2 .ensures, one-most (sameZ (c .before .before .before .before .before .args .e .verdict) (pos 2)))
 
 add-undecided : tie.Need-add-undecided
-add-undecided c = omega (arith, c .before .counted3 .ensures, one-most (sameZ (c .before .before .before .before .before .before .before .args .e .verdict) (pos 3)))
-
-is-worst-requires : tie.Need-is-worst-requires
-is-worst-requires c κs = search needs
+add-undecided c =
+    omega (
+      arith,
+      c .before .counted3 .ensures,
+      one-most
+          (sameZ (c .before .before .before .before .before .before .before .args .e .verdict) (pos 3)),
+    )
 
 returns : tie.Need-returns
 unfolding addTo
@@ -49,7 +40,14 @@ returns c =
     let m = n .before .before in
     let k = m .before .before in
     let h = held (k .before .before) in
-    rw (k .counted .ensures, m .counted2 .ensures, n .counted3 .ensures, sym (w .is-worst .ensures) ∙ c .before .if1 .taken, toZ-ofZ (h .0), toZ-ofZ (h .1))
+    rw (
+      k .counted .ensures,
+      m .counted2 .ensures,
+      n .counted3 .ensures,
+      sym (w .is-worst .ensures) ∙ c .before .if1 .taken,
+      toZ-ofZ (h .0),
+      toZ-ofZ (h .1),
+    )
 
 returns-2 : tie.Need-returns-2
 unfolding addTo
@@ -59,19 +57,26 @@ returns-2 c =
     let m = n .before .before in
     let k = m .before .before in
     let h = held (k .before .before) in
-    rw (k .counted .ensures, m .counted2 .ensures, n .counted3 .ensures, sym (w .is-worst .ensures) ∙ c .before .if1 .left, toZ-ofZ (h .2), toZ-ofZ (h .3))
+    rw (
+      k .counted .ensures,
+      m .counted2 .ensures,
+      n .counted3 .ensures,
+      sym (w .is-worst .ensures) ∙ c .before .if1 .left,
+      toZ-ofZ (h .2),
+      toZ-ofZ (h .3),
+    )
 
 pub add-spec : {M : Type 1} → statement M
 add-spec =
     tie.close
     (tie.spec
-    add-seasons
-    counted-requires
+    (λ c. search needs)
+    (λ c κs. search needs)
     add-safe
-    counted-requires-2
+    (λ c κs. search needs)
     add-not-safe
-    counted-requires-3
+    (λ c κs. search needs)
     add-undecided
-    is-worst-requires
+    (λ c κs. search needs)
     returns
     returns-2)

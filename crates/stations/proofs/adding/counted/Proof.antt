@@ -1,5 +1,4 @@
 -- `counted` compares the bits of two numbers.
--- Assumes nothing.
 use mathlib.Core.Path.{sym, _∙_}
 use Rattle.stations.specs.Summary.{one}
 use borrow.Author.Needs.{needs}

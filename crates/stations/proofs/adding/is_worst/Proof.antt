@@ -1,5 +1,4 @@
 -- `is_worst` follows the two tests.
--- Assumes nothing.
 use Rattle.stations.specs.Sums.{worst}
 use borrow.Author.Needs.{needs}
 use borrow.Author.Tests.{eq-eqb, ne-eqb}

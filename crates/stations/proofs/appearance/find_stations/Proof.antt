@@ -1,5 +1,4 @@
 -- `find_stations` places row after row: the pass of proofs/Appearing.antt, with the marks of proofs/Marks.antt.
--- Assumes nothing.
 use Prim.Native.Nat.{_-_, _<_}
 use mathlib.Core.Path.{_≡_}
 use mathlib.Core.Logic.{⊎-elim}
@@ -17,7 +16,8 @@ use Rattle.stations.proofs.appearance.find_stations.Statement.{statemen
 use Rattle.stations.proofs.appearance.find_stations.Tie as tie
 
 abbrev Inv-loop : tie.InvT-loop
-Inv-loop table n known₀ marks₀ places₀ count₀ i₀ known marks places count i = Placing table n i known places count × (length marks ≡ mostLines) × Marked known marks count
+Inv-loop table n known₀ marks₀ places₀ count₀ i₀ known marks places count i =
+    Placing table n i known places count × (length marks ≡ mostLines) × Marked known marks count
 
 abbrev μ-loop : tie.MeasureT-loop
 μ-loop table n known₀ marks₀ places₀ count₀ i₀ known marks places count i = n - i
@@ -28,29 +28,21 @@ room c =
     let s = c .before .before in
     (omega (arith, s .pre .0, c .before .loop .inv .0 .fewer, c .loop-test .taken), omega (arith, s .pre .0, c .loop-test .taken))
 
-held : (c : tie.After-station Inv-loop μ-loop) → SFits w64 (stationAt (c .before .before .before .args .table .now) (c .before .before .loop .i))
+held : (c : tie.After-station Inv-loop μ-loop)
+    → SFits w64 (stationAt (c .before .before .before .args .table .now) (c .before .before .loop .i))
 held c = search needs
 
 loop-holds : tie.Need-loop-holds Inv-loop μ-loop
 loop-holds c = (placing-start _ _ (search needs) (search needs), search needs, marked-start _ _)
 
-mul-station : tie.Need-mul-station Inv-loop μ-loop
-mul-station c = search needs
-
-mul-station-2 : tie.Need-mul-station-2 Inv-loop μ-loop
-mul-station-2 c = search needs
-
 shared-slice-copy-out-station : tie.Need-shared-slice-copy-out-station Inv-loop μ-loop
 shared-slice-copy-out-station c = let s = c .before .before in omega (arith, s .pre .1, c .loop-test .taken)
 
-slice-aggregate-place-of : tie.Need-slice-aggregate-place-of Inv-loop μ-loop
-slice-aggregate-place-of c = search needs
-
-slice-aggregate-place-of-2 : tie.Need-slice-aggregate-place-of-2 Inv-loop μ-loop
-slice-aggregate-place-of-2 c = search needs
-
 place-of-requires : tie.Need-place-of-requires Inv-loop μ-loop
-place-of-requires c κs = (omega (arith, room (c .before .before .before), c .before .before .before .before .loop .inv .0 .known-size), c .before .before .before .before .loop .inv .2)
+place-of-requires c κs = (
+  omega (arith, room (c .before .before .before), c .before .before .before .before .loop .inv .0 .known-size),
+  c .before .before .before .before .loop .inv .2,
+)
 
 mul-places : tie.Need-mul-places Inv-loop μ-loop
 mul-places c = omega (arith, room (c .before .before .before .before))
@@ -64,9 +56,6 @@ mul-known c = omega (arith, room (c .before .before .before .before .before))
 array-set-from-known : tie.Need-array-set-from-known Inv-loop μ-loop
 array-set-from-known c = room (c .before .before .before .before .before) .0
 
-mark-requires : tie.Need-mark-requires Inv-loop μ-loop
-mark-requires c κs = search needs
-
 mul-marks : tie.Need-mul-marks Inv-loop μ-loop
 mul-marks c = omega (arith, room (c .before .before .before .before .before .before))
 
@@ -78,9 +67,6 @@ add-count c = omega (arith, room (c .before .before .before .before .before .bef
 
 add-i : tie.Need-add-i Inv-loop μ-loop
 add-i c = omega (arith, room (c .before .before .before .before .before))
-
-loop-less : tie.Need-loop-less Inv-loop μ-loop
-loop-less c = search needs
 
 loop-again : tie.Need-loop-again Inv-loop μ-loop
 loop-again c =
@@ -110,21 +96,21 @@ find-stations-spec =
     Inv-loop
     μ-loop
     loop-holds
-    mul-station
-    mul-station-2
+    (λ c. search needs)
+    (λ c. search needs)
     shared-slice-copy-out-station
-    slice-aggregate-place-of
-    slice-aggregate-place-of-2
+    (λ c. search needs)
+    (λ c. search needs)
     place-of-requires
     mul-places
     array-write-places
     mul-known
     array-set-from-known
-    mark-requires
+    (λ c κs. search needs)
     mul-marks
     array-write-marks
     add-count
     add-i
-    loop-less
+    (λ c. search needs)
     loop-again
     returns)

@@ -1,5 +1,4 @@
 -- `mark` takes the rest of a natural number by 2^16.
--- Assumes nothing.
 use mathlib.Core.Path.{_≡_, sym, ap, _∙_}
 use native.Mathlib.Omega.{arith}
 use lib.IntN.{pos}

@@ -1,5 +1,4 @@
 -- `place_of` asks the marks, then goes up to the first equal station.
--- Assumes nothing.
 use Prim.Native.Nat.{ℕ, _-_, _≤_, _<_}
 use mathlib.Core.Path.{_≡_, sym, _∙_}
 use native.Mathlib.Omega.{arith}
@@ -11,7 +10,7 @@ use mir.Syntax.{w64}
 use mir.Val.{SFits, toZ}
 use mir.Facts.{toZ-ofZ}
 use Rattle.stations.specs.Summary.{sameZ}
-use Rattle.stations.specs.Places.{markOf, NotMarked}
+use Rattle.stations.specs.Places.{markOf}
 use Rattle.stations.proofs.Same.{same-eq, same-apart}
 use Rattle.stations.proofs.Marks.{not-marked}
 use borrow.Author.Needs.{needs}
@@ -27,16 +26,14 @@ abbrev μ-loop : tie.MeasureT-loop
 abbrev start : tie.At-loop Inv-loop μ-loop → tie.Start Inv-loop μ-loop
 start a = a .before .before .before .before .before
 
-element : (c : tie.After-same-arg Inv-loop μ-loop) → SFits w64 (getD (start (c .before .before) .args .known .now) (c .before .before .loop .i) (pos 0))
+element : (c : tie.After-same-arg Inv-loop μ-loop)
+    → SFits w64 (getD (start (c .before .before) .args .known .now) (c .before .before .loop .i) (pos 0))
 element c = search needs
 
 -- what the comparison tells
 told : (c : tie.After-same Inv-loop μ-loop)
     → c .same .result ≡ sameZ (getD (start (c .before .before .before) .args .known .now) (c .before .before .before .loop .i) (pos 0)) (start (c .before .before .before) .args .station)
 told c = rw (toZ-ofZ (element (c .before)), toZ-ofZ (start (c .before .before .before) .fits .station)) at (c .same .ensures)
-
-mark-requires : tie.Need-mark-requires Inv-loop μ-loop
-mark-requires c κs = search needs
 
 is-marked-requires : tie.Need-is-marked-requires Inv-loop μ-loop
 is-marked-requires c κs = c .before .before .pre .1 .room
@@ -48,18 +45,6 @@ returns c =
     let mark : m .mark .result ≡ markOf (s .args .station) = rw (toZ-ofZ (s .fits .station)) at (m .mark .ensures) in
     not-marked (s .pre .1) (rw mark at (c .before .is-marked .ensures (not-true _ (c .if1 .taken))))
 
-loop-holds : tie.Need-loop-holds Inv-loop μ-loop
-loop-holds c = search needs
-
-mul-same : tie.Need-mul-same Inv-loop μ-loop
-mul-same c = search needs
-
-shared-slice-copy-out-same : tie.Need-shared-slice-copy-out-same Inv-loop μ-loop
-shared-slice-copy-out-same c = search needs
-
-same-requires : tie.Need-same-requires Inv-loop μ-loop
-same-requires c κs = search needs
-
 returns-2 : tie.Need-returns-2 Inv-loop μ-loop
 returns-2 c =
     let l = c .before .before .before .before in
@@ -70,21 +55,23 @@ returns-2 c =
       here = λ _. same-eq _ _ (sym (told (c .before)) ∙ c .if2 .taken);
     }
 
-add-i : tie.Need-add-i Inv-loop μ-loop
-add-i c = search needs
-
-loop-less : tie.Need-loop-less Inv-loop μ-loop
-loop-less c = search needs
-
 loop-again : tie.Need-loop-again Inv-loop μ-loop
 loop-again c =
-    let l = c .before .before .before .before in
-    (omega arith, below-more _ _ (l .loop .inv .1) (λ e. same-apart (sym (told (c .before)) ∙ c .if2 .left) (e ∙ toZ-ofZ (start l .fits .station))))
+    let l = c .before .before .before .before in (
+      omega arith,
+      below-more _ _ (l .loop .inv .1)
+          (λ e. same-apart (sym (told (c .before)) ∙ c .if2 .left) (e ∙ toZ-ofZ (start l .fits .station))),
+    )
 
 returns-3 : tie.Need-returns-3 Inv-loop μ-loop
 returns-3 c =
     let l = c .before in
-    record { most = l .loop .inv .0; before = λ k h e. l .loop .inv .1 k h (e ∙ sym (toZ-ofZ (start l .fits .station))); here = λ h. absurd (omega arith) }
+    record {
+      most = l .loop .inv .0;
+      before = λ k h e. l .loop .inv .1 k h (e ∙ sym (toZ-ofZ (start l .fits .station)));
+      here = λ h.
+          absurd (omega arith);
+    }
 
 pub place-of-spec : {M : Type 1} → statement M
 place-of-spec =
@@ -92,15 +79,15 @@ place-of-spec =
     (tie.spec
     Inv-loop
     μ-loop
-    mark-requires
+    (λ c κs. search needs)
     is-marked-requires
     returns
-    loop-holds
-    mul-same
-    shared-slice-copy-out-same
-    same-requires
+    (λ c. search needs)
+    (λ c. search needs)
+    (λ c. search needs)
+    (λ c κs. search needs)
     returns-2
-    add-i
-    loop-less
+    (λ c. search needs)
+    (λ c. search needs)
     loop-again
     returns-3)

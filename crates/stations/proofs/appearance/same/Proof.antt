@@ -1,5 +1,4 @@
 -- `same` compares the bits of two numbers.
--- Assumes nothing.
 use mir.Syntax.{w64}
 use mir.Val.{SFits}
 use Rattle.stations.proofs.Same.{same-bits}

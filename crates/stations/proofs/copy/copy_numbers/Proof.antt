@@ -1,5 +1,4 @@
 -- `copy_numbers` copies number by number: the pass of proofs/Copying.antt.
--- Assumes nothing.
 use Prim.Native.Nat.{_-_}
 use native.Mathlib.Omega.{arith}
 use lib.IntN.{pos}
@@ -18,29 +17,15 @@ Inv-loop source n to₀ i₀ to i = Copying source to₀ n i to
 abbrev μ-loop : tie.MeasureT-loop
 μ-loop source n to₀ i₀ to i = n - i
 
-held : (c : tie.After-z Inv-loop μ-loop) → SFits w64 (getD (c .before .before .before .args .from .now) (c .before .before .loop .i) (pos 0))
+held : (c : tie.After-z Inv-loop μ-loop)
+    → SFits w64 (getD (c .before .before .before .args .from .now) (c .before .before .loop .i) (pos 0))
 held c = search needs
 
 loop-holds : tie.Need-loop-holds Inv-loop μ-loop
 loop-holds c = copying-start _ _ _
 
-mul-z : tie.Need-mul-z Inv-loop μ-loop
-mul-z c = search needs
-
-shared-slice-copy-out-z : tie.Need-shared-slice-copy-out-z Inv-loop μ-loop
-shared-slice-copy-out-z c = search needs
-
-mul-z-2 : tie.Need-mul-z-2 Inv-loop μ-loop
-mul-z-2 c = search needs
-
 slice-set-from-z : tie.Need-slice-set-from-z Inv-loop μ-loop
 slice-set-from-z c = omega (arith, c .before .before .loop .inv .size, c .before .before .before .pre .1, c .before .loop-test .taken)
-
-add-i : tie.Need-add-i Inv-loop μ-loop
-add-i c = search needs
-
-loop-less : tie.Need-loop-less Inv-loop μ-loop
-loop-less c = search needs
 
 loop-again : tie.Need-loop-again Inv-loop μ-loop
 loop-again c =
@@ -61,12 +46,12 @@ copy-numbers-spec =
     Inv-loop
     μ-loop
     loop-holds
-    mul-z
-    shared-slice-copy-out-z
-    mul-z-2
+    (λ c. search needs)
+    (λ c. search needs)
+    (λ c. search needs)
     slice-set-from-z
-    add-i
-    loop-less
+    (λ c. search needs)
+    (λ c. search needs)
     loop-again
     same-length
     returns)

@@ -1,5 +1,4 @@
 -- `sum_rows` adds row after row: the pass of proofs/RowSums.antt.
--- Assumes nothing.
 use Prim.Native.Nat.{_-_, _<_}
 use mathlib.Core.Path.{ap, _∙_}
 use native.Mathlib.Omega.{arith}
@@ -25,20 +24,11 @@ loop-holds : tie.Need-loop-holds Inv-loop μ-loop
 unfolding none
 loop-holds c = summing-start _ _ _ (search needs) (λ j h. getD-replicate mostLines j none none h)
 
-mul-place : tie.Need-mul-place Inv-loop μ-loop
-mul-place c = search needs
-
-array-read-place : tie.Need-array-read-place Inv-loop μ-loop
-array-read-place c = search needs
-
 mul-before : tie.Need-mul-before Inv-loop μ-loop
 mul-before c = omega (arith, place-within c)
 
 array-copy-out-before : tie.Need-array-copy-out-before Inv-loop μ-loop
 array-copy-out-before c = place-within c
-
-entry-requires : tie.Need-entry-requires Inv-loop μ-loop
-entry-requires c κs = search needs
 
 add-requires : tie.Need-add-requires Inv-loop μ-loop
 unfolding none
@@ -52,12 +42,6 @@ mul-sums c = omega (arith, place-within (c .before .before .before))
 
 array-set-from-sums : tie.Need-array-set-from-sums Inv-loop μ-loop
 array-set-from-sums c = place-within (c .before .before .before)
-
-add-i : tie.Need-add-i Inv-loop μ-loop
-add-i c = search needs
-
-loop-less : tie.Need-loop-less Inv-loop μ-loop
-loop-less c = search needs
 
 loop-again : tie.Need-loop-again Inv-loop μ-loop
 unfolding none
@@ -76,15 +60,15 @@ sum-rows-spec =
     Inv-loop
     μ-loop
     loop-holds
-    mul-place
-    array-read-place
+    (λ c. search needs)
+    (λ c. search needs)
     mul-before
     array-copy-out-before
-    entry-requires
+    (λ c κs. search needs)
     add-requires
     mul-sums
     array-set-from-sums
-    add-i
-    loop-less
+    (λ c. search needs)
+    (λ c. search needs)
     loop-again
     returns)

@@ -1,5 +1,4 @@
 -- `put_numbers` sets the six numbers one by one.
--- Assumes nothing.
 use native.Mathlib.Omega.{arith}
 use lib.ListN.{length-set}
 use mir.Syntax.{w64}
@@ -13,30 +12,6 @@ use Rattle.stations.proofs.put.put_numbers.Tie as tie
 
 held : (s : tie.Start) → SFits w64 (s .args .station) × SFits w64 (s .args .s .season)
 held s = search needs
-
-cast-seasons : tie.Need-cast-seasons
-cast-seasons c = search needs
-
-cast-safe : tie.Need-cast-safe
-cast-safe c = search needs
-
-cast-not-safe : tie.Need-cast-not-safe
-cast-not-safe c = search needs
-
-cast-undecided : tie.Need-cast-undecided
-cast-undecided c = search needs
-
-slice-set-from-station : tie.Need-slice-set-from-station
-slice-set-from-station c = search needs
-
-slice-set-from-seasons : tie.Need-slice-set-from-seasons
-slice-set-from-seasons c = search needs
-
-slice-set-from-safe : tie.Need-slice-set-from-safe
-slice-set-from-safe c = search needs
-
-slice-set-from-not-safe : tie.Need-slice-set-from-not-safe
-slice-set-from-not-safe c = search needs
 
 slice-set-from-undecided : tie.Need-slice-set-from-undecided
 slice-set-from-undecided c = simp length-set (omega (arith, c .before .before .before .before .before .pre .1))
@@ -52,21 +27,29 @@ unfolding six
 returns c =
     let s = c .before .before .before .before .before in
     let h = held s in
-    rw (toZ-ofZ (h .0), toZ-pos w64 {n = s .args .s .seasons} (omega arith), toZ-pos w64 {n = s .args .s .safe} (omega arith), toZ-pos w64 {n = s .args .s .«not_safe»} (omega arith), toZ-pos w64 {n = s .args .s .undecided} (omega arith), toZ-ofZ (h .1))
+    rw (
+      toZ-ofZ (h .0),
+      toZ-pos w64 {n = s .args .s .seasons} (omega arith),
+      toZ-pos w64 {n = s .args .s .safe} (omega arith),
+      toZ-pos w64
+          {n = s .args .s .«not_safe»} (omega arith),
+      toZ-pos w64 {n = s .args .s .undecided} (omega arith),
+      toZ-ofZ (h .1),
+    )
     (six-set (s .args .part .now) _ _ _ _ _ _ (s .pre .1))
 
 pub put-numbers-spec : {M : Type 1} → statement M
 put-numbers-spec =
     tie.close
     (tie.spec
-    cast-seasons
-    cast-safe
-    cast-not-safe
-    cast-undecided
-    slice-set-from-station
-    slice-set-from-seasons
-    slice-set-from-safe
-    slice-set-from-not-safe
+    (λ c. search needs)
+    (λ c. search needs)
+    (λ c. search needs)
+    (λ c. search needs)
+    (λ c. search needs)
+    (λ c. search needs)
+    (λ c. search needs)
+    (λ c. search needs)
     slice-set-from-undecided
     slice-set-from-season
     same-length

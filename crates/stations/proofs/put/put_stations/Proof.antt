@@ -1,5 +1,4 @@
 -- `put_stations` puts station after station: the pass of proofs/Tables.antt.
--- Assumes nothing.
 use Prim.Native.Nat.{_-_}
 use native.Mathlib.Omega.{arith}
 use lib.IntN.{pos}
@@ -25,18 +24,6 @@ held c = search needs
 loop-holds : tie.Need-loop-holds Inv-loop μ-loop
 loop-holds c = putting-start _ _ _ _
 
-mul-station : tie.Need-mul-station Inv-loop μ-loop
-mul-station c = search needs
-
-array-copy-out-station : tie.Need-array-copy-out-station Inv-loop μ-loop
-array-copy-out-station c = search needs
-
-mul-s : tie.Need-mul-s Inv-loop μ-loop
-mul-s c = search needs
-
-array-copy-out-s : tie.Need-array-copy-out-s Inv-loop μ-loop
-array-copy-out-s c = search needs
-
 put-station-requires : tie.Need-put-station-requires Inv-loop μ-loop
 unfolding none
 put-station-requires c κs =
@@ -47,15 +34,13 @@ put-station-requires c κs =
 add-i : tie.Need-add-i Inv-loop μ-loop
 add-i c = omega (arith, c .before .before .before .before .before .before .loop .inv .most)
 
-loop-less : tie.Need-loop-less Inv-loop μ-loop
-loop-less c = search needs
-
 loop-again : tie.Need-loop-again Inv-loop μ-loop
 unfolding none
 loop-again c =
     let p = c .before in
     let t = p .before .before .before .before in
-    putting-next (t .before .loop .inv) (t .loop-test .taken) (t .before .before .pre .1 .1) (rw (← toZ-ofZ (held (p .before .before .before))) (p .put-station .ensures))
+    putting-next (t .before .loop .inv) (t .loop-test .taken) (t .before .before .pre .1 .1)
+    (rw (← toZ-ofZ (held (p .before .before .before))) (p .put-station .ensures))
 
 same-length : tie.Need-same-length Inv-loop μ-loop
 same-length c = c .before .loop .inv .size
@@ -70,13 +55,13 @@ put-stations-spec =
     Inv-loop
     μ-loop
     loop-holds
-    mul-station
-    array-copy-out-station
-    mul-s
-    array-copy-out-s
+    (λ c. search needs)
+    (λ c. search needs)
+    (λ c. search needs)
+    (λ c. search needs)
     put-station-requires
     add-i
-    loop-less
+    (λ c. search needs)
     loop-again
     same-length
     returns)

@@ -1,5 +1,4 @@
 -- `first_safe` tries yard after yard: the search of proofs/Trying.antt. A break out of both loops is a return from within the inner one.
--- Assumes nothing.
 use Prim.Native.Nat.{_+_, _-_, _≤_}
 use mathlib.Core.Path.{_≡_, sym, ap, _∙_}
 use mathlib.Core.Bool.{true}
@@ -7,20 +6,23 @@ use mathlib.Core.List.{_++_}
 use native.Mathlib.Omega.{arith}
 use borrow.Author.Tests.{not-true, not-false}
 use Rattle.yards.specs.Yards.{fits, yard, yardsOf, yardsFrom, isSafe}
-use Rattle.yards.proofs.Trying.{lines-next, lines-skipped, lines-end, rods-next, rods-end, Trying, trying-start, trying-few, trying-end, trying-found, trying-next}
+use Rattle.yards.proofs.Trying.{lines-next, lines-skipped, lines-end, rods-next, rods-end, Trying, trying-start, trying-few}
+use Rattle.yards.proofs.Trying.{trying-end, trying-found, trying-next}
 use Rattle.yards.proofs.Sound.{yard-bounds}
 use Rattle.yards.proofs.search.first_safe.Statement.{statement}
 use Rattle.yards.proofs.search.first_safe.Tie as tie
 
 -- rods from the k-th on are left of this count of lines, and then the greater counts
 abbrev Inv-loop : tie.InvT-loop
-Inv-loop c side answer₀ tried₀ lines k₀ answer tried k = (k ≤ 11) × Trying c side tried answer (yardsOf c side lines k ++ yardsFrom c side (lines + 1))
+Inv-loop c side answer₀ tried₀ lines k₀ answer tried k =
+    (k ≤ 11) × Trying c side tried answer (yardsOf c side lines k ++ yardsFrom c side (lines + 1))
 
 abbrev μ-loop : tie.MeasureT-loop
 μ-loop c side answer₀ tried₀ lines k₀ answer tried k = 11 - k
 
 abbrev Inv-counts : tie.InvT-counts
-Inv-counts c side answer₀ tried₀ lines₀ answer tried lines = (2 ≤ lines) × (lines ≤ 26) × Trying c side tried answer (yardsFrom c side lines)
+Inv-counts c side answer₀ tried₀ lines₀ answer tried lines =
+    (2 ≤ lines) × (lines ≤ 26) × Trying c side tried answer (yardsFrom c side lines)
 
 abbrev μ-counts : tie.MeasureT-counts
 μ-counts c side answer₀ tried₀ lines₀ answer tried lines = 26 - lines
@@ -40,8 +42,12 @@ counts-less c = omega arith
 counts-again : tie.Need-counts-again Inv-loop μ-loop Inv-counts μ-counts
 counts-again c =
     let l = c .before .before .before in
-    let s = l .before in
-    (omega arith, omega arith, rw (lines-skipped (s .args .c) (s .args .side) (l .counts .lines) (omega arith) (sym (c .before .fits2 .ensures) ∙ not-true _ (c .if1 .taken))) at (l .counts .inv .2))
+    let s = l .before in (
+      omega arith,
+      omega arith,
+      rw (lines-skipped (s .args .c) (s .args .side) (l .counts .lines) (omega arith)
+          (sym (c .before .fits2 .ensures) ∙ not-true _ (c .if1 .taken))) at (l .counts .inv .2),
+    )
 
 loop-holds : tie.Need-loop-holds Inv-loop μ-loop Inv-counts μ-counts
 loop-holds c =
@@ -59,7 +65,8 @@ yard-requires : tie.Need-yard-requires Inv-loop μ-loop Inv-counts μ-counts
 yard-requires c κs = omega arith
 
 -- this count of lines is not skipped
-fitting : (c : tie.Else1 Inv-loop μ-loop Inv-counts μ-counts) → fits (c .before .before .before .before .args .side) (c .before .before .before .counts .lines) ≡ true
+fitting : (c : tie.Else1 Inv-loop μ-loop Inv-counts μ-counts)
+    → fits (c .before .before .before .before .args .side) (c .before .before .before .counts .lines) ≡ true
 fitting c = sym (c .before .fits2 .ensures) ∙ not-false _ (c .if1 .left)
 
 is-safe-requires : tie.Need-is-safe-requires Inv-loop μ-loop Inv-counts μ-counts
@@ -77,8 +84,11 @@ loop-less c = omega arith
 loop-again : tie.Need-loop-again Inv-loop μ-loop Inv-counts μ-counts
 loop-again c =
     let w = c .before in
-    let i = w .before .before in
-    (omega arith, trying-next (i .before .loop .inv .1) (rods-next _ _ _ _ _ (omega arith) (fitting (i .before .before))) (sym (w .is-safe .ensures ∙ ap isSafe (w .before .yard .ensures)) ∙ c .if2 .left))
+    let i = w .before .before in (
+      omega arith,
+      trying-next (i .before .loop .inv .1) (rods-next _ _ _ _ _ (omega arith) (fitting (i .before .before)))
+          (sym (w .is-safe .ensures ∙ ap isSafe (w .before .yard .ensures)) ∙ c .if2 .left),
+    )
 
 add-lines-2 : tie.Need-add-lines-2 Inv-loop μ-loop Inv-counts μ-counts
 add-lines-2 c = omega arith
@@ -99,7 +109,8 @@ unfolding yard
 returns-2 c =
     let w = c .before in
     let i = w .before .before in
-    trying-found (i .before .loop .inv .1) (rods-next _ _ _ _ _ (omega arith) (fitting (i .before .before))) (sym (w .is-safe .ensures ∙ ap isSafe (w .before .yard .ensures)) ∙ c .if2 .taken)
+    trying-found (i .before .loop .inv .1) (rods-next _ _ _ _ _ (omega arith) (fitting (i .before .before)))
+    (sym (w .is-safe .ensures ∙ ap isSafe (w .before .yard .ensures)) ∙ c .if2 .taken)
 
 pub first-safe-spec : {M : Type 1} → statement M
 first-safe-spec =

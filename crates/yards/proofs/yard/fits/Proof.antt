@@ -1,5 +1,4 @@
 -- `fits` follows the three tests.
--- Assumes nothing.
 use Rattle.text.specs.Text.{same}
 use Rattle.case.specs.Columns.{columns, inRange, nameIndex}
 use Rattle.case.specs.Parts.{rangeAt}
@@ -8,15 +7,6 @@ use borrow.Author.Needs.{needs}
 use borrow.Author.Tests.{eq-eqb, ne-eqb, le-leb, lt-leb}
 use Rattle.yards.proofs.yard.fits.Statement.{statement}
 use Rattle.yards.proofs.yard.fits.Tie as tie
-
-sub-gaps : tie.Need-sub-gaps
-sub-gaps c = search needs
-
-div-space : tie.Need-div-space
-div-space c = search needs
-
-rem-if1 : tie.Need-rem-if1
-rem-if1 c = search needs
 
 returns : tie.Need-returns
 unfolding fits
@@ -31,4 +21,4 @@ unfolding fits spacing spaceRange rangeAt columns inRange nameIndex same
 returns-3 c = rw (eq-eqb _ _ (c .before .if1 .left), le-leb _ _ (c .if2 .left))
 
 pub fits-spec : {M : Type 1} → statement M
-fits-spec = tie.close (tie.spec sub-gaps div-space rem-if1 returns returns-2 returns-3)
+fits-spec = tie.close (tie.spec (λ c. search needs) (λ c. search needs) (λ c. search needs) returns returns-2 returns-3)

@@ -1,17 +1,9 @@
 -- `yard` sets lines, spacing, rods and place.
--- Assumes nothing.
-use Prim.Native.Nat.{_-_}
 use Rattle.yards.specs.Yards.{yard, spacing}
 use borrow.Author.Tests.{eq-eqb, ne-eqb}
 use borrow.Author.Needs.{needs}
 use Rattle.yards.proofs.yard.yard.Statement.{statement}
 use Rattle.yards.proofs.yard.yard.Tie as tie
-
-sub-y : tie.Need-sub-y
-sub-y c = search needs
-
-div-y : tie.Need-div-y
-div-y c = search needs
 
 returns : tie.Need-returns
 unfolding yard spacing
@@ -22,4 +14,4 @@ unfolding yard spacing
 returns-2 c = rw (ne-eqb _ _ (c .if1 .left))
 
 pub yard-spec : {M : Type 1} → statement M
-yard-spec = tie.close (tie.spec sub-y div-y returns returns-2)
+yard-spec = tie.close (tie.spec (λ c. search needs) (λ c. search needs) returns returns-2)
