@@ -1,8 +1,8 @@
 """Sheets carried over to today's names and back, after request (e) of document 02, with a judge of an
-answer by the request's own words; and the sheets that the program `carries` is run on.
+answer by the request's own words; and the sheets that the program `sheets` is asked to carry, which
+tests/stored.py stores.
 
-    python3 tests/carry.py --write                          crates/carries/stdin
-    python3 tests/carry.py [--seed S] [--count N]           random sheets through target/bin/carries
+    python3 tests/carry.py [--seed S] [--count N]           random sheets through target/bin/sheets
 """
 
 import argparse
@@ -12,18 +12,16 @@ import sys
 from collections import Counter, namedtuple
 from functools import lru_cache
 from itertools import product
-from pathlib import Path
 from types import SimpleNamespace
 
 import calculator as calc
-import differential
+import sheets
 from calculator import CLOCKS, COUNTS, FIELD_END, LINE_END, Refusal
+from printed import SHEET_END, sheet_answers
 
-PROGRAM = "target/bin/carries"
-FILE = Path(__file__).parents[1] / "crates" / "carries" / "stdin"
-MOST_BYTES = 524288  # what the program reads
+PROGRAM = "target/bin/sheets"
+KIND = b"carry,"
 BUFFER = calc.MAX_BYTES  # the bytes of its buffer
-SHEET_END = b"\0"
 KEPT = "kept,"
 UNKNOWN = "unknown\n"
 SEED, RANDOM_SHEETS = 5, 150
@@ -193,7 +191,7 @@ def both_say(case):
     return calc.with_lines(calc.with_one_time(case, case.shock), case.across)._replace(hz=OLD_FREQUENCY)
 
 
-class Sheet(differential.Sheet):
+class Sheet(sheets.Sheet):
     """A sheet of a form with cases that both forms can say."""
 
     def __init__(self, rng, form):
@@ -244,19 +242,19 @@ def change_and_damage(sheet, rng):
 
 CHANGES = (other_times, other_counts, other_frequency)
 LINE_DAMAGES = (
-    differential.wrong_form, differential.too_few_values, differential.too_many_values, differential.empty_line,
-    out_of_range, differential.disagreement, differential.repeated_key)
+    sheets.wrong_form, sheets.too_few_values, sheets.too_many_values, sheets.empty_line,
+    out_of_range, sheets.disagreement, sheets.repeated_key)
 DAMAGES = LINE_DAMAGES + (
-    differential.unknown_name, differential.repeated_name, differential.fewer_names, differential.surplus_name,
-    differential.no_value_line, other_name)
+    sheets.unknown_name, sheets.repeated_name, sheets.fewer_names, sheets.surplus_name,
+    sheets.no_value_line, other_name)
 BYTE_DAMAGES = (
-    differential.empty, differential.no_last_line_end, differential.carriage_returns, differential.byte_order_mark,
-    differential.only_one_byte_value, differential.changed_byte, differential.removed_byte, differential.added_byte,
-    differential.cut_off, differential.noise)
+    sheets.empty, sheets.no_last_line_end, sheets.carriage_returns, sheets.byte_order_mark,
+    sheets.only_one_byte_value, sheets.changed_byte, sheets.removed_byte, sheets.added_byte,
+    sheets.cut_off, sheets.noise)
 CHOICES = {
-    FORMER: DAMAGES * 2 + BYTE_DAMAGES + (differential.nothing,) * 20,
+    FORMER: DAMAGES * 2 + BYTE_DAMAGES + (sheets.nothing,) * 20,
     PRESENT: DAMAGES + BYTE_DAMAGES + CHANGES * 4 + (several_changes, change_and_damage) * 6
-    + (differential.nothing,) * 20,
+    + (sheets.nothing,) * 20,
 }
 
 
@@ -297,7 +295,7 @@ def large_sheets():
     for values in ({"wire": 10}, {"along": 3}, {"hz": 50}):
         yield sheet_text(PRESENT.names, [*cases, last._replace(**values)])
     short = sheet_text(FORMER.names, many_cases(widest, FORMER, 1))
-    yield from (differential.filled_up(short, calc.MAX_BYTES + more) for more in (0, 1))
+    yield from (sheets.filled_up(short, calc.MAX_BYTES + more) for more in (0, 1))
 
 
 def changed_sheets():
@@ -331,7 +329,7 @@ def rooms_for(sheet, rng):
 
 def record(rooms, sheet):
     """What the program reads for a sheet."""
-    return b"%s\n%s%s" % (",".join(map(str, rooms)).encode("ascii"), sheet, SHEET_END)
+    return b"%s%s\n%s%s" % (KIND, ",".join(map(str, rooms)).encode("ascii"), sheet, SHEET_END)
 
 
 def random_sheets(seed, count):
@@ -358,7 +356,7 @@ def questions(text):
     """What a stored input asks: way, sheet and buffer length; no way where the length is none."""
     for stored in text.split(SHEET_END)[:-1]:
         lengths, _, sheet = stored.partition(LINE_END)
-        for field in lengths.split(FIELD_END):
+        for field in lengths.removeprefix(KIND).split(FIELD_END):
             known = calc.has_value_form(field) and int(field) <= BUFFER
             for way in WAYS if known else (None,):
                 yield way, sheet, int(field) if known else None
@@ -371,7 +369,9 @@ def printed(given):
 
 
 def run_program(text):
-    return subprocess.run([PROGRAM], input=text, stdout=subprocess.PIPE, timeout=600, check=True).stdout.decode("ascii")
+    """What the program prints for a stored input, without the first lines."""
+    run = subprocess.run([PROGRAM], input=text, stdout=subprocess.PIPE, timeout=600, check=True)
+    return "".join(sheet_answers(text, run.stdout.decode("ascii")))
 
 
 def all_printed(text):
@@ -398,11 +398,7 @@ def main():
     parser = argparse.ArgumentParser(description=__doc__.split("\n")[0])
     parser.add_argument("--seed", type=int, default=1)
     parser.add_argument("--count", type=int, default=500, help="sheets of each form")
-    parser.add_argument("--write", action="store_true", help="write the stored sheets and end")
     asked = parser.parse_args()
-    if asked.write:
-        FILE.write_bytes(all_records())
-        return 0
     tally, right = compare(asked.seed, asked.count)
     for (way, number), count in sorted(tally.items()):
         print(f"{way}, {f'refused with {number}' if number else 'carried'}: {count}")

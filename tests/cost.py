@@ -7,9 +7,8 @@ It needs valgrind. The stored sheet has squares only; it is measured as it is, a
 in their place. Each figure is a difference of two runs, on the whole sheet and on its first two lines,
 so that the program's start and the line of names do not count. A sheet whose last line repeats the
 first one's station and season is judged to its end and not written, which tells judging from working.
-What the functions in PRINTING take is left out; the little of the printing that is compiled into `main`
-stays in the second figure. With --beside the whole of a line by another program is told too, and how many
-times the first it is; what is compiled into that program's `main` of its printing stays in.
+The second figure has the line's text in it. With --beside the whole of a line by another program is told too,
+and how many times the first it is.
 """
 
 import argparse
@@ -20,22 +19,16 @@ from pathlib import Path
 
 PROGRAM = "target/bin/verdict"
 SHEET = Path(__file__).parents[1] / "crates" / "rows" / "stdin"
-PRINTING = ("print::signed", "write.c:write")
 SHORT = 2  # lines; fewer cannot repeat one
 APART, MIDDLE = 12, 14  # unequal counts are so far apart; from the middle on along is below across
 
 
 def instructions(program, lines):
-    """All instructions of a run on a sheet, without those of printing."""
+    """All instructions of a run on a sheet."""
     with tempfile.NamedTemporaryFile() as profile:
         run = ("valgrind", "--tool=callgrind", f"--callgrind-out-file={profile.name}", program)
         subprocess.run(run, input=b"\n".join(lines) + b"\n", capture_output=True, check=True)
-        shown = subprocess.run(("callgrind_annotate", "--threshold=100", profile.name),
-                               capture_output=True, check=True, text=True).stdout
-    counts = re.findall(r"^ *([\d,]+) \([ \d.]+%\)  (.+)$", shown, flags=re.MULTILINE)
-    counts = [(int(count.replace(",", "")), name) for count, name in counts]
-    total = next(count for count, name in counts if name == "PROGRAM TOTALS")
-    return total - sum(count for count, name in counts if any(part in name for part in PRINTING))
+        return int(re.search(r"^totals: (\d+)", Path(profile.name).read_text(), flags=re.MULTILINE)[1])
 
 
 def repeated(lines, count):

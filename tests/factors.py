@@ -1,7 +1,7 @@
-"""Asks the program `asked` for the factor of every clear time, X/R and frequency, 239,360 in all, and
+"""Asks the program `questions` for the factor of every clear time, X/R and frequency, 239,360 in all, and
 judges each pair by the calculator.
 
-    rt check asked && python3 tests/factors.py [--program target/bin/asked]
+    rt check questions && python3 tests/factors.py [--program target/bin/questions]
 
 Every pair is judged at depth 12, and a share at depth 3 too. What is wrong is printed, and the exit status
 is then 1; at the end stand the count and the widest pair. It takes some minutes and is not in the gate.
@@ -15,11 +15,12 @@ from itertools import product
 from multiprocessing import Pool
 
 import calculator as calc
-from differential import FREQUENCIES, printed_by, span_of
+from differential import printed_by
 from printed import lines_of, read_asked
+from sheets import FREQUENCIES, span_of
 from questions import YARD, line
 
-PROGRAM = "target/bin/asked"
+PROGRAM = "target/bin/questions"
 PROCESSES = 2
 DEPTHS, SHALLOW_DEPTHS = (12,), (3,)
 SHALLOW_EVERY = 16  # one in so many is judged at the shallow depth too

@@ -1,6 +1,6 @@
-"""The fewest lines for a given side, after request (k) of document 02, beside the program `asked`.
+"""The fewest lines for a given side, after request (k) of document 02, beside the program `questions`.
 
-    rt check asked rows && python3 tests/fewest.py [--seed S] [--count N] [--programs target/bin]
+    rt check questions rows && python3 tests/fewest.py [--seed S] [--count N] [--programs target/bin]
 
 The list of yards and the refusals are written from the document; the verdict of each yard is that of the
 program `rows`, or, for the stored questions, one that every right program gives.
@@ -14,6 +14,7 @@ from pathlib import Path
 
 import calculator as calc
 import differential
+import sheets
 from calculator import Refusal
 from printed import lines_of
 
@@ -74,7 +75,7 @@ def told_by_all(case):
     shares = (ends.mesh.upper / ends.tolerable_touch.lower, ends.step.upper / ends.tolerable_step.lower)
     if max(shares) < 1 - CLEAR_OF:
         return True
-    return False if max(shares) > 1 + CLEAR_OF or differential.undecided_for_all(case) else None
+    return False if max(shares) > 1 + CLEAR_OF or sheets.undecided_for_all(case) else None
 
 
 class Unsure(Exception):
@@ -105,7 +106,7 @@ def line(case, side):
 
 def random_question(rng):
     """A sound case whose unread values are anything, and a side that many counts divide."""
-    case = differential.random_case(rng)._replace(rodlen=rng.choice((1000, 2500, 7500, 10000)))
+    case = sheets.random_case(rng)._replace(rodlen=rng.choice((1000, 2500, 7500, 10000)))
     case = case._replace(fault=rng.choice((100, 1000, 3180, 10000, 40000)), split=rng.choice((50, 300, 600, 1000)))
     case = case._replace(**{name: rng.choice((0, 1, 5, 999999)) for name in UNREAD})
     side = rng.choice((2500, 5000, 7500, 27720, 30000, 55440, 60000, 70000, 83160, 166320, 720000,
@@ -177,7 +178,7 @@ def main():
     options = parser.parse_args()
     rng = random.Random(options.seed)
     some = [random_question(rng) for _ in range(options.count)]
-    told = asked(options.programs / "asked", some)
+    told = asked(options.programs / "questions", some)
     wrong = [(question, got) for question, got in zip(some, told)
              if got != by_rows(options.programs / "rows", *question)]
     found = sum(got[0] == "found" for got in told)

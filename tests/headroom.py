@@ -1,6 +1,6 @@
-"""The headroom of a case, beside the program `asked`.
+"""The headroom of a case, beside the program `questions`.
 
-    rt check asked && python3 tests/headroom.py [--seed S] [--count N] [--program target/bin/asked]
+    rt check questions && python3 tests/headroom.py [--seed S] [--count N] [--program target/bin/questions]
 
 "After the checks of one case (5, 6), the greatest fault current in 100..80000 at which the case, all else
 equal, is answered safe, or none." Exact fractions and the allowed widths tell up to which fault current
@@ -15,13 +15,13 @@ import subprocess
 from fractions import Fraction
 
 import calculator as calc
-import differential
+import sheets
 from calculator import Case, Refusal
 from printed import lines_of, read_asked, whole
 
 KIND, NONE = "headroom", "none"
-PROGRAM = "target/bin/asked"
-LEAST, MOST = differential.span_of("fault")
+PROGRAM = "target/bin/questions"
+LEAST, MOST = sheets.span_of("fault")
 DEPTH = 9
 SEED, STORED = 1, 60
 MOST_ROWS = 8  # of a stored question
@@ -138,7 +138,7 @@ def read_answer(text):
 def ending_at(rng, fault):
     """A case whose headroom is this fault current, whatever right ends its rows have."""
     while True:
-        case = differential.random_case(rng)._replace(split=1000)
+        case = sheets.random_case(rng)._replace(split=1000)
         known = Known(case)
         limits = [getattr(known.ends, limit).lower / getattr(known.ends, name).upper
                   for name, limit in LIMITS.items() if getattr(known.ends, name).upper > 0]
@@ -161,7 +161,7 @@ def stored():
     """Random yards, a few rows of each, most of them with a headroom inside the range."""
     rng, cases = random.Random(SEED), []
     while len(cases) < STORED:
-        case = differential.random_case(rng)
+        case = sheets.random_case(rng)
         least, most = between(case)
         ends_inside = LEAST < least and most < MOST
         if most - least + 2 <= MOST_ROWS and (ends_inside or rng.random() < 0.1):
@@ -226,7 +226,7 @@ def main():
     parser.add_argument("--program", default=PROGRAM)
     options = parser.parse_args()
     rng = random.Random(options.seed)
-    cases = [differential.random_case(rng) for _ in range(options.count)]
+    cases = [sheets.random_case(rng) for _ in range(options.count)]
     told = [read_answer(text) for text in answers(options.program, [line(case) for case in cases])]
     near = [case._replace(fault=fault)
             for case, got in zip(cases, told)

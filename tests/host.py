@@ -17,6 +17,7 @@ from itertools import count as numbers
 
 import calculator as calc
 import differential
+import sheets
 from calculator import Refusal
 
 HARNESS = "target/host/harness"
@@ -87,7 +88,7 @@ class Harness:
 
 def random_sheets(seed):
     for number in numbers():
-        yield differential.numbered_sheet(seed, number)
+        yield sheets.numbered_sheet(seed, number)
 
 
 def short_sheets(seed):
@@ -97,7 +98,7 @@ def short_sheets(seed):
 def sound_sheets(seed):
     for number in numbers():
         rng = random.Random(f"{seed},{number}")
-        yield rng, differential.sheet_of([differential.random_case(rng)]), "nothing"
+        yield rng, sheets.sheet_of([sheets.random_case(rng)]), "nothing"
 
 
 def run(harness, sheets, count):

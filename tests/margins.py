@@ -1,6 +1,5 @@
-"""How far each row is above or below what is tolerable, station by station with the worst row first: the numbers and
-the order in whole numbers from the rows that the program `rows` prints, a judge of what the program `margins` prints
-beside them, and the sheet that it is run on.
+"""How far each row is above or below what is tolerable, in the sheet's order: the numbers in whole numbers from the rows
+that the program `rows` prints, a judge of what the program `margins` prints beside them, and the sheet that it is run on.
 
     python3 tests/margins.py --write                   crates/margins/stdin, and by target/bin/rows its stdout
     python3 tests/margins.py [--seed S] [--count N]    random sheets through target/bin/rows and target/bin/margins
@@ -16,6 +15,7 @@ from pathlib import Path
 import calculator as calc
 import carry
 import differential
+import sheets
 import summary
 from calculator import Case, Refusal
 from printed import MARGIN_NAMES, WORDS, read_margins, read_rows
@@ -28,7 +28,7 @@ Margin = namedtuple("Margin", "station season verdict mesh step")
 
 
 # --------------------------------------------------------------------------
-# The numbers and their order.
+# The numbers.
 # --------------------------------------------------------------------------
 
 def above(voltage, limit):
@@ -43,19 +43,9 @@ def margin_of(row):
                   above(pairs.step[1], pairs.tolerable_step[0]))
 
 
-def worst(margin):
-    """The greater of the two numbers."""
-    return max(margin.mesh, margin.step)
-
-
-def in_order(margins):
-    """Stations by their first line; of each the worst first, the earlier line on a tie, for a sort keeps it."""
-    stations = summary.stations_of(margins)
-    return sorted(margins, key=lambda margin: (stations.index(margin.station), -worst(margin)))
-
-
 def margins_of(rows):
-    return in_order([margin_of(row) for row in rows])
+    """One for each row, in the order of the rows."""
+    return [margin_of(row) for row in rows]
 
 
 def text_of(answer):
@@ -122,7 +112,7 @@ def by_chance(rng):
     """Random stations with one to four seasons."""
     for count, station in enumerate(RANDOM_STATIONS):
         own = rng.sample(range(1, 5), 1 + count % 4)
-        yield seasons(station, [(season, differential.random_case(rng)) for season in own])
+        yield seasons(station, [(season, sheets.random_case(rng)) for season in own])
 
 
 def scattered(rng, stations):
@@ -153,12 +143,12 @@ def write():
 
 def random_sheet(seed, number):
     """In turn a sheet sound or damaged, and a sound one with the lines of a few stations scattered, some equal."""
-    rng, text, _ = differential.numbered_sheet(seed, number)
+    rng, text, _ = sheets.numbered_sheet(seed, number)
     if number % 2 == 0:
         return text
     stations = rng.sample((*range(1, 30), 65535, 65534), rng.randint(1, 5))
     cases = summary.scattered(rng, rng.randint(1, 4 * len(stations)), stations)
-    return differential.sheet_of(summary.with_ties(rng, cases))
+    return sheets.sheet_of(summary.with_ties(rng, cases))
 
 
 def compared(directory, text):

@@ -13,6 +13,7 @@ from fractions import Fraction
 
 import calculator as calc
 import differential
+import sheets
 
 DEPTH = 9
 NEAR = Fraction(1, 1000)
@@ -22,11 +23,11 @@ MESH, STEP = map(calc.pair_place, ("mesh", "step"))
 
 def at_limit(rng):
     """A random case with the fault at which mesh is near tolerable touch, or nothing."""
-    case = differential.random_case(rng)
+    case = sheets.random_case(rng)
     ends = calc.exact_ends(case, DEPTH)
     part = ends.tolerable_touch.lower / ends.mesh.lower * (1 + NEAR * Fraction(rng.randint(-999, 999), 1000))
     fault = round(case.fault * part)
-    low, high = differential.span_of("fault")
+    low, high = sheets.span_of("fault")
     if not low <= fault <= high:
         return None
     case = case._replace(fault=fault)

@@ -15,11 +15,12 @@ import random
 import calculator as calc
 import differential
 import near_limit
+import sheets
 
 
 def less(name, change):
     """A change to one value, where that is in range and less."""
-    low, _ = differential.span_of(name)
+    low, _ = sheets.span_of(name)
 
     def changed(case, rng):
         before = getattr(case, name)
@@ -35,8 +36,8 @@ def heavier(case, rng):
 
 def traded(case, rng):
     """Another split, and the greatest fault current with which no more enters the grid."""
-    split = rng.randint(*differential.span_of("split"))
-    low, high = differential.span_of("fault")
+    split = rng.randint(*sheets.span_of("split"))
+    low, high = sheets.span_of("fault")
     fault = min(case.fault * case.split // split, high)
     return case._replace(fault=fault, split=split) if low <= fault else None
 

@@ -3,6 +3,8 @@
 import calculator as calc
 from calculator import Refusal
 
+SHEET_END = b"\0"  # ends a part of the input of `sheets`
+
 # The columns of the program `rows`, in the order of document 01's result table with request (d)'s.
 ROW_NAMES = (
     "station", "season", "verdict", "size_kcmil",
@@ -21,8 +23,7 @@ WORDS = ("safe", "unsafe", "undecided")
 # The columns of the program `margins`.
 MARGIN_NAMES = (
     "station", "season", "verdict",
-    "mesh_upper_above_tolerable_touch_lower_tenths_of_percent",
-    "step_upper_above_tolerable_step_lower_tenths_of_percent",
+    "mesh_excess_per_mille", "step_excess_per_mille",
 )
 
 
@@ -39,6 +40,16 @@ def lines_of(text):
     if not text.endswith("\n"):
         raise ValueError("the last line does not end")
     return text[:-1].split("\n")
+
+
+def sheet_answers(asked, told):
+    """What `sheets` printed for each part of its input, without the part's first line and the empty line after the answers."""
+    parts = asked.split(SHEET_END)[:-1]
+    *printed, rest = told.split("\n\n")
+    heads = [part.split(b"\n")[0].decode("ascii") + "\n" for part in parts]
+    if rest or len(printed) != len(parts) or not all(map(str.startswith, printed, heads)):
+        raise ValueError("not an answer to each part, after its first line")
+    return [answers[len(head) :] + "\n" for answers, head in zip(printed, heads)]
 
 
 def read_answer(text, names, read_line):
@@ -66,7 +77,7 @@ def read_rows(text):
 
 
 def read_asked(text):
-    """An answer of the program `asked`: a refusal, or a tuple of numbers."""
+    """An answer of the program `questions`: a refusal, or a tuple of numbers."""
     fields = text.split(",")
     if fields[0] == "refused":
         return Refusal(*(whole(field) for field in fields[1:]))

@@ -1,4 +1,4 @@
-"""Makes the questions that the program `asked` is run on: crates/asked/stdin.
+"""Makes the questions that the program `questions` is run on, crates/questions/stdin, and gathers those on readings and staged tests.
 
     python3 tests/questions.py --write
 
@@ -15,12 +15,15 @@ from pathlib import Path
 import calculator as calc
 import fewest
 import headroom
+import readings
+import staged
 import working
 from calculator import Case
-from differential import FREQUENCIES, case_at_limit, clear_time, random_case, span_of
+from printed import lines_of
+from sheets import FREQUENCIES, case_at_limit, clear_time, random_case, span_of
 
-FILE = Path(__file__).parents[1] / "crates" / "asked" / "stdin"
-MOST_BYTES = 524288  # what the program reads
+FILE = Path(__file__).parents[1] / "crates" / "questions" / "stdin"
+MOST_BYTES = 2097152  # fewer than these are read
 SEED, RANDOM_RECORDS = 1, 50
 
 RECORD_KINDS = ("factor", "size", "tolerable", "resistance", "row")
@@ -363,14 +366,31 @@ def no_questions():
 
 
 def questions():
-    """All of them, each once, in a fixed order."""
+    """All on cases and logarithms, each once, in a fixed order."""
     series = (factors, sizes, tolerable, worked, clocks, resistances, counts, edges, broken,
               random_records, logarithms, searches, headrooms, workings, no_questions)
     return list(dict.fromkeys(question for make in series for question in make()))
 
 
+def measured():
+    """Those on lists of readings and on staged tests, each after its kind."""
+    yield from (f"{readings.KIND},{numbers}" for numbers in readings.lines())
+    yield from (f"{staged.KIND},{numbers}" for numbers in staged.all_lines())
+
+
 def text():
-    return "".join(question + "\n" for question in questions())
+    return "".join(question + "\n" for question in (*questions(), *measured()))
+
+
+def stored():
+    """The stored lines, and what is printed for each."""
+    return [lines_of(file.read_text(encoding="ascii")) for file in (FILE, FILE.with_name("stdout"))]
+
+
+def stored_of(kind):
+    """The stored lines of a kind and what is printed for each, without the kind."""
+    begin = kind + ","
+    return [[line[len(begin) :] for line in lines if line.startswith(begin)] for lines in stored()]
 
 
 def main():

@@ -1,25 +1,20 @@
 """A separately written calculator for four-pin readings, request (g) of document 02, in exact fractions; and
-the maker of the lists that the program `soundings` is run on: crates/soundings/stdin.
-
-    python3 tests/readings.py --write
+the maker of the lists that the program `questions` is asked for the soil of, which tests/questions.py stores.
 
 It follows the document sentence by sentence. A list is a line of numbers parted by commas, a distance in mm
 and a resistance in milliohms in turn.
 """
 
-import argparse
 import math
 import random
 from collections import namedtuple
 from fractions import Fraction
 from functools import lru_cache
-from pathlib import Path
 
 import calculator as calc
 from calculator import Pair, Refusal
 
-FILE = Path(__file__).parents[1] / "crates" / "soundings" / "stdin"
-MOST_BYTES = 262144  # what the program reads
+KIND = "soil"
 MOST_LISTED = 160  # numbers of a line that the program reads
 
 # "a probe distance a in mm (500..50,000) and a resistance R in milliohms (1..1,000,000)"
@@ -237,20 +232,3 @@ def lines():
     lists = [*by_hand(), *around_soil_range(), *near_whole(rng, 40), *each_count(rng), *refused(rng)]
     texts = [",".join(map(str, numbers)) for numbers in lists]
     return list(dict.fromkeys([*texts, *no_lists()]))
-
-
-def text():
-    return "".join(line + "\n" for line in lines())
-
-
-def main():
-    parser = argparse.ArgumentParser(description=__doc__.split("\n")[0])
-    parser.add_argument("--write", action="store_true", help="write the stored lists anew")
-    if parser.parse_args().write:
-        FILE.write_text(text(), encoding="ascii")
-    else:
-        print(text(), end="")
-
-
-if __name__ == "__main__":
-    main()

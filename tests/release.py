@@ -1,7 +1,5 @@
 """Release: which stations of a licence may be released on a sheet, from its words, and the portfolios that the
-program `licences` reads.
-
-    python3 tests/release.py --write     # crates/licences/stdin anew
+program `sheets` is asked for it on; tests/stored.py stores them.
 
 The ends of a row are its free part: verdicts and sizes are those that the rows report. The fault current is
 judged by exact ends: at it no line is surely above what is tolerable, and with one ampere more some line is not
@@ -9,25 +7,22 @@ surely below it.
 """
 
 import random
-import sys
 from fractions import Fraction
 from functools import lru_cache
-from pathlib import Path
 
 import calculator as calc
-import differential
+import sheets
 from calculator import Refusal
+from printed import SHEET_END
 
 PAIR_LENGTH = 8
 MOST_NUMBERS = 512
 TABLE = 2080  # numbers of the program's table
-LEAST_FAULT, MOST_FAULT = differential.span_of("fault")
+LEAST_FAULT, MOST_FAULT = sheets.span_of("fault")
 YARD = ("across", "along", "space", "depth", "dia", "rods", "rodlen", "place", "metal")
-FILE = Path(__file__).parents[1] / "crates" / "licences" / "stdin"
 SEED, RANDOM, DAMAGED = 32, 12, 14
 DEPTH = 9
 NEAR = Fraction(1, 1000)  # more than the widths that a row may have, as a share
-END = b"\0"
 
 
 # --------------------------------------------------------------------------
@@ -153,8 +148,8 @@ def fault_is_right(cases, fault):
 
 def released_station(rng, station, seasons):
     """One yard in several soils, with little grid current and a thick conductor."""
-    yard = differential.random_case(rng)._replace(station=station, split=1, dia=300)
-    low, high = differential.span_of("soil")
+    yard = sheets.random_case(rng)._replace(station=station, split=1, dia=300)
+    low, high = sheets.span_of("soil")
     return [yard._replace(season=season, soil=rng.randint(low, high), fault=rng.randint(100, 900)) for season in seasons]
 
 
@@ -165,7 +160,7 @@ def unsafe_line(rng, lines):
 
 def undecided_line(rng, lines):
     """Every line in one yard that meets its limit in one season."""
-    at = differential.case_at_limit(rng)
+    at = sheets.case_at_limit(rng)
     yard = {name: getattr(at, name) for name in calc.NAMES if name not in ("station", "season", "fault", "split")}
     lines = [line._replace(**yard) for line in lines]
     return [*lines[:-1], lines[-1]._replace(fault=at.fault, split=at.split)]
@@ -174,7 +169,7 @@ def undecided_line(rng, lines):
 def other_yard(rng, lines):
     """One of the nine columns of one line changed."""
     at, name = rng.randrange(len(lines)), rng.choice(YARD)
-    low, high = differential.span_of(name)
+    low, high = sheets.span_of(name)
     line = lines[at]
     if name in ("rods", "rodlen", "place") and not line.rods:
         line = line._replace(rods=20, rodlen=1000, place=1)
@@ -229,7 +224,7 @@ def portfolio(rng, reasons):
     cases += released_station(rng, stations[-2], [rng.randint(1, 4)])  # a station that is not licensed
     rng.shuffle(pairs)
     rng.shuffle(cases)
-    return differential.sheet_of(cases), [number for pair in pairs for number in pair]
+    return sheets.sheet_of(cases), [number for pair in pairs for number in pair]
 
 
 def largest(rng):
@@ -239,7 +234,7 @@ def largest(rng):
         cases += released_station(rng, station, range(1, 5))
     stations = [*range(101, 165), *range(1001, 1193)]
     rng.shuffle(stations)
-    return differential.sheet_of(cases), [number for station in stations for number in (station, rng.randint(1, 15))]
+    return sheets.sheet_of(cases), [number for station in stations for number in (station, rng.randint(1, 15))]
 
 
 def sound(rng):
@@ -247,9 +242,9 @@ def sound(rng):
     some = [portfolio(rng, [reason]) for reason in REASONS for _ in range(3)]
     some += [portfolio(rng, rng.choices(REASONS, k=rng.randint(2, 5))) for _ in range(RANDOM)]
     exact = wire_of_the_size(rng, released_station(rng, 3, [2]))
-    some.append((differential.sheet_of(exact), [3, 2]))
-    random_cases = [differential.random_case(rng)._replace(station=5, season=season) for season in (3, 1, 4)]
-    some.append((differential.sheet_of(random_cases), [5, 13]))
+    some.append((sheets.sheet_of(exact), [3, 2]))
+    random_cases = [sheets.random_case(rng)._replace(station=5, season=season) for season in (3, 1, 4)]
+    some.append((sheets.sheet_of(random_cases), [5, 13]))
     return some
 
 
@@ -269,8 +264,8 @@ def damaged(rng):
     """Sheets that are refused by themselves."""
     some = []
     while len(some) < DAMAGED:
-        text, _ = differential.random_sheet(rng)
-        if END not in text and len(text) < differential.BATCH_SHORT and isinstance(calc.read_sheet(text), Refusal):
+        text, _ = sheets.random_sheet(rng)
+        if SHEET_END not in text and len(text) < sheets.BATCH_SHORT and isinstance(calc.read_sheet(text), Refusal):
             some.append(text)
     return some + [b"", b"\n", b"station\n"]
 
@@ -292,12 +287,6 @@ def blocks():
 
 
 def text_of(asked):
-    """What `licences` reads: the length of the table and the licence in lines of their own, the sheet, a byte 0."""
-    return b"".join(b"%d\n%s\n%s%s" % (room, ",".join(map(str, licence)).encode(), sheet, END)
+    """What `sheets` reads: the kind with the length of the table, a line with the licence, the sheet, a byte 0."""
+    return b"".join(b"release,%d\n%s\n%s%s" % (room, ",".join(map(str, licence)).encode(), sheet, SHEET_END)
                     for sheet, licence, room in asked)
-
-
-if __name__ == "__main__":
-    if sys.argv[1:] != ["--write"]:
-        sys.exit(__doc__)
-    FILE.write_bytes(text_of(blocks()))

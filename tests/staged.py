@@ -1,22 +1,17 @@
 """The split from a staged test, in exact whole numbers, after request (l) of document 02 and equation
-50 of IEEE Std 81.2; and the tests that the program `splits` is run on: crates/splits/stdin.
-
-    python3 tests/staged.py --write
+50 of IEEE Std 81.2; and the tests that the program `questions` is asked for the split of, which tests/questions.py stores.
 
 A test is a line: the injected current's in-phase and quadrature part in milliamperes, then those of
 each branch.
 """
 
-import argparse
 import random
 from itertools import product
 from math import isqrt
-from pathlib import Path
 
 from calculator import Refusal
 
-FILE = Path(__file__).parents[1] / "crates" / "splits" / "stdin"
-MOST_BYTES = 262144  # what the program reads
+KIND = "split"
 MOST_NUMBERS = 64  # what the program takes of one line
 SEED, RANDOM_TESTS = 1, 400
 
@@ -174,23 +169,3 @@ def all_lines():
     tests = [*refused_tests(pick), *edge_tests(pick), *random_tests(pick, RANDOM_TESTS)]
     lines = [",".join(map(str, test)) for test in dict.fromkeys(tests) if test is not None]
     return [*lines, "", *BROKEN]
-
-
-def text():
-    stored = "".join(f"{line}\n" for line in all_lines())
-    if len(stored) > MOST_BYTES:
-        raise ValueError("more than the program reads")
-    return stored
-
-
-def main():
-    parser = argparse.ArgumentParser(description=__doc__.split("\n")[0])
-    parser.add_argument("--write", action="store_true", help="store the tests")
-    if parser.parse_args().write:
-        FILE.write_text(text())
-    else:
-        print(text(), end="")
-
-
-if __name__ == "__main__":
-    main()

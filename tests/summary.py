@@ -1,27 +1,22 @@
 """The station summary of request (m) of document 02, written from the document, and the sheets that the
-program `summed` reads.
-
-    python3 tests/summary.py --write     # crates/summed/stdin anew
+program `sheets` is asked for it on; tests/stored.py stores them.
 
 The upper mesh ends are the free part of a row: the summary is by the ends that the rows report, so it is
 worked from the rows. Each stored sheet has a length of the table of rows and one of the summary table.
 """
 
 import random
-import sys
-from pathlib import Path
 
 import calculator as calc
-import differential
+import sheets
 from calculator import Refusal
+from printed import SHEET_END
 
 STATION_LENGTH = 6
 MOST_ROWS = calc.MAX_VALUE_LINES * calc.ROW_LENGTH
 MOST_SUMMARY = calc.MAX_VALUE_LINES * STATION_LENGTH
-FILE = Path(__file__).parents[1] / "crates" / "summed" / "stdin"
 SEED, RANDOM, NEAR, DAMAGED = 20, 30, 6, 14
 DEPTH = 9
-END = b"\0"
 MESH_LOWER, MESH_UPPER = calc.FIRST_PAIR + 8, calc.FIRST_PAIR + 9
 VERDICTS = (calc.SAFE, calc.UNSAFE, calc.UNDECIDED)
 
@@ -70,7 +65,7 @@ def answer(sheet, rows_room, summary_room):
 def scattered(rng, lines, stations):
     """Cases of a few stations, in any order of lines, no two with one station and season."""
     keys = rng.sample([(station, season) for station in stations for season in range(1, 5)], lines)
-    return [differential.random_case(rng)._replace(station=station, season=season) for station, season in keys]
+    return [sheets.random_case(rng)._replace(station=station, season=season) for station, season in keys]
 
 
 def with_ties(rng, cases):
@@ -85,7 +80,7 @@ def with_ties(rng, cases):
 
 def four_seasons(rng, tie):
     """One station with its four seasons in any order; two or more of them tie at the highest."""
-    case = differential.random_case(rng)
+    case = sheets.random_case(rng)
     seasons = rng.sample(range(1, 5), 4)
     faults = [20000] * tie + [10000] * (4 - tie)
     rng.shuffle(faults)
@@ -96,7 +91,7 @@ def with_mesh(case, wanted):
     """The case with the fault and split at which its mesh voltage is nearest a voltage, or nothing."""
     case = case._replace(fault=1000, split=1000)  # the voltage is in proportion to fault and split
     product = float(wanted / calc.exact_ends(case, DEPTH).mesh.lower) * 1000 * 1000
-    low, high = differential.span_of("fault")
+    low, high = sheets.span_of("fault")
     pairs = [(round(product / split), split) for split in range(1, 1001)]
     pairs = [(fault, split) for fault, split in pairs if low <= fault <= high]
     if not pairs:
@@ -111,7 +106,7 @@ def nearly_equal(rng):
     """
     cases = []
     while len(cases) < 4:
-        case = differential.random_case(rng)
+        case = sheets.random_case(rng)
         if cases:
             case = with_mesh(case, calc.exact_ends(cases[0], DEPTH).mesh.lower)
         if case:
@@ -119,7 +114,7 @@ def nearly_equal(rng):
     return cases
 
 
-def sheets(rng):
+def sound_sheets(rng):
     """Sound sheets: stations scattered, ties, one station with four seasons, nearly equal mesh voltages,
     undecided yards, and the most lines, each of its own station or in four seasons.
     """
@@ -130,20 +125,20 @@ def sheets(rng):
         some.append(with_ties(rng, cases))
     some += [four_seasons(rng, tie) for tie in (1, 2, 3, 4)]
     some += [nearly_equal(rng) for _ in range(NEAR)]
-    some.append([differential.case_at_limit(rng)._replace(station=station, season=season)
+    some.append([sheets.case_at_limit(rng)._replace(station=station, season=season)
                  for station, season in ((9, 2), (4, 1), (9, 1))])
     some.append([case._replace(station=40000 - 7 * i) for i, case in
-                 enumerate(differential.random_case(rng) for _ in range(calc.MAX_VALUE_LINES))])
+                 enumerate(sheets.random_case(rng) for _ in range(calc.MAX_VALUE_LINES))])
     some.append(scattered(rng, calc.MAX_VALUE_LINES, range(101, 165)))
-    return [differential.sheet_of(cases) for cases in some]
+    return [sheets.sheet_of(cases) for cases in some]
 
 
 def damaged(rng):
     """Sheets that the sheet's own question refuses."""
     some = []
     while len(some) < DAMAGED:
-        text, _ = differential.random_sheet(rng)
-        if END not in text and len(text) < differential.BATCH_SHORT and isinstance(calc.read_sheet(text), Refusal):
+        text, _ = sheets.random_sheet(rng)
+        if SHEET_END not in text and len(text) < sheets.BATCH_SHORT and isinstance(calc.read_sheet(text), Refusal):
             some.append(text)
     return some + [b"", b"\n", b"station\n"]
 
@@ -163,17 +158,11 @@ def rooms(rng, sheet):
 def blocks():
     """Each stored sheet with the lengths of the two tables."""
     rng = random.Random(SEED)
-    asked = [(sheet, *pair) for sheet in sheets(rng) for pair in rooms(rng, sheet)]
+    asked = [(sheet, *pair) for sheet in sound_sheets(rng) for pair in rooms(rng, sheet)]
     asked += [(sheet, *rng.choice(((MOST_ROWS, MOST_SUMMARY), (0, 0), (20, 0), (0, 6)))) for sheet in damaged(rng)]
     return asked
 
 
 def text_of(asked):
-    """What `summed` reads: each length in a line of its own, the sheet, a byte 0."""
-    return b"".join(b"%d\n%d\n%s%s" % (rows, summary, sheet, END) for sheet, rows, summary in asked)
-
-
-if __name__ == "__main__":
-    if sys.argv[1:] != ["--write"]:
-        sys.exit(__doc__)
-    FILE.write_bytes(text_of(blocks()))
+    """What `sheets` reads: the kind with both lengths, the sheet, a byte 0."""
+    return b"".join(b"summary,%d,%d\n%s%s" % (rows, summary, sheet, SHEET_END) for sheet, rows, summary in asked)

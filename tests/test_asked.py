@@ -1,5 +1,5 @@
-"""Judges the questions asked alone: crates/asked/stdout, which `rt check asked` holds to what the
-program prints for crates/asked/stdin, against the separately written calculator.
+"""Judges the questions asked alone: crates/questions/stdout, which `rt check questions` holds to what the
+program prints for crates/questions/stdin, against the separately written calculator.
 
     python3 -m unittest discover -s tests
 """
@@ -13,12 +13,15 @@ import calculator as calc
 import fewest
 import headroom
 import questions
+import readings
+import staged
 import working
 from calculator import Case, Refusal
 from printed import lines_of, read_asked, whole
 from questions import RECORD_KINDS, SIZE_KINDS, TABLE_10, TABLE_10_XR
 
-STDOUT = questions.FILE.with_name("stdout")
+# Judged by test_fewest.py, test_working.py, test_readings.py and test_staged.py; and headrooms by test_headroom.py.
+ELSEWHERE = (fewest.KIND, working.KIND, readings.KIND, staged.KIND)
 DEPTHS = (3, 6, 9, 12)
 
 PAIRS = {"factor": ("factor",), "tolerable": ("tolerable_touch", "tolerable_step"),
@@ -131,13 +134,12 @@ def has_one_time(case):
 class Asked(unittest.TestCase):
     @classmethod
     def setUpClass(cls):
-        cls.lines = lines_of(questions.FILE.read_text(encoding="ascii"))
-        cls.printed = lines_of(STDOUT.read_text(encoding="ascii"))
+        cls.lines, cls.printed = questions.stored()
         cls.questions = defaultdict(dict)  # by kind: what is asked, and its answer
         cls.broken = {}  # a line that is no question, and what it is answered
         for line, printed in zip(cls.lines, cls.printed):
-            if line.split(",")[0] in (fewest.KIND, working.KIND) or headroom.is_question(line):
-                continue  # judged by test_fewest.py, test_working.py and test_headroom.py
+            if line.split(",")[0] in ELSEWHERE or headroom.is_question(line):
+                continue
             question, answer = read_question(line), printed[len(line) + 1 :]
             if question:
                 kind, asked = question

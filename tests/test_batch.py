@@ -1,5 +1,5 @@
-"""Judges a batch of random sheets, sound and damaged: crates/batch/stdout, which `rt check batch`
-holds to what the program prints for crates/batch/stdin, against the separately written calculator.
+"""Judges a batch of random sheets, sound and damaged: those of kind `rows` of crates/sheets, whose stdout `rt check sheets`
+holds to what the program prints for its stdin, against the separately written calculator.
 
 Each sheet is answered four times: all numbers, then the verdicts, each for a table with room for
 every row and for one with room for two. After each answer stands how many numbers of the whole
@@ -8,19 +8,18 @@ table kept what they held.
 
 import unittest
 from itertools import product
-from pathlib import Path
 
 import calculator as calc
 import differential
+import sheets
+import stored
 from calculator import Refusal
-from printed import lines_of, read_rows, read_verdicts, whole
+from printed import SHEET_END, lines_of, read_rows, read_verdicts, whole
 
-STDOUT = Path(__file__).parents[1] / "crates" / "batch" / "stdout"
 TABLE = calc.MAX_VALUE_LINES * calc.ROW_LENGTH
 ROOMS = (TABLE, 2 * calc.ROW_LENGTH)
 READERS = (read_rows, read_verdicts)
 KEPT = "kept,"
-MOST_BYTES = 524288  # what the program reads
 LEAST_OF_EACH = 3
 # What names of document 01 a sheet may have, and their first column in its own order.
 OLD_COLUMNS = {("ms",): 6, ("lines",): 13, ("ms", "lines"): 6}
@@ -60,10 +59,10 @@ def old_columns(sheet):
     """
     names = names_of(sheet)
     found = {old: names.index(old.encode("ascii")) + 1
-             for old in differential.OLD_NAMES if old.encode("ascii") in names}
+             for old in sheets.OLD_NAMES if old.encode("ascii") in names}
     for old in found:
-        sheet = differential.carried_over(sheet, old)
-    return found if is_sound(differential.with_frequency(sheet)) else {}
+        sheet = sheets.carried_over(sheet, old)
+    return found if is_sound(sheets.with_frequency(sheet)) else {}
 
 
 def stays_safe(verdicts):
@@ -74,11 +73,11 @@ def stays_safe(verdicts):
 class Batch(unittest.TestCase):
     @classmethod
     def setUpClass(cls):
-        cls.text = differential.BATCH_FILE.read_bytes()
-        cls.sheets = cls.text.split(differential.BATCH_END)[:-1]
+        cls.text, printed = stored.stored_of("rows")
+        cls.sheets = [part.partition(calc.LINE_END)[2] for part in cls.text.split(SHEET_END)[:-1]]
         cls.asked = [(sheet, room) for sheet in cls.sheets for room in ROOMS]
         cls.wanted = [calc.read_sheet(sheet, room) for sheet, room in cls.asked]
-        cls.answers = answers_of(STDOUT.read_text(encoding="ascii"))
+        cls.answers = answers_of(printed)
         cls.rows = cls.listed(read_rows)
         cls.verdicts = cls.listed(read_verdicts)
 
@@ -94,8 +93,8 @@ class Batch(unittest.TestCase):
 
 class Answers(Batch):
     def test_the_sheets_are_those_of_the_differential_run(self):
-        self.assertEqual(self.text, differential.batch())
-        self.assertLess(len(self.text), MOST_BYTES)
+        self.assertEqual(self.text, sheets.batch())
+        self.assertEqual(self.sheets, sheets.batch_sheets())
 
     def test_every_sheet_has_its_answers(self):
         self.assertEqual(len(self.answers), len(READERS) * len(self.asked))
@@ -170,7 +169,7 @@ class Coverage(Batch):
             if b"hz" in names_of(sheet):
                 continue
             older += bool(old_columns(sheet))
-            if is_sound(differential.with_frequency(sheet)):
+            if is_sound(sheets.with_frequency(sheet)):
                 self.assertEqual((rows, verdicts), (Refusal(2, 1, 22),) * 2)
                 found += 1
         self.assertGreaterEqual(min(found, older), LEAST_OF_EACH)
@@ -215,10 +214,10 @@ class Coverage(Batch):
 
     def test_less_current_leaves_a_safe_yard_safe(self):
         """Request (n): each station's seasons have less and less fault current, all else equal."""
-        cases = differential.cases_of_less_current(differential.BATCH_SEED)
+        cases = sheets.cases_of_less_current(sheets.BATCH_SEED)
         verdicts = [row[2] for row in self.rows[self.wanted.index(cases)]]
-        seasons = [verdicts[at : at + differential.SEASONS]
-                   for at in range(0, len(verdicts), differential.SEASONS)]
+        seasons = [verdicts[at : at + sheets.SEASONS]
+                   for at in range(0, len(verdicts), sheets.SEASONS)]
         self.assertEqual([], [told for told in seasons if not stays_safe(told)])
         first = [told[0] for told in seasons]
         self.assertGreaterEqual(min(first.count(calc.SAFE), first.count(calc.UNSAFE)), LEAST_OF_EACH)
@@ -231,7 +230,7 @@ class Coverage(Batch):
             self.assertFalse(stays_safe(told))
 
     def test_one_sheet_is_of_the_pairs_of_counts(self):
-        share = differential.cases_of_pairs(differential.BATCH_SEED)[:: differential.PAIRS_EVERY]
+        share = sheets.cases_of_pairs(sheets.BATCH_SEED)[:: sheets.PAIRS_EVERY]
         self.assertLessEqual(len(share), calc.MAX_VALUE_LINES)
         self.assertIn(share, self.wanted)
 

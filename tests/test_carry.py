@@ -1,5 +1,5 @@
-"""Judges sheets carried over: crates/carries/stdout, which `rt check carries` holds to what the program
-prints for crates/carries/stdin, answer by answer by the words of request (e) of document 02; what the
+"""Judges sheets carried over: those of kind `carry` of crates/sheets, whose stdout `rt check sheets` holds to what the
+program prints for its stdin, answer by answer by the words of request (e) of document 02; what the
 programs `carry` and `carry_back` print for document 01's sample; and tests the conversion itself.
 
     python3 -m unittest discover -s tests
@@ -13,12 +13,12 @@ from pathlib import Path
 
 import calculator as calc
 import carry
+import stored
 from calculator import CLOCKS, COUNTS, Refusal
 from carry import BACK, BUFFER, FORMER, ON, PRESENT, answer, judge, sheet_text, written
 from printed import lines_of, whole
 
 CRATES = Path(__file__).parents[1] / "crates"
-STDOUT = carry.FILE.with_name("stdout")
 LARGEST = {ON: 24189, BACK: 20069}  # bytes of the largest texts
 LEAST = 4  # of each refusal, each way, over different sheets
 
@@ -322,8 +322,7 @@ WRONG = (
 class Stored(unittest.TestCase):
     @classmethod
     def setUpClass(cls):
-        cls.text = carry.FILE.read_bytes()
-        cls.out = STDOUT.read_text(encoding="ascii")
+        cls.text, cls.out = stored.stored_of("carry")
         cls.questions = list(carry.questions(cls.text))
         cls.answers = answers_of(cls.out)
         cls.told = [(*question, *given) for question, given in zip(cls.questions, cls.answers) if given]
@@ -333,7 +332,6 @@ class Stored(unittest.TestCase):
 class Answers(Stored):
     def test_the_stored_sheets_are_those_made(self):
         self.assertEqual(self.text, carry.all_records())
-        self.assertLess(len(self.text), carry.MOST_BYTES)
 
     def test_every_answer_is_right(self):
         self.assertEqual(judge_all(self.questions, self.out), [])

@@ -9,6 +9,7 @@ from unittest import mock
 
 import calculator as calc
 import differential
+import sheets
 from calculator import Refusal
 from printed import ROW_NAMES
 
@@ -62,14 +63,14 @@ def takes(old):
     frequency.
     """
     def program(_, sheet):
-        newer = differential.carried_over(sheet, old)
-        return text_of(right_answer(newer if newer == sheet else differential.with_frequency(newer)))
+        newer = sheets.carried_over(sheet, old)
+        return text_of(right_answer(newer if newer == sheet else sheets.with_frequency(newer)))
     return program
 
 
 def takes_no_frequency(_, sheet):
     """A program that still takes a sheet without a frequency, for 60 Hz."""
-    return text_of(right_answer(differential.with_frequency(sheet)))
+    return text_of(right_answer(sheets.with_frequency(sheet)))
 
 
 def takes_60_for_any(_, sheet):
@@ -106,7 +107,7 @@ WRONG = {
         lambda rows: [row[:2] + [min(row[2], calc.UNSAFE)] + row[3:] for row in rows]),
     **{f"reads {read} for {meant}": with_column(read, meant)
        for names in (calc.CLOCKS, calc.COUNTS) for read, meant in permutations(names, 2)},
-    **{f"takes a sheet with {old}": takes(old) for old in differential.OLD_NAMES},
+    **{f"takes a sheet with {old}": takes(old) for old in sheets.OLD_NAMES},
     "takes a sheet without a frequency": takes_no_frequency,
     "takes 60 Hz for any frequency": takes_60_for_any,
     "works 60 Hz for 50": with_frequency(60),
@@ -122,13 +123,13 @@ WRONG = {
 class Differential(unittest.TestCase):
     @classmethod
     def setUpClass(cls):
-        cls.sheets = [differential.numbered_sheet(SEED, number)[1:] for number in range(COUNT)]
+        cls.sheets = [sheets.numbered_sheet(SEED, number)[1:] for number in range(COUNT)]
 
     def run_with(self, program):
         """The run with a program in place of the compiled one; its sheets are made once for all."""
         def made(seed, number):
             return random.Random(number), *self.sheets[number]
-        with mock.patch.multiple(differential, printed_by=program, numbered_sheet=made):
+        with mock.patch.object(differential, "printed_by", program), mock.patch.object(sheets, "numbered_sheet", made):
             with redirect_stdout(io.StringIO()):
                 return differential.run("program", SEED, COUNT)
 
@@ -153,7 +154,7 @@ class Cases(unittest.TestCase):
 
     def test_unequal_counts_mostly(self):
         rng = random.Random(SEED)
-        cases = [differential.random_case(rng) for _ in range(500)]
+        cases = [sheets.random_case(rng) for _ in range(500)]
         self.assertTrue(all(calc.check_record(case) is None for case in cases))
         equal = [case for case in cases if case.across == case.along]
         self.assertTrue(len(cases) / 20 < len(equal) < len(cases) / 3)
@@ -161,7 +162,7 @@ class Cases(unittest.TestCase):
         self.assertEqual({case.place for case in cases}, {0, 1, 2})
 
     def test_every_pair_at_each_place_with_both_ends(self):
-        cases = differential.cases_of_pairs(SEED)
+        cases = sheets.cases_of_pairs(SEED)
         self.assertTrue(all(calc.check_record(case) is None for case in cases))
         self.assertEqual(len({case.station for case in cases}), len(cases))
         found = {(c.across, c.along, c.place, c.space, c.depth) for c in cases}
@@ -175,7 +176,7 @@ class Pairs(unittest.TestCase):
     """The run over the pairs of counts."""
 
     def run_with(self, program):
-        cases = differential.cases_of_pairs(SEED)[::PAIRS_EVERY]
+        cases = sheets.cases_of_pairs(SEED)[::PAIRS_EVERY]
         with mock.patch.object(differential, "printed_by", program):
             return cases, *differential.run_pairs("program", cases)
 

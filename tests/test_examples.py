@@ -111,7 +111,7 @@ WRONG = {
     "first row copied down": changed(of_rows(lambda lines: lines[:1] * len(lines)), *LISTINGS),
     "other margins": changed(of_field(3, one_more), "margins"),
     "other step margins": changed(of_field(4, one_more), "margins"),
-    "margins in the order of the lines": changed(of_rows(sorted), "margins"),
+    "margins with the worst line first": changed(of_rows(lambda lines: sorted(lines, key=lambda line: -int(line.split(",")[3]))), "margins"),
     "refuses nothing": refuses_nothing,
     "breaks off": breaks_off,
     **{f"row left out by {program}": changed(of_rows(lambda lines: lines[:-1]), program) for program in LISTINGS},

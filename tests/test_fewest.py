@@ -1,4 +1,4 @@
-"""Judges the searches for the fewest lines: the questions of kind `fewest` of crates/asked, and the run of the
+"""Judges the searches for the fewest lines: the questions of kind `fewest` of crates/questions, and the run of the
 program `fewest`, against the separately written list of yards.
 """
 
@@ -41,8 +41,7 @@ WRONG_LISTS = (rods_four_first, counts_falling, spacing_of_the_case, a_count_ski
 class Searches(unittest.TestCase):
     @classmethod
     def setUpClass(cls):
-        lines = lines_of(questions.FILE.read_text(encoding="ascii"))
-        printed = lines_of(questions.FILE.with_name("stdout").read_text(encoding="ascii"))
+        lines, printed = questions.stored()
         cls.answers = {}
         for line, out in zip(lines, printed):
             kind, *fields = line.split(",")

@@ -1,4 +1,4 @@
-"""Judges the questions of kind `headroom` of crates/asked by the words and by the program's own rows."""
+"""Judges the questions of kind `headroom` of crates/questions by the words and by the program's own rows."""
 
 import unittest
 
@@ -7,7 +7,7 @@ import headroom
 import questions
 from calculator import Case, Refusal
 from headroom import LEAST, MOST, NONE
-from printed import lines_of, read_asked
+from printed import read_asked
 
 
 def one_more(case, got):
@@ -58,8 +58,7 @@ WRONG = (one_more, one_less, never, always, range_cut_short, least_fault_lost, o
 class Headrooms(unittest.TestCase):
     @classmethod
     def setUpClass(cls):
-        lines = lines_of(questions.FILE.read_text(encoding="ascii"))
-        printed = lines_of(questions.FILE.with_name("stdout").read_text(encoding="ascii"))
+        lines, printed = questions.stored()
         cls.answers, cls.verdicts = {}, {}
         for line, out in zip(lines, printed):
             kind, *fields = line.split(",")

@@ -7,7 +7,7 @@ import unittest
 from pathlib import Path
 
 import calculator as calc
-import differential
+import sheets
 import host
 from calculator import Refusal
 
@@ -44,9 +44,9 @@ class Entry:
 class WrongEntries(unittest.TestCase):
     def setUp(self):
         rng = random.Random(3)
-        self.cases = [differential.random_case(rng)._replace(station=station) for station in (1, 2, 3)]
-        self.sheet = differential.sheet_of(self.cases)
-        self.refused = differential.sheet_of([self.cases[0]._replace(depth=249), self.cases[1]])
+        self.cases = [sheets.random_case(rng)._replace(station=station) for station in (1, 2, 3)]
+        self.sheet = sheets.sheet_of(self.cases)
+        self.refused = sheets.sheet_of([self.cases[0]._replace(depth=249), self.cases[1]])
 
     def test_right(self):
         self.assertEqual(Entry(self.sheet).wrong(), [])

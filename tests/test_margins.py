@@ -4,14 +4,14 @@ holds the judges to telling wrong programs.
 The ends of a row are the free part of it, so a number told is right if some right row has it: it is not below the exact
 share, and less than one above the share of a voltage that is a whole allowed width higher with a limit that is a whole
 allowed width lower. Safe is both numbers at most 0; unsafe needs an exact voltage that is not within its limit, and stands
-wherever one is above its limit by more than both widths. The order is that of the numbers told.
+wherever one is above its limit by more than both widths. The order is that of the sheet's lines.
 """
 
 import math
 import random
 import unittest
 from fractions import Fraction
-from itertools import groupby, product
+from itertools import product
 
 import calculator as calc
 import margins
@@ -22,7 +22,7 @@ from printed import MARGIN_NAMES, read_margins
 DEPTHS = (6, 9)
 ROW_DEPTH = 12  # of the calculator's own rows
 LEAST_LINES = 35
-LARGE = 2000  # tenths of a percent, of which the widths leave open a part
+LARGE = 2000  # per mille, of which the widths leave open a part
 PAIRS = (("mesh", "tolerable_touch"), ("step", "tolerable_step"))
 
 
@@ -72,14 +72,10 @@ def judge_verdict(case, told, k):
 
 
 def judge_order(cases, told):
-    """Every line once; stations by first line, the worst first by the numbers told, the earlier line on a tie."""
+    """Every line once, in the sheet's order."""
     lines = [(case.station, case.season) for case in cases]
     keys = [tuple(margin[:2]) for margin in told]
-    if sorted(lines) != sorted(keys):
-        return ["not every line once"]
-    by_line = sorted((Margin(*margin) for margin in told), key=lambda margin: lines.index(margin[:2]))
-    wanted = [tuple(margin[:2]) for margin in margins.in_order(by_line)]
-    return [] if keys == wanted else [f"the order is {keys}, not {wanted}"]
+    return [] if keys == lines else [f"the lines are {keys}, not {lines}"]
 
 
 def judge_told(cases, told):
@@ -104,7 +100,7 @@ def ends_of(row):
 def with_numbers(number):
     """A program whose numbers are others: a function of the ends of a voltage and of its limit."""
     def wrong(rows):
-        return margins.in_order([Margin(*row[:3], *(number(*ends) for ends in ends_of(row))) for row in rows])
+        return [Margin(*row[:3], *(number(*ends) for ends in ends_of(row))) for row in rows]
     return wrong
 
 
@@ -115,17 +111,8 @@ def with_verdict(verdict):
     return wrong
 
 
-def with_worst(worst):
-    """A program by which another row of a station is the worst: a function of a row."""
-    def wrong(rows):
-        stations = [row[0] for row in rows]
-        found = sorted(rows, key=lambda row: (stations.index(row[0]), -worst(row)))
-        return [margin_of(row) for row in found]
-    return wrong
-
-
 def by_key(key):
-    """A program with another order: a sort of the right order by a key of the margin."""
+    """A program with another order: a sort of the lines by a key of the margin."""
     return lambda rows: sorted(margins_of(rows), key=key)
 
 
@@ -133,42 +120,26 @@ def sign(number):
     return calc.UNSAFE if number > 0 else calc.SAFE
 
 
-def unrounded(row):
-    return max(Fraction(voltage[1], limit[0]) for voltage, limit in ends_of(row))
+def worst(margin):
+    return max(margin.mesh, margin.step)
 
 
-def tie_reversed(rows):
+def gathered(rows, key):
+    """The lines of each station together, stations by first appearance, by a key within a station."""
     stations = [row[0] for row in rows]
-    found = sorted(map(margin_of, rows[::-1]), key=lambda margin: -margins.worst(margin))
-    return sorted(found, key=lambda margin: stations.index(margin.station))
-
-
-def tie_by_season(rows):
-    stations = [row[0] for row in rows]
-    return sorted(margins_of(rows), key=lambda margin: (stations.index(margin.station), -margins.worst(margin), margin.season))
-
-
-def lines_not_gathered(rows):
-    """A station told again where its lines are not together."""
-    runs = groupby(rows, key=lambda row: row[0])
-    return [margin for _, run in runs for margin in margins_of(list(run))]
-
-
-def stations_by_last_line(rows):
-    last = [row[0] for row in rows[::-1]]
-    return sorted(margins_of(rows), key=lambda margin: -last.index(margin.station))
+    return sorted(margins_of(rows), key=lambda margin: (stations.index(margin.station), key(margin)))
 
 
 def step_against_touch(rows):
     def wrong(row):
         pairs = calc.row_pairs(row)
         return margin_of(row)._replace(step=above(pairs.step[1], pairs.tolerable_touch[0]))
-    return margins.in_order([wrong(row) for row in rows])
+    return [wrong(row) for row in rows]
 
 
 def only_the_worst(rows):
     first = {}
-    for margin in margins_of(rows):
+    for margin in gathered(rows, lambda margin: -worst(margin)):
         first.setdefault(margin.station, margin)
     return list(first.values())
 
@@ -188,25 +159,14 @@ WRONG = {
     "step against tolerable touch": step_against_touch,
     "verdict by mesh alone": with_verdict(lambda margin: sign(margin.mesh)),
     "verdict by step alone": with_verdict(lambda margin: sign(margin.step)),
-    "undecided told unsafe": with_verdict(lambda margin: sign(margins.worst(margin))),
+    "undecided told unsafe": with_verdict(lambda margin: sign(worst(margin))),
     "undecided told safe": with_verdict(lambda margin: 1 if margin.verdict == calc.UNDECIDED else margin.verdict),
     "stations by number": by_key(lambda margin: margin.station),
-    "stations by last line": stations_by_last_line,
-    "lines not gathered": lines_not_gathered,
-    "worst of all stations first": by_key(lambda margin: -margins.worst(margin)),
-    "order of the lines": lambda rows: list(map(margin_of, rows)),
-    "worst last": with_worst(lambda row: -margins.worst(margin_of(row))),
-    "worst by mesh alone": with_worst(lambda row: margin_of(row).mesh),
-    "worst by step alone": with_worst(lambda row: margin_of(row).step),
-    "worst by the lesser number": with_worst(lambda row: min(margin_of(row)[3:])),
-    "worst by the sum": with_worst(lambda row: sum(margin_of(row)[3:])),
-    "worst by size": with_worst(lambda row: max(map(abs, margin_of(row)[3:]))),
-    "worst by voltage": with_worst(lambda row: calc.row_pairs(row).mesh[1]),
-    "worst by verdict": with_worst(lambda row: row[2]),
-    "worst before rounding": with_worst(unrounded),
-    "tie by the other number": with_worst(lambda row: max(margin_of(row)[3:]) + Fraction(min(margin_of(row)[3:]), 10**9)),
-    "tie reversed": tie_reversed,
-    "tie by season": tie_by_season,
+    "lines of a station together": lambda rows: gathered(rows, lambda margin: 0),
+    "within a station the worst first": lambda rows: gathered(rows, lambda margin: -worst(margin)),
+    "within a station by season": lambda rows: gathered(rows, lambda margin: margin.season),
+    "worst of all first": by_key(lambda margin: -worst(margin)),
+    "last line first": lambda rows: margins_of(rows)[::-1],
     "only the worst row": only_the_worst,
     "last row left out": lambda rows: margins_of(rows[:-1]),
     "first row in every line": lambda rows: margins_of(rows)[:1] * len(rows),
@@ -235,7 +195,7 @@ class Stored(unittest.TestCase):
         self.assertEqual([], judge_told(self.cases, self.told))
 
     def test_document_01s_sample(self):
-        self.assertEqual(self.of_station(7), [(7, 1, calc.UNSAFE, 223, -767), (7, 2, calc.SAFE, -682, -939)])
+        self.assertEqual(self.of_station(7), [(7, 2, calc.SAFE, -682, -939), (7, 1, calc.UNSAFE, 223, -767)])
 
     def test_lines_and_columns(self):
         self.assertGreaterEqual(len(self.cases), LEAST_LINES)
@@ -251,12 +211,6 @@ class Stored(unittest.TestCase):
                 self.assertLessEqual(numbers, {getattr(margin, name) for margin in found}, name)
         self.assertTrue(any(margin.mesh > margin.step for margin in self.told))
         self.assertTrue(any(margin.mesh <= 0 < margin.step and margin.verdict == calc.UNSAFE for margin in self.told))
-
-    def test_ties(self):
-        """Equal rows of one station, and unlike rows whose worst numbers are equal, the later season first."""
-        pairs = [(a, b) for a, b in zip(self.told, self.told[1:]) if a.station == b.station and a.season > b.season]
-        self.assertTrue(any(a[2:] == b[2:] for a, b in pairs))
-        self.assertTrue(any(a[3:] != b[3:] and margins.worst(a) == margins.worst(b) for a, b in pairs))
 
 
 class WrongPrograms(unittest.TestCase):

@@ -1,6 +1,5 @@
-"""Tests of the calculator for four-pin readings, and the judge of the program `soundings`:
-crates/soundings/stdout, which `rt check soundings` holds to what the program prints for
-crates/soundings/stdin.
+"""Tests of the calculator for four-pin readings, and the judge of the questions of kind `soil` of
+crates/questions: its stdout, which `rt check questions` holds to what the program prints for its stdin.
 
     python3 -m unittest discover -s tests
 """
@@ -9,12 +8,12 @@ import unittest
 from fractions import Fraction
 from math import ceil, floor
 
+import questions
 import readings
 from calculator import Refusal
-from printed import lines_of, read_asked, whole
+from printed import read_asked, whole
 from readings import DISTANCES, RESISTANCES, Report, check, judge, pairs_of, report_of
 
-STDOUT = readings.FILE.with_name("stdout")
 DEPTHS = (3, 6, 12)
 
 
@@ -89,8 +88,7 @@ class Calculator(unittest.TestCase):
 class Soundings(unittest.TestCase):
     @classmethod
     def setUpClass(cls):
-        cls.lines = lines_of(readings.FILE.read_text(encoding="ascii"))
-        cls.printed = lines_of(STDOUT.read_text(encoding="ascii"))
+        cls.lines, cls.printed = questions.stored_of(readings.KIND)
         cls.answers, cls.broken = [], []
         for line, printed in zip(cls.lines, cls.printed):
             numbers, answer = read_list(line), printed[len(line) + 1 :]
@@ -118,9 +116,7 @@ class Soundings(unittest.TestCase):
 
 class Printed(Soundings):
     def test_the_lists_are_those_of_the_script(self):
-        text = readings.FILE.read_text(encoding="ascii")
-        self.assertEqual(text, readings.text())
-        self.assertLess(len(text), readings.MOST_BYTES)
+        self.assertEqual(self.lines, readings.lines())
 
     def test_each_line_is_printed_with_its_answer(self):
         self.assertEqual(len(self.printed), len(self.lines))

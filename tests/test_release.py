@@ -1,4 +1,4 @@
-"""Judges release: the stored portfolios of crates/licences with their answers, against the words of the question
+"""Judges release: the sheets of kind `release` of crates/sheets with their answers, against the words of the question
 and the separately written calculator.
 """
 
@@ -7,12 +7,13 @@ import unittest
 import calculator as calc
 import differential
 import release
+import stored
 from calculator import Refusal
 from printed import ROW_NAMES, lines_of, read_row, whole
 
 
 class Told:
-    """An answer of `licences`: a refusal, or the pairs and the sheet's rows; and how much the table kept."""
+    """An answer of `sheets`: a refusal, or the pairs and the sheet's rows; and how much the table kept."""
 
     def __init__(self, lines):
         *lines, kept = lines
@@ -213,7 +214,8 @@ class Stored(unittest.TestCase):
     def setUpClass(cls):
         cls.asked = release.blocks()
         cls.wanted = [release.answer(*asked) for asked in cls.asked]
-        cls.told = answers_of(release.FILE.with_name("stdout").read_text(encoding="ascii"))
+        cls.text, printed = stored.stored_of("release")
+        cls.told = answers_of(printed)
 
     def answered(self):
         return [(licence, wanted, told) for (_, licence, _), wanted, told in zip(self.asked, self.wanted, self.told)
@@ -226,7 +228,7 @@ class Stored(unittest.TestCase):
                 yield [case for case in cases if case.station == numbers[0]], numbers
 
     def test_the_portfolios_are_those_of_the_maker(self):
-        self.assertEqual(release.FILE.read_bytes(), release.text_of(self.asked))
+        self.assertEqual(self.text, release.text_of(self.asked))
 
     def test_every_portfolio_has_its_answer(self):
         self.assertEqual(len(self.told), len(self.asked))

@@ -1,6 +1,5 @@
-"""Judges the splits of staged tests: crates/splits/stdout, which `rt check splits` holds to what the
-program prints for crates/splits/stdin, line by line by the words of request (l) of document 02; and
-tests the calculator itself.
+"""Judges the questions of kind `split` of crates/questions: its stdout, which `rt check questions` holds to what the
+program prints for its stdin, line by line by the words of request (l) of document 02; and tests the calculator itself.
 
     python3 -m unittest discover -s tests
 """
@@ -9,13 +8,13 @@ import unittest
 from collections import Counter
 from math import isqrt
 
+import questions
 import staged
 from calculator import Refusal
-from printed import lines_of, whole
+from printed import whole
 from staged import (
     MOST_BRANCHES, MOST_PART, PER_MILLE, answer, grid_current, judge, pairs_of, square)
 
-STDOUT = staged.FILE.with_name("stdout")
 # The least count of different tests with each answer.
 LEAST = {17: 30, 18: 50, 19: 3, "grid": 550, "unknown": len(staged.BROKEN)}
 
@@ -216,8 +215,7 @@ def is_exact(split, numbers):
 
 class Stored(unittest.TestCase):
     def setUp(self):
-        self.lines = lines_of(staged.FILE.read_text())
-        self.outs = lines_of(STDOUT.read_text())
+        self.lines, self.outs = questions.stored_of(staged.KIND)
 
     def test_every_line_is_right(self):
         self.assertEqual(judge_lines(self.lines, self.outs), [])

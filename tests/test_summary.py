@@ -1,4 +1,4 @@
-"""Judges the station summary: the stored sheets of crates/summed with their answers, and the run of the program
+"""Judges the station summary: the sheets of kind `summary` of crates/sheets with their answers, and the run of the program
 `summary`, against the summary written from the document and the separately written calculator.
 """
 
@@ -7,17 +7,18 @@ from pathlib import Path
 
 import calculator as calc
 import differential
+import stored
 import summary
 from calculator import Refusal
 from printed import ROW_NAMES, lines_of, read_row, whole
 
 PROGRAM = Path(__file__).parents[1] / "crates" / "summary"
-NAMES = ("station", "seasons", "safe", "unsafe", "undecided", "worst_season")
+NAMES = ("station", "seasons", "safe", "unsafe", "undecided", "highest_mesh_season")
 DEPTH = 9
 
 
 class Told:
-    """An answer of `summed`: a refusal, or counts, stations and rows; and how much both tables kept."""
+    """An answer of `sheets`: a refusal, or counts, stations and rows; and how much both tables kept."""
 
     def __init__(self, lines):
         *lines, kept = lines
@@ -167,13 +168,14 @@ class Stored(unittest.TestCase):
     def setUpClass(cls):
         cls.asked = summary.blocks()
         cls.wanted = [summary.answer(*asked) for asked in cls.asked]
-        cls.told = answers_of(summary.FILE.with_name("stdout").read_text(encoding="ascii"))
+        cls.text, printed = stored.stored_of("summary")
+        cls.told = answers_of(printed)
 
     def answered(self):
         return [(wanted, told) for wanted, told in zip(self.wanted, self.told) if not told.refusal]
 
     def test_the_sheets_are_those_of_the_maker(self):
-        self.assertEqual(summary.FILE.read_bytes(), summary.text_of(self.asked))
+        self.assertEqual(self.text, summary.text_of(self.asked))
 
     def test_every_sheet_has_its_answer(self):
         self.assertEqual(len(self.told), len(self.asked))
@@ -236,7 +238,7 @@ class Reader(unittest.TestCase):
 
 class Program(unittest.TestCase):
     def test_the_stored_run(self):
-        """No two seasons of a station tie here, so the exact ends name the worst season of every right program."""
+        """No two seasons of a station tie here, so the exact ends name the highest mesh season of every right program."""
         cases = calc.read_sheet((PROGRAM / "stdin").read_bytes())
         names, *lines = lines_of((PROGRAM / "stdout").read_text(encoding="ascii"))
         self.assertEqual(names, ",".join(NAMES))

@@ -1,4 +1,4 @@
-"""Judges the working of a case: the questions of kind `working` of crates/asked, against the separately written
+"""Judges the working of a case: the questions of kind `working` of crates/questions, against the separately written
 calculator, and holds what is answered for examples B.1 to B.3 of IEEE Std 80-2013, Annex B, to the figures printed there.
 """
 
@@ -9,7 +9,7 @@ import calculator as calc
 import questions
 import working
 from calculator import Case, Refusal
-from printed import lines_of, read_asked
+from printed import read_asked
 from working import Working
 
 DEPTHS = (3, 6, 9, 12)
@@ -39,8 +39,7 @@ def rounds_to(number, printed):
 class Workings(unittest.TestCase):
     @classmethod
     def setUpClass(cls):
-        lines = lines_of(questions.FILE.read_text(encoding="ascii"))
-        printed = lines_of(questions.FILE.with_name("stdout").read_text(encoding="ascii"))
+        lines, printed = questions.stored()
         cls.answers, cls.broken = {}, []
         for line, out in zip(lines, printed):
             kind, *fields = line.split(",")

@@ -1,7 +1,7 @@
 """The working of a case: the quantities that IEEE Std 80-2013, Annex B, prints between a record and its row.
 
 Written from the documents beside the crate `working`, on the calculator's exact fractions, with a judge of what
-the program `asked` answers to a question of kind `working`: a lower and an upper end of each quantity.
+the program `questions` answers to a question of kind `working`: a lower and an upper end of each quantity.
 """
 
 from collections import namedtuple

@@ -1,7 +1,6 @@
-// Reads a sheet of document 01's own names from standard input and prints it with today's, or the
-// refusal.
-use case::Form;
+// Reads a sheet of document 01's own names from standard input and prints it with today's, or the refusal.
+use listing::Program;
 
 fn main() {
-    carrying::run(Form::Present);
+    cli::run(Program::Carry);
 }

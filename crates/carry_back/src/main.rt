@@ -1,7 +1,6 @@
-// Reads a sheet of today's names from standard input and prints it with document 01's own, or the
-// refusal.
-use case::Form;
+// Reads a sheet of today's names from standard input and prints it with document 01's own, or the refusal.
+use listing::Program;
 
 fn main() {
-    carrying::run(Form::Former);
+    cli::run(Program::CarryBack);
 }

@@ -1,94 +1,87 @@
-// The answer to a sheet as text: a line of names and a line for each row, or the refusal; the summary of its stations; and the answer of a search.
-mod held;
-mod rows;
+// What the programs print, as text in a buffer that the caller lends.
+mod carried;
+mod fields;
+mod lines;
+mod one_line;
+mod refusal;
 mod search;
+mod sheets;
 mod summary;
-mod verdicts;
 
-use judgement::BYTES;
+ghost use Prim.Native.Nat.{_≤_};
+ghost use lib.ListN.{length};
+ghost use Rattle.writing.specs.Put.{Put};
+ghost use Rattle.listing.specs.Programs.{programText};
+ghost use Rattle.listing.specs.Room.{textRoom};
+ghost use Rattle.listing.specs.Told.{Told};
+use carried::put_carried;
+use case::Form;
 use judgement::LINES;
 use row::ROW_LENGTH;
-use sheet::Answer;
-use stations::STATION_LENGTH;
-ghost use Prim.Native.Nat.{_≤_, _*_};
-ghost use lib.ListN.{length};
-ghost use Rattle.row.specs.Row.{rowLength};
-pub use held::count_kept;
-pub use held::hold;
-pub use rows::numbers;
-pub use search::fewest;
-pub use summary::summary_and_rows;
-pub use verdicts::verdict_word;
+use search::put_fewest;
+use sheets::put_sheet;
+use summary::put_summary;
 
-// A row for each of the most value lines.
-pub const TABLE: usize = LINES * ROW_LENGTH;
+// The programs, each by what it prints.
+pub enum Program {
+    Verdict,
+    Rows,
+    Margins,
+    Summary,
+    Fewest,
+    Carry,
+    CarryBack,
+}
 
-// Six numbers for each of the most stations.
-pub const SUMMARY: usize = LINES * STATION_LENGTH;
-
-// One byte more than a sheet may have, so that a longer one is refused.
-pub const SPACE: usize = BYTES + 1;
-
-// What is listed of each row.
-pub enum Listing {
+// What is shown of a row: station, season, verdict by its word and size; all its numbers; or station, season, verdict and the two margins.
+enum Shown {
+    Verdict,
     Numbers,
-    Verdicts,
+    Margins,
 }
 
-// The line of names.
-fn names(what: Listing) {
-    match what {
-        Listing::Numbers => rows::names(),
-        Listing::Verdicts => verdicts::names(),
-    }
-}
+// The most bytes of a field with the comma or the byte 10 after it: a sign, twenty digits, and that byte.
+const FIELD: usize = 22;
 
-// The line of one row.
-fn line(what: Listing, row: &[i64])
-    requires { ⌜ 4 ≤ length (now row) ⌝ }
+// The bytes of the longest line of names, that of the rows.
+const NAMES: usize = 352;
+
+// No text of any program is longer: a line of names, and the fields of a row for each of the most value lines.
+pub const TEXT: usize = NAMES + LINES * (FIELD * ROW_LENGTH);
+
+// The text of a program in a buffer with room for the longest.
+fn put_text(program: Program, s: &[u8], out: &mut [u8]) -> usize
+    requires { ⌜ textRoom ≤ length (now out) ⌝ }
+    ensures { λ r. ⌜ Put (now (out .entry)) 0 (programText program (now (s .entry))) (now (out .exit)) r ⌝ }
 {
-    match what {
-        Listing::Numbers => numbers(row),
-        Listing::Verdicts => verdicts::verdict(row),
+    match program {
+        Program::Verdict => put_sheet(s, out, b"station,season,verdict,kcmil\n", Shown::Verdict),
+        Program::Rows => put_sheet(
+            s,
+            out,
+            b"station,season,verdict,size_kcmil,grid_current_lower_uA,grid_current_upper_uA,factor_lower_billionths,factor_upper_billionths,tolerable_touch_lower_mV,tolerable_touch_upper_mV,tolerable_step_lower_mV,tolerable_step_upper_mV,mesh_lower_mV,mesh_upper_mV,step_lower_mV,step_upper_mV,resistance_lower_uohm,resistance_upper_uohm,rise_lower_mV,rise_upper_mV\n",
+            Shown::Numbers,
+        ),
+        Program::Margins => put_sheet(
+            s,
+            out,
+            b"station,season,verdict,mesh_excess_per_mille,step_excess_per_mille\n",
+            Shown::Margins,
+        ),
+        Program::Summary => put_summary(s, out),
+        Program::Fewest => put_fewest(s, out),
+        Program::Carry => put_carried(Form::Present, s, out),
+        Program::CarryBack => put_carried(Form::Former, s, out),
     }
 }
 
-// The first count rows of the table.
-fn lines(what: Listing, table: &[i64], count: usize)
-    requires { ⌜ rowLength * count ≤ length (now table) ⌝ }
+// What a program prints of its input, at the start of a buffer of at least TEXT bytes; answers how many bytes that is, and 0 with a shorter
+// buffer, which keeps what it holds.
+pub fn text(program: Program, s: &[u8], out: &mut [u8]) -> usize
+    ensures { λ r. ⌜ Told textRoom (programText program (now (s .entry))) (now (out .entry)) (now (out .exit)) r ⌝ }
 {
-    names(what);
-    let mut rest = table;
-    let mut i: usize = 0;
-    while i < count {
-        line(what, &rest[..ROW_LENGTH]);
-        rest = &rest[ROW_LENGTH..];
-        i += 1;
+    if out.len() < TEXT {
+        return 0;
     }
-}
-
-// Prints the answer to a sheet, and leaves its rows in the table.
-pub fn answer(what: Listing, s: &[u8], table: &mut [i64]) {
-    let a = sheet::sheet(s, table);
-    match a {
-        Answer::Rows(count) => lines(what, table, count),
-        Answer::Refused(why, line, column) => print::refused(why, line, column),
-    }
-}
-
-// Reads a sheet from standard input and prints its answer.
-pub fn run(what: Listing) {
-    let mut space = [0u8; SPACE];
-    let n = input::read(&mut space);
-    let mut table = [0i64; TABLE];
-    answer(what, &space[..n], &mut table);
-}
-
-// Reads a sheet from standard input and prints the summary of its stations.
-pub fn run_summary() {
-    let mut space = [0u8; SPACE];
-    let n = input::read(&mut space);
-    let mut table = [0i64; TABLE];
-    let mut beside = [0i64; SUMMARY];
-    summary::summary(&space[..n], &mut table, &mut beside);
+    put_text(program, s, out)
 }

@@ -1,30 +1,69 @@
-// The first safe yard of a search.
-use print::bytes;
-use print::number;
+// The search for the fewest lines as text.
+ghost use Prim.Native.Nat.{_≤_};
+ghost use mathlib.Core.Path.{_≡_};
+ghost use lib.ListN.{length};
+ghost use Rattle.text.specs.Value.{fieldValue};
+ghost use Rattle.writing.specs.Put.{Put};
+ghost use Rattle.listing.specs.Fewest.{sideOf, searchText, fewestText};
+ghost use Rattle.listing.specs.Room.{textRoom};
+use crate::one_line::read_one;
+use crate::refusal::put_numbered;
+use crate::refusal::put_refusal;
+use case::NAMES;
+use case::case_of;
+use judgement::BYTES;
+use judgement::Judgement;
+use text::Field;
+use text::find;
+use text::skip;
+use text::value;
 use yards::FewestLines;
+use yards::fewest_lines;
 
-// Numbers with commas between them.
-fn three(lines: u32, rods: u32, tried: u32) {
-    number(lines as u64);
-    bytes(b",");
-    number(rods as u64);
-    bytes(b",");
-    number(tried as u64);
+// The side that a line says, or 0, which is out of range.
+fn side_of(line: &[u8]) -> u32
+    ensures { λ r. ⌜ r ≡ sideOf (fieldValue (now (line .entry))) ⌝ }
+{
+    let side = value(line);
+    match side {
+        Field::Value(x) => x,
+        Field::Wrong => 0,
+    }
 }
 
-// Lines, rods and yards tried; or how many yards were tried, none of them safe; or the refusal.
-pub fn fewest(answer: FewestLines) {
+// Lines, rods and yards tried; how many yards were tried, none of them safe; or the refusal.
+fn put_search(out: &mut [u8], answer: FewestLines) -> usize
+    requires { ⌜ textRoom ≤ length (now out) ⌝ }
+    ensures { λ r. ⌜ Put (now (out .entry)) 0 (searchText answer) (now (out .exit)) r ⌝ }
+{
     match answer {
         FewestLines::Found(lines, rods, tried) => {
-            bytes(b"found,");
-            three(lines, rods, tried);
-            bytes(b"\n");
+            let numbers = [lines as u64, rods as u64, tried as u64];
+            put_numbered(out, b"found", &numbers)
         }
         FewestLines::None(tried) => {
-            bytes(b"none,");
-            number(tried as u64);
-            bytes(b"\n");
+            let numbers = [tried as u64];
+            put_numbered(out, b"none", &numbers)
         }
-        FewestLines::Refused(why, line, column) => print::refused(why, line, column),
+        FewestLines::Refused(why, line, column) => put_refusal(out, why, line, column),
+    }
+}
+
+// The answer to an input: a line with the side, then a sheet of one value line.
+pub fn put_fewest(s: &[u8], out: &mut [u8]) -> usize
+    requires { ⌜ textRoom ≤ length (now out) ⌝ }
+    ensures { λ r. ⌜ Put (now (out .entry)) 0 (fewestText (now (s .entry))) (now (out .exit)) r ⌝ }
+{
+    if BYTES < s.len() {
+        return put_refusal(out, 1, 0, 0);
+    }
+    let e = find(s, 10);
+    let side = side_of(&s[..e]);
+    let next = skip(e, s.len());
+    let mut values = [0u32; NAMES];
+    let read = read_one(&s[next..], &mut values);
+    match read {
+        Judgement::Lines(_) => put_search(out, fewest_lines(case_of(&values), side)),
+        Judgement::Refused(why, line, column) => put_refusal(out, why, line, column),
     }
 }

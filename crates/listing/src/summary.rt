@@ -1,56 +1,38 @@
-// The summary of the stations beside the rows.
-use crate::Listing;
-use crate::lines;
-use crate::rows::numbers;
-use print::bytes;
-use print::number;
+// The summary of a sheet's stations as text.
+ghost use Prim.Native.Nat.{_≤_};
+ghost use lib.ListN.{length};
+ghost use Rattle.writing.specs.Put.{Put};
+ghost use Rattle.listing.specs.Summary.{summaryText};
+ghost use Rattle.listing.specs.Room.{textRoom};
+use crate::Shown;
+use crate::lines::put_table;
+use crate::refusal::put_refusal;
+use crate::sheets::TABLE;
+use judgement::LINES;
 use stations::STATION_LENGTH;
 use stations::Summed;
-ghost use Prim.Native.Nat.{_≤_, _*_};
-ghost use lib.ListN.{length};
-ghost use Rattle.stations.specs.Summary.{stationLength};
+use stations::summary;
 
-// The first count stations of the table, after a line of names.
-fn station_lines(table: &[i64], count: usize)
-    requires { ⌜ stationLength * count ≤ length (now table) ⌝ }
+// Six numbers for each of the most stations.
+const STATIONS: usize = LINES * STATION_LENGTH;
+
+// The six numbers of each station after a line of names, or the refusal.
+pub fn put_summary(s: &[u8], out: &mut [u8]) -> usize
+    requires { ⌜ textRoom ≤ length (now out) ⌝ }
+    ensures { λ r. ⌜ Put (now (out .entry)) 0 (summaryText (now (s .entry))) (now (out .exit)) r ⌝ }
 {
-    bytes(b"station,seasons,safe,unsafe,undecided,worst_season\n");
-    let mut rest = table;
-    let mut i: usize = 0;
-    while i < count {
-        numbers(&rest[..STATION_LENGTH]);
-        rest = &rest[STATION_LENGTH..];
-        i += 1;
-    }
-}
-
-// Prints the six numbers of each station of a sheet, or the refusal.
-pub fn summary(s: &[u8], rows: &mut [i64], beside: &mut [i64]) {
-    let a = stations::summary(s, rows, beside);
+    let mut rows = [0i64; TABLE];
+    let mut beside = [0i64; STATIONS];
+    let a = summary(s, &mut rows, &mut beside);
     match a {
-        Summed::Summary(_, count) => station_lines(beside, count),
-        Summed::Refused(why, line, column) => print::refused(why, line, column),
-    }
-}
-
-// The line with the two counts of an answer.
-fn counts(rows: usize, stations: usize) {
-    bytes(b"summary,");
-    number(rows as u64);
-    bytes(b",");
-    number(stations as u64);
-    bytes(b"\n");
-}
-
-// Prints the counts, the stations and all numbers of the rows, or the refusal.
-pub fn summary_and_rows(s: &[u8], rows: &mut [i64], beside: &mut [i64]) {
-    let a = stations::summary(s, rows, beside);
-    match a {
-        Summed::Summary(n, m) => {
-            counts(n, m);
-            station_lines(beside, m);
-            lines(Listing::Numbers, rows, n);
-        }
-        Summed::Refused(why, line, column) => print::refused(why, line, column),
+        Summed::Summary(_, count) => put_table(
+            out,
+            b"station,seasons,safe,unsafe,undecided,highest_mesh_season\n",
+            &beside,
+            count,
+            STATION_LENGTH,
+            Shown::Numbers,
+        ),
+        Summed::Refused(why, line, column) => put_refusal(out, why, line, column),
     }
 }

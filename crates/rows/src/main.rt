@@ -1,7 +1,6 @@
-// Reads a sheet from standard input and prints all numbers of each row, or the refusal.
-// tests/test_rows.py judges the lines.
-use listing::Listing;
+// Reads a sheet from standard input and prints all numbers of each row, or the refusal. tests/test_rows.py judges the lines.
+use listing::Program;
 
 fn main() {
-    listing::run(Listing::Numbers);
+    cli::run(Program::Rows);
 }

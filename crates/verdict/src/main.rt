@@ -1,7 +1,6 @@
-// Reads a sheet from standard input and prints each row's station, season, verdict and kcmil, or
-// the refusal.
-use listing::Listing;
+// Reads a sheet from standard input and prints each row's station, season, verdict and kcmil, or the refusal.
+use listing::Program;
 
 fn main() {
-    listing::run(Listing::Verdicts);
+    cli::run(Program::Verdict);
 }

@@ -1,23 +1,23 @@
 -- A pass over the m lines of k numbers of a table: those before line i are passed, and `rest` holds the numbers of the others.
 use Prim.Native.Nat.{ℕ, suc, _+_, _*_, _-_, _≤_, _<_}
 use mathlib.Core.Path.{_≡_, ap, _∙_}
-use mathlib.Core.List.{List, [], _∷_}
+use mathlib.Core.List.{List, [], _∷_, map}
 use native.Mathlib.Nat.{sub-zero}
 use native.Mathlib.Omega.{arith}
 use lib.ListN.{length, take, drop, length-drop}
 use lib.Seq.{take-all, length-take-le}
 use Rattle.tables.specs.Parts.{partsOf}
-use Rattle.writing.proofs.LinesWriting.{after-line}
+use Rattle.writing.proofs.LinesWriting.{made-next, made-none, after-line}
 
-pub record TableRest (k m : ℕ) (t rest : List ℕ) (i : ℕ) : Type 0 where
+pub record TableRest {A : Type 0} (k m : ℕ) (t rest : List A) (i : ℕ) : Type 0 where
   pub lines : drop i (partsOf k m t) ≡ partsOf k (m - i) rest
   pub enough : (m - i) * k ≤ length rest
   pub shorter : length rest ≤ length t
 
-pub rest-start : (k m : ℕ) (t : List ℕ) → m * k ≤ length t → TableRest k m t t 0
+pub rest-start : {A : Type 0} (k m : ℕ) (t : List A) → m * k ≤ length t → TableRest k m t t 0
 rest-start k m t h = record { lines = rw (sub-zero m); enough = rw (sub-zero m) h; shorter = omega arith }
 
-module _ {k m : ℕ} {t rest : List ℕ} {i : ℕ} (a : TableRest k m t rest i) where
+module _ {A : Type 0} {k m : ℕ} {t rest : List A} {i : ℕ} (a : TableRest k m t rest i) where
   -- a line is next
   module _ (h : i < m) where
     one-less : m - i ≡ suc (m - (i + 1))
@@ -36,6 +36,10 @@ module _ {k m : ℕ} {t rest : List ℕ} {i : ℕ} (a : TableRest k m t rest i) 
     unfolding partsOf
     table-next = a .lines ∙ ap (λ (j : ℕ). partsOf k j rest) one-less
 
+    -- the line made of it
+    pub line-next : (f : List A → List ℕ) → drop i (map f (partsOf k m t)) ≡ f (take k rest) ∷ map f (partsOf k (m - (i + 1)) (drop k rest))
+    line-next f = made-next f (partsOf k m t) i table-next
+
     pub rest-step : TableRest k m t (take (length rest - k) (drop k rest)) (i + 1)
     rest-step =
         rw (take-all (length rest - k) (drop k rest) (omega (arith, length-drop k rest)))
@@ -48,3 +52,6 @@ module _ {k m : ℕ} {t rest : List ℕ} {i : ℕ} (a : TableRest k m t rest i) 
   pub table-none : m ≤ i → drop i (partsOf k m t) ≡ []
   unfolding partsOf
   table-none h = let e : m - i ≡ 0 = omega arith in a .lines ∙ ap (λ (j : ℕ). partsOf k j rest) e
+
+  pub line-none : (f : List A → List ℕ) → m ≤ i → drop i (map f (partsOf k m t)) ≡ []
+  line-none f h = made-none f (partsOf k m t) i (table-none h)

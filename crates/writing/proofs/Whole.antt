@@ -1,5 +1,5 @@
 -- The writing of a whole text at a buffer's start, in two parts, or not at all.
-use Prim.Native.Nat.{ℕ, zero, suc, _+_, _*_, _≤_, _<_}
+use Prim.Native.Nat.{ℕ, _+_, _*_, _≤_, _<_}
 use mathlib.Core.Path.{_≡_, refl, ap, _∙_}
 use mathlib.Core.Bool.{Bool, true, false, cond}
 use mathlib.Core.List.{List, _++_}
@@ -54,6 +54,9 @@ module _ (s u b : List ℕ) where
 pub written-size : {t before after : List ℕ} {r : Written} → WrittenFirst t before after r → length after ≡ length before
 written-size {t} {before} w = go (leb (length t) (length before)) refl (w .holds)
   where
-    go : (b : Bool) → leb (length t) (length before) ≡ b → {after : List ℕ} → after ≡ cond b (t ++ drop (length t) before) before → length after ≡ length before
-    go true e h = ap length h ∙ length-append t (drop (length t) before) ∙ omega (arith, length-drop (length t) before, leb-true (length t) (length before) e)
+    go : (b : Bool) → leb (length t) (length before) ≡ b → {after : List ℕ} → after ≡ cond b (t ++ drop (length t) before) before
+        → length after ≡ length before
+    go true e h =
+        ap length h ∙ length-append t (drop (length t) before)
+        ∙ omega (arith, length-drop (length t) before, leb-true (length t) (length before) e)
     go false e h = ap length h

@@ -1,16 +1,19 @@
 -- `put_lines` writes line after line: proofs/LinesWriting.antt, with the lines of a table of proofs/TableRest.antt.
 use Prim.Native.Nat.{_-_}
 use mathlib.Core.Path.{sym}
+use mathlib.Core.List.{map}
 use native.Mathlib.Omega.{arith}
 use borrow.Author.Needs.{needs}
 use Rattle.tables.specs.Parts.{partsOf}
+use Rattle.writing.specs.Text.{valueLine}
 use Rattle.writing.proofs.LinesWriting.{LinesAt, lines-start, line-room, line-step, lines-end}
-use Rattle.writing.proofs.TableRest.{TableRest, rest-start, rest-step, table-next, table-none, line-within, line-size}
+use Rattle.writing.proofs.TableRest.{TableRest, rest-start, rest-step, line-next, line-none, line-within, line-size}
 use Rattle.writing.proofs.put_lines.Statement.{statement}
 use Rattle.writing.proofs.put_lines.Tie as tie
 
 abbrev Inv-loop : tie.InvT-loop
-Inv-loop buf₀ at table k m rest₀ p₀ i₀ buf rest p i = TableRest k m table rest i × LinesAt buf₀ at (partsOf k m table) buf p i
+Inv-loop buf₀ at table k m rest₀ p₀ i₀ buf rest p i =
+    TableRest k m table rest i × LinesAt buf₀ at (map valueLine (partsOf k m table)) buf p i
 
 abbrev μ-loop : tie.MeasureT-loop
 μ-loop buf₀ at table k m rest₀ p₀ i₀ buf rest p i = m - i
@@ -26,7 +29,7 @@ put-line-requires c κs =
     let i = c .before .before in
     let l = i .before in (
       omega (arith, line-size (l .loop .inv .0) (i .loop-test .taken), l .before .before .before .pre .0),
-      line-room (l .loop .inv .1) (table-next (l .loop .inv .0) (i .loop-test .taken)),
+      line-room (l .loop .inv .1) (line-next (l .loop .inv .0) (i .loop-test .taken) valueLine),
     )
 
 mul-rest : tie.Need-mul-rest Inv-loop μ-loop
@@ -41,27 +44,18 @@ sub-rest c = let i = c .before .before .before .before .before in line-within (i
 part-rest-start : tie.Need-part-rest-start Inv-loop μ-loop
 part-rest-start c = sub-rest c
 
-part-rest-end : tie.Need-part-rest-end Inv-loop μ-loop
-part-rest-end c = search needs
-
-add-i : tie.Need-add-i Inv-loop μ-loop
-add-i c = search needs
-
-loop-less : tie.Need-loop-less Inv-loop μ-loop
-loop-less c = search needs
-
 loop-again : tie.Need-loop-again Inv-loop μ-loop
 loop-again c =
     let k = c .before .before .before in
     let i = k .before .before .before in
     let a = i .before .loop .inv in
-    (rest-step (a .0) (i .loop-test .taken), line-step (a .1) (table-next (a .0) (i .loop-test .taken)) (k .put-line .ensures))
+    (rest-step (a .0) (i .loop-test .taken), line-step (a .1) (line-next (a .0) (i .loop-test .taken) valueLine) (k .put-line .ensures))
 
 same-length : tie.Need-same-length Inv-loop μ-loop
 same-length c = c .before .loop .inv .1 .filling .size
 
 returns : tie.Need-returns Inv-loop μ-loop
-returns c = let a = c .before .loop .inv in lines-end (a .1) (table-none (a .0) (c .loop-test .left))
+returns c = let a = c .before .loop .inv in lines-end (a .1) (line-none (a .0) valueLine (c .loop-test .left))
 
 pub put-lines-spec : {M : Type 1} → statement M
 put-lines-spec =
@@ -75,9 +69,9 @@ put-lines-spec =
     mul-rest
     sub-rest
     part-rest-start
-    part-rest-end
-    add-i
-    loop-less
+    (λ c. search needs)
+    (λ c. search needs)
+    (λ c. search needs)
     loop-again
     same-length
     returns)

@@ -14,9 +14,6 @@ returns c =
     let a = c .before .before .before .before .args in
     too-short (a .names .now) (linesText (partsOf (a .k) (a .m) (a .table .now))) (a .buf .now) (omega (arith, c .if1 .taken))
 
-sub-if2 : tie.Need-sub-if2
-sub-if2 c = search needs
-
 lines-length-requires : tie.Need-lines-length-requires
 lines-length-requires c κs =
     let s = c .before .before .before .before in
@@ -27,7 +24,8 @@ returns-2 : tie.Need-returns-2
 returns-2 c =
     let e = c .before .before in
     let a = e .before .before .before .before .args in
-    too-short (a .names .now) (linesText (partsOf (a .k) (a .m) (a .table .now))) (a .buf .now) (omega (arith, c .if2 .taken, c .before .lines-length .ensures, e .if1 .left))
+    too-short (a .names .now) (linesText (partsOf (a .k) (a .m) (a .table .now))) (a .buf .now)
+    (omega (arith, c .if2 .taken, c .before .lines-length .ensures, e .if1 .left))
 
 -- there is room
 roomy : (c : tie.Else2)
@@ -35,19 +33,19 @@ roomy : (c : tie.Else2)
     length (a .names .now) + length (linesText (partsOf (a .k) (a .m) (a .table .now))) ≤ length (a .buf .now)
 roomy c = omega (arith, c .if2 .left, c .before .lines-length .ensures, c .before .before .if1 .left)
 
-put-bytes-requires : tie.Need-put-bytes-requires
-put-bytes-requires c κs = search needs
-
 put-lines-requires : tie.Need-put-lines-requires
 put-lines-requires c κs =
     let k = c .before .before .before in
     let e = k .before .before in
     let s = e .before .before .before .before .before .before in
-    let a = s .args in
-    (s .pre .0, (s .pre .1 .0, second-room (a .names .now) (linesText (partsOf (a .k) (a .m) (a .table .now))) (a .buf .now) (roomy e) (k .put-bytes .ensures)))
-
-same-length : tie.Need-same-length
-same-length c = search needs
+    let a = s .args in (
+      s .pre .0,
+      (
+        s .pre .1 .0,
+        second-room (a .names .now) (linesText (partsOf (a .k) (a .m) (a .table .now))) (a .buf .now) (roomy e)
+            (k .put-bytes .ensures),
+      ),
+    )
 
 returns-3 : tie.Need-returns-3
 returns-3 c =
@@ -55,17 +53,18 @@ returns-3 c =
     let k = w .before .before .before .before in
     let e = k .before .before in
     let a = e .before .before .before .before .before .before .args in
-    both-parts (a .names .now) (linesText (partsOf (a .k) (a .m) (a .table .now))) (a .buf .now) (roomy e) (k .put-bytes .ensures) (w .put-lines .ensures)
+    both-parts (a .names .now) (linesText (partsOf (a .k) (a .m) (a .table .now))) (a .buf .now) (roomy e) (k .put-bytes .ensures)
+    (w .put-lines .ensures)
 
 pub write-sheet-spec : {M : Type 1} → statement M
 write-sheet-spec =
     tie.close
     (tie.spec
     returns
-    sub-if2
+    (λ c. search needs)
     lines-length-requires
     returns-2
-    put-bytes-requires
+    (λ c κs. search needs)
     put-lines-requires
-    same-length
+    (λ c. search needs)
     returns-3)

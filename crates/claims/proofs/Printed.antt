@@ -1,0 +1,88 @@
+-- What `verdict` prints, from what its text is promised to be.
+use Prim.Native.Nat.{ℕ, _≤_, _<_}
+use mathlib.Core.Path.{_≡_, refl, sym, ap, _∙_}
+use mathlib.Core.Bool.{Bool, true, false, cond}
+use mathlib.Core.List.{List, [], _∷_, _++_, map, append-nil}
+use native.Mathlib.Omega.{arith}
+use lib.ListN.{length, getD, drop, length-map}
+use lib.Seq.{take-at, drop-at}
+use lib.Dec.{leb}
+use borrow.Author.Tests.{leb-true, leb-false}
+use Rattle.case.specs.Case.{caseOf}
+use Rattle.case.specs.Columns.{columns}
+use Rattle.text.specs.Text.{bytes}
+use Rattle.writing.specs.Decimal.{decimal}
+use Rattle.writing.specs.Text.{parted, moreFields, textOf}
+use Rattle.judgement.specs.declared.Judgement.{Judgement}
+use Rattle.judgement.specs.declared.Judgement.the-variants.{Lines, Refused}
+use Rattle.judgement.specs.Sheet.{judgement}
+use Rattle.row.specs.declared.Row.{Row}
+use Rattle.row.specs.Ends.{rowOf}
+use Rattle.sheet.specs.Answer.{cases}
+use Rattle.stations.specs.Answer.{sheetRows}
+use Rattle.listing.specs.declared.Program.the-variants.{Verdict}
+use Rattle.listing.specs.Refusal.{numbered, refusedText, unlessRefused}
+use Rattle.listing.specs.Listed.{listed}
+use Rattle.listing.specs.Verdict.{verdictNames, verdictFields, verdictText}
+use Rattle.listing.specs.Programs.{programText}
+use Rattle.listing.specs.Room.{textRoom}
+use Rattle.listing.specs.Told.{Told}
+use Rattle.claims.specs.Printed.{Printed, rowLine, VerdictOutcome, rows, refused, short}
+use Rattle.claims.proofs.Lines.{map-at}
+use Rattle.claims.proofs.Sheets.{cases-count}
+
+-- the line of a row
+abbrev line : Row → List ℕ
+line r = parted (verdictFields r)
+
+lines-of : (rs : List Row) → map parted (map verdictFields rs) ≡ map line rs
+lines-of [] = refl
+lines-of (r ∷ rs) = ap (λ (ls : List (List ℕ)). line r ∷ ls) (lines-of rs)
+
+line-at : (s : List ℕ) (i : ℕ) → i < length (cases s) → getD (map line (sheetRows s)) i [] ≡ rowLine s i
+unfolding verdictFields
+line-at s i h =
+    let l : length (sheetRows s) ≡ length (cases s) = length-map (cases s) rowOf in
+    map-at line (sheetRows s) i (rowOf (caseOf [])) [] (omega arith) ∙ ap line (map-at rowOf (cases s) i (caseOf []) (rowOf (caseOf [])) h)
+
+names-line : parted verdictNames ≡ bytes "station,season,verdict,kcmil"
+unfolding verdictNames parted moreFields
+names-line = refl
+
+refusal-line : (number line column : ℕ)
+    → refusedText number line column ≡ textOf (parted (bytes "refused" ∷ decimal number ∷ decimal line ∷ decimal column ∷ []) ∷ [])
+unfolding refusedText numbered textOf
+refusal-line number line column = sym (append-nil _)
+
+-- where the text t stands in the buffer
+at-start : {t before after : List ℕ} {r : ℕ} (ls : List (List ℕ)) → r ≡ length t → after ≡ t ++ drop (length t) before → t ≡ textOf ls
+    → Printed ls before after r
+at-start {t} {before} ls q w e =
+    record {
+      text = rw (w, q) (take-at t (drop (length t) before) (length t) refl ∙ e);
+      rest = rw (w, q) (drop-at t (drop (length t) before) (length t) refl);
+    }
+
+module _ {s before after : List ℕ} {r : ℕ} where
+  shown : textRoom ≤ length before → (j : Judgement) → judgement columns s ≡ j
+      → r ≡ length (unlessRefused j (listed verdictNames (map verdictFields (sheetRows s))))
+      → after
+      ≡ unlessRefused j (listed verdictNames (map verdictFields (sheetRows s)))
+      ++ drop (length (unlessRefused j (listed verdictNames (map verdictFields (sheetRows s))))) before
+      → VerdictOutcome s before after r
+  unfolding unlessRefused listed
+  shown room (Lines n) e q w =
+      let k : n ≡ length (cases s) = cases-count s n e in
+      rows n (map line (sheetRows s)) room e (length-map (sheetRows s) line ∙ length-map (cases s) rowOf ∙ sym k)
+      (λ i h. line-at s i (omega arith))
+      (at-start _ q w (ap (λ (ls : List (List ℕ)). textOf (parted verdictNames ∷ ls)) (lines-of (sheetRows s)) ∙ ap (λ (l : List ℕ). textOf (l ∷ map line (sheetRows s))) names-line))
+  shown room (Refused number line column) e q w = refused number line column room e (at-start _ q w (refusal-line number line column))
+
+  pub verdict-outcome : Told textRoom (programText Verdict s) before after r → VerdictOutcome s before after r
+  unfolding programText verdictText
+  verdict-outcome p = go (leb textRoom (length before)) refl (p .answer) (p .holds)
+    where
+      go : (b : Bool) → leb textRoom (length before) ≡ b → r ≡ cond b (length (verdictText s)) 0
+          → after ≡ cond b (verdictText s ++ drop (length (verdictText s)) before) before → VerdictOutcome s before after r
+      go true e q w = shown (leb-true _ _ e) (judgement columns s) refl q w
+      go false e q w = short (leb-false _ _ e) q w

@@ -1,0 +1,21 @@
+-- What each program prints of its standard input.
+use Prim.Native.Nat.{ℕ}
+use mathlib.Core.List.{List}
+use Rattle.case.specs.declared.Form.the-variants.{Present, Former}
+use Rattle.listing.specs.declared.Program.{Program}
+use Rattle.listing.specs.declared.Program.the-variants.{Verdict, Rows, Margins, Summary, Fewest, Carry, CarryBack}
+use Rattle.listing.specs.Verdict.{verdictText}
+use Rattle.listing.specs.Rows.{rowsText}
+use Rattle.listing.specs.Margins.{marginsText}
+use Rattle.listing.specs.Summary.{summaryText}
+use Rattle.listing.specs.Fewest.{fewestText}
+use Rattle.listing.specs.Carried.{carryText}
+
+unfoldable pub programText : Program → List ℕ → List ℕ
+programText Verdict s = verdictText s
+programText Rows s = rowsText s
+programText Margins s = marginsText s
+programText Summary s = summaryText s
+programText Fewest s = fewestText s
+programText Carry s = carryText Present s
+programText CarryBack s = carryText Former s

@@ -1,0 +1,37 @@
+-- `sheets::carried::at_lengths` is safe and ends: the measure is what is left of the lengths.
+use native.Mathlib.Omega.{arith}
+use borrow.Author.Needs.{needs}
+use lib.ListN.{length}
+use Rattle.sheets.proofs.carried.at_lengths.Statement.{statement}
+use Rattle.sheets.proofs.carried.at_lengths.Tie as tie
+
+abbrev Inv-loop : tie.InvT-loop
+Inv-loop lengths s rest₀ rest = Unit
+
+abbrev μ-loop : tie.MeasureT-loop
+μ-loop lengths s rest₀ rest = length rest
+
+loop-less : tie.Need-loop-less Inv-loop μ-loop
+loop-less c =
+    let t = c .before .before .before .before in
+    omega (arith, c .rest .given .2, t .first-part .ensures .goes (t .before .loop-test .taken))
+
+pub at-lengths-spec : {M : Type 1} → statement M
+at-lengths-spec =
+    tie.close
+    (tie.spec
+    Inv-loop
+    μ-loop
+    (λ c. search needs)
+    (λ c κs. search needs)
+    (λ c. search needs)
+    (λ c. search needs)
+    (λ c. search needs)
+    (λ c κs. search needs)
+    (λ c κs. search needs)
+    (λ c. search needs)
+    (λ c. search needs)
+    (λ c. search needs)
+    loop-less
+    (λ c. search needs)
+    (λ c. search needs))
