@@ -267,7 +267,10 @@ def damaged(rng):
         text, _ = sheets.random_sheet(rng)
         if SHEET_END not in text and len(text) < sheets.BATCH_SHORT and isinstance(calc.read_sheet(text), Refusal):
             some.append(text)
-    return some + [b"", b"\n", b"station\n"]
+    case = sheets.random_case(rng)
+    return some + [b"", b"\n", b"station\n", sheets.sheet_of([]), sheets.sheet_of([case._replace(layer=100, thick=0)]),
+                   sheets.sheet_of([case._replace(rods=0, rodlen=1000, place=1)]), sheets.sheet_of([case._replace(hz=55)]),
+                   sheets.sheet_of([case, case])]
 
 
 def blocks():

@@ -35,7 +35,7 @@ pub disagreement-is : (at : List ℕ) (c : Case) → disagreement columns at (va
     ≡ cond (agree (c .layer) (c .thick))
     (cond (agree (c .rods) (c .rodlen) && agree (c .rods) (c .place)) Sound (Disagreement (named columns at "rods")))
     (Disagreement (named columns at "layer"))
-unfolding disagreement named nameIndex columns same values
+unfolding disagreement named nameIndex columns same
 disagreement-is at c = refl
 
 pub agreements : (at : List ℕ) (c : Case) → disagreement columns at (values c) ≡ Sound → Agreed c

@@ -8,6 +8,7 @@ use mathlib.Core.List.{List}
 use native.Mathlib.Omega.{arith}
 use lib.ListN.{length, getD}
 use lib.Dec.{T, leb, eqb, leb→le, eqb→eq}
+use mir.Facts.{and-yes, or-yes}
 use Rattle.text.proofs.Clash.{clash}
 use Rattle.case.specs.declared.Case.{Case}
 use Rattle.case.specs.declared.Finding.{Finding}
@@ -20,7 +21,6 @@ use Rattle.case.specs.Check.{recordJudged}
 use Rattle.case.specs.declared.Judged.the-variants as judged
 use Rattle.case.specs.Parts.{rangeAt}
 use Rattle.case.specs.Bounds.{Placed, Between, Bare, Layered, Rodless, Rodded, Bounds}
-use Rattle.case.proofs.Tests.{both, one-of}
 use Rattle.case.proofs.Ranges.{InRange, in-range, in-range-at, some-columns}
 use Rattle.case.proofs.Agreement.{Agree, Agreed, agreements}
 
@@ -43,13 +43,13 @@ tests at c h = go (eqb (outOfRange columns at (values c)) 0) refl h
 
 -- what the three kinds of range say
 between : (a b x : ℕ) → T (leb a x && leb x b) → Between a x b
-between a b x h = let t = both (leb a x) (leb x b) h in record { low = leb→le a x (t .0); high = leb→le x b (t .1) }
+between a b x h = let t = and-yes (leb a x) (leb x b) h in record { low = leb→le a x (t .0); high = leb→le x b (t .1) }
 
 zero-or : (a b x : ℕ) → T (eqb x 0 || leb a x && leb x b) → (x ≡ 0) ⊎ Between a x b
-zero-or a b x h = ⊎-elim (λ t. inl (eqb→eq x 0 t)) (λ t. inr (between a b x t)) (one-of (eqb x 0) (leb a x && leb x b) h)
+zero-or a b x h = ⊎-elim (λ t. inl (eqb→eq x 0 t)) (λ t. inr (between a b x t)) (or-yes (eqb x 0) (leb a x && leb x b) h)
 
 either-of : (a b x : ℕ) → T (eqb x a || eqb x b) → (x ≡ a) ⊎ (x ≡ b)
-either-of a b x h = ⊎-elim (λ t. inl (eqb→eq x a t)) (λ t. inr (eqb→eq x b t)) (one-of (eqb x a) (eqb x b) h)
+either-of a b x h = ⊎-elim (λ t. inl (eqb→eq x a t)) (λ t. inr (eqb→eq x b t)) (or-yes (eqb x a) (eqb x b) h)
 
 surface : (c : Case) → (c .layer ≡ 0) ⊎ Between 100 (c .layer) 10000 → (c .thick ≡ 0) ⊎ Between 20 (c .thick) 300
     → Agree (c .layer) (c .thick) → Bare c ⊎ Layered c
@@ -68,7 +68,7 @@ rods c n (inr l) p (inr z) (inr y) =
     inr (record { rods = record { low = z .0; high = n }; rodlen = l; place = record { low = y .1; high = p } })
 
 bounded : (c : Case) → InRange columns (values c) → Agreed c → Bounds c
-unfolding columns values inRange rangeAt named nameIndex same
+unfolding columns inRange rangeAt named nameIndex same
 bounded c r g =
     let at : (name : String) → T (inRange (rangeAt columns (nameIndex columns (bytes name))) (named columns (values c) name))
     = λ name. in-range-at columns (values c) refl r (nameIndex columns (bytes name)) in

@@ -6,6 +6,7 @@ use mathlib.Core.Logic.{_⊎_, inl, inr}
 use native.Mathlib.Omega.{arith}
 use lib.Dec.{T, leb, eqb, le→leb, eqb·suc-zero}
 use borrow.Author.Tests.{eq-eqb}
+use mir.Facts.{yes-and}
 use Rattle.case.specs.declared.Case.{Case}
 use Rattle.case.specs.declared.Finding.the-variants as found
 use Rattle.case.specs.declared.Judged.the-variants.{Sound}
@@ -13,7 +14,7 @@ use Rattle.case.specs.Columns.{columns, inRange}
 use Rattle.case.specs.Case.{values}
 use Rattle.case.specs.Check.{outOfRange, agree, disagreement, finding, caseFinding, ownPlaces, recordFinding, judgedBy, recordJudged}
 use Rattle.case.specs.Bounds.{Between, Bare, Layered, Rodless, Rodded, Bounds}
-use Rattle.case.proofs.Tests.{passed, and-both, or-right, _then_}
+use Rattle.case.proofs.Tests.{passed, or-right, _then_}
 use Rattle.case.proofs.Ranges.{InRange, in-range-at}
 use Rattle.case.proofs.RangeNumbers.{in-ranges}
 use Rattle.case.proofs.Agreement.{disagreement-is}
@@ -21,10 +22,10 @@ use Rattle.case.proofs.Agreement.{disagreement-is}
 -- ---- the three kinds of range
 
 within : {a x b : ℕ} → Between a x b → T (leb a x && leb x b)
-within {a} {x} {b} h = and-both (leb a x) (leb x b) (le→leb a x (h .low)) (le→leb x b (h .high))
+within {a} {x} {b} h = yes-and (leb a x) (leb x b) (le→leb a x (h .low)) (le→leb x b (h .high))
 
 at-most : (x b : ℕ) → x ≤ b → T (leb 0 x && leb x b)
-at-most x b h = and-both (leb 0 x) (leb x b) (le→leb 0 x (omega arith)) (le→leb x b h)
+at-most x b h = yes-and (leb 0 x) (leb x b) (le→leb 0 x (omega arith)) (le→leb x b h)
 
 zero-passes : (a b x : ℕ) → x ≡ 0 → T (eqb x 0 || leb a x && leb x b)
 zero-passes a b x e = rw e tt

@@ -10,8 +10,10 @@ use lib.Dec.{leb, eqb}
 use borrow.Author.Tests.{eq-eqb, ne-eqb, le-leb, lt-leb}
 use Rattle.text.proofs.Clash.{clash}
 use Rattle.case.specs.Columns.{Range, from, zeroOr, either, inRange, Form, columns, nameCount, name-count}
+use Rattle.case.specs.Columns.{allColumns, allCount, all-count}
 use Rattle.case.specs.Check.{outOfRange}
 use Rattle.case.specs.Parts.{rangeAt, lowOf, highOf, otherOf, passes, InRanges}
+use Rattle.case.proofs.Places.{first-range}
 
 or-false : (a : Bool) → (a || false) ≡ a
 or-false true = refl
@@ -68,14 +70,16 @@ entry-is (c ∷ form) o zero h x = passes-is (c .range) x (and-left (leb (lowOf 
 entry-is (c ∷ form) o (suc k) h x =
     entry-is form (and-right (leb (lowOf (c .range)) (highOf (c .range))) (orderly form) o) k (omega arith) x
 
-orderly-columns : orderly columns ≡ true
-unfolding columns lowOf highOf
+orderly-columns : orderly allColumns ≡ true
+unfolding columns allColumns lowOf highOf
 orderly-columns = refl
 
--- by the tables of today's form
-pub table-entry : (k x : ℕ) → k < nameCount
-    → passes (getD (lows columns) k 0) (getD (highs columns) k 0) (getD (others columns) k 0) x ≡ inRange (rangeAt columns k) x
-table-entry k x h = entry-is columns orderly-columns k (omega (arith, name-count)) x
+-- the test of a value by the tables of both forms
+abbrev pub passesAt : ℕ → ℕ → Bool
+passesAt k x = passes (getD (lows allColumns) k 0) (getD (highs allColumns) k 0) (getD (others allColumns) k 0) x
+
+pub table-entry : (k x : ℕ) → k < allCount → passesAt k x ≡ inRange (rangeAt allColumns k) x
+table-entry k x h = entry-is allColumns orderly-columns k (omega (arith, all-count)) x
 
 -- ---- the pass over the values of today's form: what holds when the first k are done
 
@@ -86,16 +90,13 @@ pub record Tested (v : List ℕ) (all : Bool) (k : ℕ) : Type 0 where
 pub tested-start : (v : List ℕ) → Tested v true 0
 tested-start v = record { most = omega arith; each = λ e j h. absurd (omega arith) }
 
-pub tested-step : {v : List ℕ} {all : Bool} {k : ℕ} → Tested v all k → k < nameCount
-    → Tested v (all && passes (getD (lows columns) k 0) (getD (highs columns) k 0) (getD (others columns) k 0) (getD v k 0)) (k + 1)
+pub tested-step : {v : List ℕ} {all : Bool} {k : ℕ} → Tested v all k → k < nameCount → Tested v (all && passesAt k (getD v k 0)) (k + 1)
 tested-step {v} {all} {k} a h =
-    let here = passes (getD (lows columns) k 0) (getD (highs columns) k 0) (getD (others columns) k 0) (getD v k 0) in
+    let here = passesAt k (getD v k 0) in
     record { most = omega arith; each = λ e j l. go j (ℕ-discrete j k) l (and-left all here e) (and-right all here e) }
   where
-    go : (j : ℕ) → Dec (j ≡ k) → j < k + 1 → all ≡ true
-        → passes (getD (lows columns) k 0) (getD (highs columns) k 0) (getD (others columns) k 0) (getD v k 0) ≡ true
-        → inRange (rangeAt columns j) (getD v j 0) ≡ true
-    go j (yes p) l e f = rw p (sym (table-entry k (getD v k 0) h) ∙ f)
+    go : (j : ℕ) → Dec (j ≡ k) → j < k + 1 → all ≡ true → passesAt k (getD v k 0) ≡ true → inRange (rangeAt columns j) (getD v j 0) ≡ true
+    go j (yes p) l e f = rw (p, ← first-range k h) (sym (table-entry k (getD v k 0) (omega arith)) ∙ f)
     go j (no p) l e f = a .each e j (omega (arith, p))
 
 pub tested-end : {v : List ℕ} {all : Bool} {k : ℕ} → Tested v all k → nameCount ≤ k → all ≡ true → InRanges columns v

@@ -1,20 +1,7 @@
--- Tests joined by 'and' and by 'or', apart and together.
+-- Tests joined by 'or', a test as an equation, and proofs joined to a product.
 use mathlib.Core.Path.{_≡_, refl}
-use mathlib.Core.Bool.{Bool, true, false, _&&_, _||_}
-use mathlib.Core.Logic.{_⊎_, inl, inr}
+use mathlib.Core.Bool.{Bool, true, false, _||_}
 use lib.Dec.{T}
-
-pub both : (a b : Bool) → T (a && b) → T a × T b
-both true b t = (tt, t)
-both false b t = absurd t
-
-pub one-of : (a b : Bool) → T (a || b) → T a ⊎ T b
-one-of true b t = inl tt
-one-of false b t = inr t
-
-pub and-both : (a b : Bool) → T a → T b → T (a && b)
-and-both true b s t = t
-and-both false b s t = absurd s
 
 pub or-left : (a b : Bool) → T a → T (a || b)
 or-left true b t = tt

@@ -1,9 +1,9 @@
 -- The table of names. Document 01, 'The sheet'.
-use Prim.Native.Nat.{ℕ, zero, suc}
+use Prim.Native.Nat.{ℕ, zero, suc, _+_}
 use Prim.Native.String.{String}
 use mathlib.Core.Bool.{Bool, cond, _&&_, _||_}
 use mathlib.Core.Path.{_≡_, refl}
-use mathlib.Core.List.{List, [], _∷_}
+use mathlib.Core.List.{List, [], _∷_, _++_}
 use lib.ListN.{length, getD}
 use lib.Dec.{leb, eqb}
 use Rattle.text.specs.Text.{bytes, same}
@@ -106,12 +106,19 @@ columns =
     station ∷ season ∷ soil ∷ layer ∷ thick ∷ time "shock" ∷ time "clear" ∷ time "wire" ∷ body ∷ fault ∷ split ∷ xr ∷ conductors "across"
     ∷ conductors "along" ∷ space ∷ depth ∷ dia ∷ rods ∷ rodlen ∷ place ∷ metal ∷ hz ∷ []
 
+-- the columns of both forms: today's, then those that only the former has
+unfoldable pub allColumns : Form
+allColumns = columns ++ (time "ms" ∷ conductors "lines" ∷ [])
+
 -- how many they are
 abbrev pub nameCount : ℕ
 nameCount = 22
 
 abbrev pub formerNameCount : ℕ
 formerNameCount = 18
+
+abbrev pub allCount : ℕ
+allCount = nameCount + 2
 
 pub name-count : length columns ≡ nameCount
 unfolding columns
@@ -120,6 +127,10 @@ name-count = refl
 pub former-name-count : length formerColumns ≡ formerNameCount
 unfolding formerColumns
 former-name-count = refl
+
+pub all-count : length allColumns ≡ allCount
+unfolding columns allColumns
+all-count = refl
 
 -- the index of a name in a form, from 0, or the form's length where it is none of the names
 unfoldable pub nameIndex : Form → List ℕ → ℕ

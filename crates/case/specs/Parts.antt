@@ -6,6 +6,7 @@ use mathlib.Core.List.{List, []}
 use lib.Dec.{leb, eqb}
 use lib.ListN.{length, getD}
 use Rattle.case.specs.Columns.{Range, from, zeroOr, either, inRange, Column, Form, columns, nameCount, formerColumns}
+use Rattle.case.specs.Columns.{allColumns, allCount}
 use Rattle.case.specs.declared.Form.{Form as CodeForm}
 use Rattle.case.specs.declared.Form.the-variants.{Present, Former}
 
@@ -27,10 +28,10 @@ unfoldable pub rodsPlace : CodeForm → ℕ
 rodsPlace Present = 17
 rodsPlace Former = 14
 
--- the name with index k of a form has the range of the name with index r of today's
-pub record SameRange (form : CodeForm) (k r : ℕ) : Type 0 where
-  pub within : r < nameCount
-  pub is : rangeAt columns r ≡ rangeAt (formOf form) k
+-- the column with index k of a form is the one with index r of both forms
+pub record SameColumn (form : CodeForm) (k r : ℕ) : Type 0 where
+  pub within : r < allCount
+  pub is : getD allColumns r noColumn ≡ getD (formOf form) k noColumn
 
 -- r is that place; rodlen and place follow it, and layer and thick stand before it
 pub record RodsPlace (form : CodeForm) (r : ℕ) : Type 0 where

@@ -11,6 +11,7 @@ ghost use Rattle.case.specs.Parts.{formOf};
 use parts::disagreement;
 use parts::out_of_range;
 use range::all_in_range;
+pub use range::place;
 
 // The forms of a sheet: that of today, and document 01's own.
 pub enum Form {
@@ -22,6 +23,9 @@ pub enum Form {
 pub const NAMES: usize = 22;
 
 pub const FORMER_NAMES: usize = 18;
+
+// How many names the two forms have between them.
+pub const ALL_NAMES: usize = NAMES + 2;
 
 // The numbers of the table of names, in its order and units.
 pub struct Case {
@@ -55,6 +59,11 @@ pub enum Finding {
     OutOfRange(usize),
     Disagreement(usize),
 }
+
+// The refusals of a case by their numbers: a value out of its range, values that disagree.
+pub const VALUE_OUT_OF_RANGE: u32 = 5;
+
+pub const VALUES_DISAGREE: u32 = 6;
 
 // What the checks of a record answer before anything is asked of it: sound, or a refusal with number, line and column.
 pub enum Judged {
@@ -190,7 +199,7 @@ pub fn judge(c: Case) -> Judged
 {
     match check(c) {
         Finding::Sound => Judged::Sound,
-        Finding::OutOfRange(column) => Judged::Refused(5, 0, column),
-        Finding::Disagreement(column) => Judged::Refused(6, 0, column),
+        Finding::OutOfRange(column) => Judged::Refused(VALUE_OUT_OF_RANGE, 0, column),
+        Finding::Disagreement(column) => Judged::Refused(VALUES_DISAGREE, 0, column),
     }
 }

@@ -1,16 +1,18 @@
-// The table of ranges.
+// The table of ranges, and the places of the names in it.
 ghost use mathlib.Core.Path.{_≡_};
 ghost use Prim.Native.Nat.{_<_};
 ghost use mathlib.Core.Bool.{true};
 ghost use Rattle.case.specs.Columns.{columns, nameCount};
 ghost use lib.ListN.{length};
-ghost use Rattle.case.specs.Parts.{passes, formOf, SameRange, InRanges};
+ghost use Rattle.case.specs.Parts.{passes, formOf, SameColumn, InRanges};
+use crate::ALL_NAMES;
 use crate::FORMER_NAMES;
 use crate::Form;
 use crate::NAMES;
 
-// The ranges in the order of the names, three numbers each: low end, high end, and one value more that is in the range, where there is one.
-pub const LOWS: [u32; NAMES] = [
+// The ranges of today's names in their order, then of those that only the former form has, three numbers each: low end, high end, and one
+// value more that is in the range, where there is one.
+pub const LOWS: [u32; ALL_NAMES] = [
     1, // station
     1, // season
     10, // soil
@@ -33,9 +35,11 @@ pub const LOWS: [u32; NAMES] = [
     0, // place
     1, // metal
     50, // hz
+    9, // ms
+    2, // lines
 ];
 
-pub const HIGHS: [u32; NAMES] = [
+pub const HIGHS: [u32; ALL_NAMES] = [
     65535, // station
     4, // season
     5000, // soil
@@ -58,9 +62,11 @@ pub const HIGHS: [u32; NAMES] = [
     2, // place
     11, // metal
     50, // hz
+    3000, // ms
+    25, // lines
 ];
 
-pub const OTHERS: [u32; NAMES] = [
+pub const OTHERS: [u32; ALL_NAMES] = [
     1, // station
     1, // season
     10, // soil
@@ -83,6 +89,8 @@ pub const OTHERS: [u32; NAMES] = [
     0, // place
     1, // metal
     60, // hz
+    9, // ms
+    2, // lines
 ];
 
 // Whether a value is in the range of three numbers.
@@ -92,19 +100,19 @@ pub fn in_range(low: u32, high: u32, other: u32, v: u32) -> bool
     ((low <= v) & (v <= high)) | (v == other)
 }
 
-// The places in the table of the former form's names: ms has the range of shock, lines that of across.
+// The places in the table of the former form's names. The names themselves stand in the same order in `header`.
 const FORMER: [usize; FORMER_NAMES] = [
     0,
     1,
     2,
     3,
     4,
-    5,
+    22,
     8,
     9,
     10,
     11,
-    12,
+    23,
     14,
     15,
     16,
@@ -117,7 +125,7 @@ const FORMER: [usize; FORMER_NAMES] = [
 // The place in the table of the name with index k of a form.
 pub fn place(form: Form, k: usize) -> usize
     requires { ⌜ k < length (formOf form) ⌝ }
-    ensures { λ r. ⌜ SameRange form k r ⌝ }
+    ensures { λ r. ⌜ SameColumn form k r ⌝ }
 {
     match form {
         Form::Present => k,

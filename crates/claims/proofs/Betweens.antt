@@ -6,9 +6,10 @@ use lib.Dec.{leb}
 use lib.IntN.{ℤ}
 use lib.Signed.{_≤ℤ_, leZ, leZ-yes}
 use borrow.Author.Tests.{leb-true, le-leb}
+use mir.Facts.{and-yes as both, yes-and}
 use Rattle.text.proofs.Clash.{clash}
 use Rattle.case.specs.Bounds.{Between}
-use Rattle.case.proofs.Tests.{both, and-both, passed}
+use Rattle.case.proofs.Tests.{passed}
 
 pub and-yes : (a b : Bool) → a && b ≡ true → (a ≡ true) × (b ≡ true)
 and-yes true b e = (refl, e)
@@ -29,4 +30,4 @@ module _ (a x b : ℤ) where
   betweenℤ-yes e = let p = both (leZ a x) (leZ x b) (rw e tt) in (leZ-yes (p .0), leZ-yes (p .1))
 
   pub betweenℤ-is : (a ≤ℤ x) × (x ≤ℤ b) → leZ a x && leZ x b ≡ true
-  betweenℤ-is h = passed _ (and-both (leZ a x) (leZ x b) (h .0 .le) (h .1 .le))
+  betweenℤ-is h = passed _ (yes-and (leZ a x) (leZ x b) (h .0 .le) (h .1 .le))

@@ -17,7 +17,7 @@ use Rattle.hocsimbur.specs.declared.RowAnswer.the-variants as answered
 use Rattle.hocsimbur.specs.Asked.{RowAnswered, AnsweredWith}
 use Rattle.release.specs.declared.Released.{Released}
 use Rattle.release.specs.declared.Released.the-variants.{Pairs, Refused}
-use Rattle.release.specs.Licence.{licensed}
+use Rattle.tally.specs.Lines.{licensed}
 use Rattle.release.specs.Pair.{stationNumbers}
 use Rattle.release.specs.Meaning.{numberAt, stationAt, seasonsAt, LineOf, SeasonLine, OneYard, NothingFound}
 use Rattle.claims.specs.Words.{BreaksNone, Breaks, caseAt, TrulySafe}

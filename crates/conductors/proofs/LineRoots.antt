@@ -5,9 +5,10 @@ use native.Mathlib.Omega.{arith}
 use Rattle.interval.specs.Operations.{natural}
 use Rattle.interval.specs.Span.{Span}
 use Rattle.interval.proofs.Span.{span-natural}
+use Rattle.interval.proofs.Rules.{Rule, _≼_, Kept}
 use Rattle.case.specs.Bounds.{Between}
 use Rattle.conductors.specs.Weights.{roots, rootOf}
-use Rattle.conductors.proofs.Rules.{Rule, _≼_, Kept, at-count}
+use Rattle.conductors.proofs.Rules.{at-count}
 
 -- r is the n-th root of 4n² in 10^−9, rounded down
 pub record LinesRoot (n r : ℕ) : Type 0 where
@@ -31,8 +32,8 @@ root-rules h = at-count rootRules tt h
 pub root-known : {n : ℕ} → Between 2 n 25 → LinesRoot n (rootOf n)
 unfolding rootRules
 root-known {n} h =
-    let k = root-rules h in
-    record { low = k .0; high = omega (arith, k .1 .0); from = k .1 .1 .0; to = k .1 .1 .1 .0 }
+    let k = root-rules h .at in
+    record { low = k 0; high = omega (arith, k 1); from = k 2; to = k 3 }
 
 pub line-root-span : {n : ℕ} → Between 2 n 25 → Span (natural (rootOf n) (rootOf n + 1)) 1360000000 4000000001 1
 line-root-span {n} h =

@@ -9,6 +9,7 @@ use native.Mathlib.Decide.{decLe}
 use lib.Dec.{eqb}
 use Rattle.interval.specs.Root.{IsRoot}
 use Rattle.interval.specs.Whole.{ceilDiv}
+use Rattle.interval.proofs.Rules.{Rule, _≼_, Kept}
 use Rattle.exact.specs.Fraction.{choose}
 use Rattle.exact.specs.Exponential.{leastFrom}
 use Rattle.enclosure.specs.Pi.{πBelow, πAbove}
@@ -18,7 +19,7 @@ use Rattle.logarithm.proofs.KnownHalvings.{lowBy, highBy}
 use Rattle.conductors.specs.Counts.{Counts, spacings, halfPerimeter, meshes}
 use Rattle.conductors.specs.Number.{ratioLow, ratioHigh}
 use Rattle.conductors.specs.Weights.{eight}
-use Rattle.conductors.proofs.Rules.{Rule, _≼_, Kept, at-counts}
+use Rattle.conductors.proofs.Rules.{at-counts}
 
 -- ---- what is computed
 
@@ -199,15 +200,15 @@ module _ {a b : ℕ} (h : Counts a b) where
   pub roots-known : Roots a b
   unfolding rootRulesAt rootRules
   roots-known =
-      let k = kept-roots in
+      let k = kept-roots .at in
       record {
-        mesh = record { low = k .0; high = omega (arith, k .1 .0) };
-        low = record { low = k .1 .1 .0; high = omega (arith, k .1 .1 .1 .0) };
-        high = record { low = k .1 .1 .1 .1 .0; high = omega (arith, k .1 .1 .1 .1 .1 .0) };
-        some = k .1 .1 .1 .1 .1 .1 .0;
-        few = k .1 .1 .1 .1 .1 .1 .1 .0;
-        order = k .1 .1 .1 .1 .1 .1 .1 .1 .0;
-        most = k .1 .1 .1 .1 .1 .1 .1 .1 .1 .0;
+        mesh = record { low = k 0; high = omega (arith, k 1) };
+        low = record { low = k 2; high = omega (arith, k 3) };
+        high = record { low = k 4; high = omega (arith, k 5) };
+        some = k 6;
+        few = k 7;
+        order = k 8;
+        most = k 9;
       }
 
   kept-number : Kept (numberRulesAt a b)
@@ -217,14 +218,14 @@ module _ {a b : ℕ} (h : Counts a b) where
   pub number-known : Number a b
   unfolding numberRulesAt numberRules
   number-known =
-      let k = kept-number in
+      let k = kept-number .at in
       record {
-        least = k .0;
-        order = k .1 .0;
-        near = k .1 .1 .0;
-        most = k .1 .1 .1 .0;
-        by-length = k .1 .1 .1 .1 .0;
-        by-na = k .1 .1 .1 .1 .1 .0;
+        least = k 0;
+        order = k 1;
+        near = k 2;
+        most = k 3;
+        by-length = k 4;
+        by-na = k 5;
       }
 
   kept-spread : Kept (spreadRulesAt a b)
@@ -234,15 +235,15 @@ module _ {a b : ℕ} (h : Counts a b) where
   pub spread-known : Spread (oddLow (nLow a b)) (oddHigh (nHigh a b))
   unfolding spreadRulesAt spreadRulesOf spreadRules
   spread-known =
-      let k = kept-spread in
+      let k = kept-spread .at in
       record {
-        low = record { low = k .0; high = omega (arith, k .1 .0) };
-        high = record { low = k .1 .1 .0; high = omega (arith, k .1 .1 .1 .0) };
-        above = omega (arith, k .1 .1 .1 .1 .0);
-        inside = k .1 .1 .1 .1 .1 .0;
-        order = k .1 .1 .1 .1 .1 .1 .0;
-        near = k .1 .1 .1 .1 .1 .1 .1 .0;
-        most = k .1 .1 .1 .1 .1 .1 .1 .1 .0;
+        low = record { low = k 0; high = omega (arith, k 1) };
+        high = record { low = k 2; high = omega (arith, k 3) };
+        above = omega (arith, k 4);
+        inside = k 5;
+        order = k 6;
+        near = k 7;
+        most = k 8;
       }
 
   kept-exponent : Kept (exponentRulesAt a b)
@@ -252,13 +253,14 @@ module _ {a b : ℕ} (h : Counts a b) where
   pub exponent-known : eqb a b ≡ false → Exponent (nLow a b) (nHigh a b)
   unfolding exponentRulesAt exponentRulesOf exponentRulesBy exponentRules
   exponent-known e =
-      let k : Kept (exponentRulesOf (nLow a b) (nHigh a b)) = rw e at kept-exponent in
+      let kept : Kept (exponentRulesOf (nLow a b) (nHigh a b)) = rw e at kept-exponent in
+      let k = kept .at in
       record {
-        low = record { low = k .0; high = omega (arith, k .1 .0) };
-        high = record { low = k .1 .1 .0; high = omega (arith, k .1 .1 .1 .0) };
-        log-order = k .1 .1 .1 .1 .0;
-        least = k .1 .1 .1 .1 .1 .0;
-        order = k .1 .1 .1 .1 .1 .1 .0;
-        near = k .1 .1 .1 .1 .1 .1 .1 .0;
-        most = k .1 .1 .1 .1 .1 .1 .1 .1 .0;
+        low = record { low = k 0; high = omega (arith, k 1) };
+        high = record { low = k 2; high = omega (arith, k 3) };
+        log-order = k 4;
+        least = k 5;
+        order = k 6;
+        near = k 7;
+        most = k 8;
       }

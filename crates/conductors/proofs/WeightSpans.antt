@@ -1,31 +1,34 @@
 -- Sizes of what depends on n, for any pair n in 10^−7 from 2 to 25.
 use Prim.Native.Nat.{ℕ, _*_, _≤_}
+use mathlib.Core.List.{[], _∷_}
 use native.Mathlib.Nat.{le-trans}
-use lib.Dec.{lit≤, lit<}
+use lib.Dec.{lit≤}
 use lib.IntN.{pos}
 use Rattle.interval.specs.declared.Interval.{Interval}
 use Rattle.interval.specs.Operations.{point, differenceOf, scaledOf, quotientOf}
 use Rattle.interval.specs.Span.{Span}
-use Rattle.interval.proofs.Span.{span-natural, span-point, span-scaled, span-product, span-quotient}
+use Rattle.interval.proofs.Span.{span-scaled}
 use Rattle.interval.proofs.Negated.{span-less}
+use Rattle.interval.proofs.Rules.{_≼_, Kept, lits}
+use Rattle.interval.proofs.NumeralSpans.{numeral-natural, numeral-point, numeral-product, numeral-quotient}
 use Rattle.enclosure.proofs.Constants.{π-span}
 use Rattle.logarithm.specs.Ends.{most, Inside, lnPair}
 use Rattle.logarithm.proofs.Pairs.{pair-span}
 use Rattle.conductors.specs.Weights.{eight, oddEnds, innerExponent, ln2Ends, halfExponent}
 
 -- the logarithm of a pair over q, for ratios up to 64
-log-span : {i : Interval} {q l h w : ℕ} → Inside q → q ≤ l → h ≤ 64 * q → h ≤ most → Span i l h w
+log-span : {i : Interval} {q l h w : ℕ} → Inside q → Kept ((q ≼ l) ∷ (h ≼ 64 * q) ∷ (h ≼ most) ∷ []) → Span i l h w
     → Span (lnPair i q) 0 4158883100 4158883100
-log-span {q = q} hq low high inside s =
-    let from : q ≤ s .a = le-trans low (s .from) in
-    let to : s .b ≤ most = le-trans (s .to) inside in
+log-span {q = q} hq k s =
+    let from : q ≤ s .a = le-trans (k .at 0) (s .from) in
+    let to : s .b ≤ most = le-trans (s .to) (k .at 2) in
     rw (s .is)
     (pair-span hq (record { low = le-trans (hq .low) from; high = le-trans (s .order) to })
-    (record { low = le-trans (hq .low) (le-trans from (s .order)); high = to }) from (s .order) (le-trans (s .to) high))
+    (record { low = le-trans (hq .low) (le-trans from (s .order)); high = to }) from (s .order) (le-trans (s .to) (k .at 1)))
 
 pub ln2-span : Span ln2Ends 693147180 693147181 1
 unfolding ln2Ends
-ln2-span = span-natural _ _ (lit≤ tt) (lit≤ tt) (lit≤ tt) (lit≤ tt)
+ln2-span = numeral-natural _ _ (lits tt)
 
 module _ {n : Interval} (s : Span n 20000000 250000000 2) where
   -- ---- ln(π(2n−1)/8)
@@ -38,27 +41,27 @@ module _ {n : Interval} (s : Span n 20000000 250000000 2) where
 
   pub odd-span : Span (oddEnds n) 9424777959000 153938040046000 1305639
   unfolding oddEnds
-  odd-span = span-product 10000 9424777959000 153938040046000 1305638 (lit< tt) (lit≤ tt) (lit≤ tt) (lit≤ tt) π-span less-span
+  odd-span = numeral-product 10000 9424777959000 153938040046000 1305638 (lits tt) π-span less-span
 
   eight-inside : Inside eight
   eight-inside = record { low = lit≤ tt; high = lit≤ tt }
 
   pub odd-log-span : Span (lnPair (oddEnds n) eight) 0 4158883100 4158883100
-  odd-log-span = log-span eight-inside (lit≤ tt) (lit≤ tt) (lit≤ tt) odd-span
+  odd-log-span = log-span eight-inside (lits tt) odd-span
 
   -- ---- (2/n)·ln(2n)
 
   pub share-span : Span (quotientOf (point (pos 20000000)) n 1000000000) 0 1000000000 101
   share-span =
-      span-quotient 1000000000 0 1000000000 100 (lit< tt) (lit≤ tt) (lit≤ tt) (lit≤ tt)
-      (span-point 20000000 {l = 20000000} {h = 20000000} (lit≤ tt) (lit≤ tt)) s
+      numeral-quotient 1000000000 0 1000000000 100 (lits tt)
+      (numeral-point 20000000 {l = 20000000} {h = 20000000} (lits tt)) s
 
   pub twice-log-span : Span (lnPair (scaledOf n 2) 10000000) 0 4158883100 4158883100
-  twice-log-span = log-span (record { low = lit≤ tt; high = lit≤ tt }) (lit≤ tt) (lit≤ tt) (lit≤ tt) twice-span
+  twice-log-span = log-span (record { low = lit≤ tt; high = lit≤ tt }) (lits tt) twice-span
 
   pub exponent-span : Span (innerExponent n) 0 4158883100 4158883600
   unfolding innerExponent
-  exponent-span = span-product 1000000000 0 4158883100 4158883599 (lit< tt) (lit≤ tt) (lit≤ tt) (lit≤ tt) share-span twice-log-span
+  exponent-span = numeral-product 1000000000 0 4158883100 4158883599 (lits tt) share-span twice-log-span
 
   -- ---- (n−2)·ln 2
 
@@ -67,4 +70,4 @@ module _ {n : Interval} (s : Span n 20000000 250000000 2) where
 
   pub half-exponent-span : Span (halfExponent n) 0 15942385163 163
   unfolding halfExponent
-  half-exponent-span = span-product 10000000 0 15942385163 162 (lit< tt) (lit≤ tt) (lit≤ tt) (lit≤ tt) above-span ln2-span
+  half-exponent-span = numeral-product 10000000 0 15942385163 162 (lits tt) above-span ln2-span

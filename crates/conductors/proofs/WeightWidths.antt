@@ -2,6 +2,7 @@
 use Prim.Native.Nat.{ℕ, _+_, _-_, _*_, _^_, _≤_, _<_}
 use mathlib.Core.Path.{_≡_, _∙_}
 use mathlib.Core.Bool.{false}
+use mathlib.Core.List.{[], _∷_}
 use native.Mathlib.Omega.{arith}
 use native.Mathlib.Nat.{mul-le-mul-left, le-trans, le-of-mul-le-mul-right}
 use lib.Pow.{pow-pos}
@@ -11,8 +12,10 @@ use Rattle.interval.specs.Operations.{natural}
 use Rattle.interval.specs.Span.{Span}
 use Rattle.interval.proofs.Natural.{point-natural, natural-difference, natural-scaled, natural-product, natural-quotient}
 use Rattle.interval.proofs.Rounding.{floorDiv-falls}
-use Rattle.interval.proofs.Span.{floor≤ceil, span-natural, span-point, span-wider, span-product, span-quotient}
+use Rattle.interval.proofs.Span.{floor≤ceil, span-natural, span-wider}
 use Rattle.interval.proofs.Negated.{span-less}
+use Rattle.interval.proofs.Rules.{_≼_, Kept, lits}
+use Rattle.interval.proofs.NumeralSpans.{numeral-point, numeral-product, numeral-quotient, numeral-wider}
 use Rattle.enclosure.specs.Pi.{πBelow, πAbove, πEnds}
 use Rattle.logarithm.specs.Ends.{lnPair}
 use Rattle.logarithm.proofs.KnownHalvings.{up-by, ln-up}
@@ -41,16 +44,16 @@ known-log {p} {q} {s} h hp hq =
     λ i. record { lower = lower i .lower; upper = upper i .upper }
 
 -- the width of e^−q from that of q: 2^j is at most 1 and 4q
-power-span : {i : Interval} {l h w : ℕ} (width : ℕ) → Span i l h w → 65536 ≤ l → h ≤ most
-    → 5 * w * billion + 20 * (4 * h + billion) ≤ width * billion
+power-span : {i : Interval} {l h w : ℕ} (width : ℕ) → Span i l h w
+    → Kept ((65536 ≼ l) ∷ (h ≼ most) ∷ (5 * w * billion + 20 * (4 * h + billion) ≼ width * billion) ∷ [])
     → Span (expPair i) 0 billion width
 unfolding expPair natural
-power-span {w = w} width s low high k =
+power-span {w = w} width s k =
     let j = halvingsOf (s .b) in
     let few : 2 ^ j * billion ≤ 4 * s .b + billion = halvings-parts (s .b) in
     let near : 5 * (s .b - s .a) + 20 * 2 ^ j ≤ width
-    = le-of-mul-le-mul-right {k = billion} (omega (arith, few, s .near, s .to, k)) (lit< tt) in
-    rw (s .is) (span-wider (exp-span (le-trans low (s .from)) (s .order) (le-trans (s .to) high)) (lit≤ tt) (lit≤ tt) near)
+    = le-of-mul-le-mul-right {k = billion} (omega (arith, few, s .near, s .to, k .at 2)) (lit< tt) in
+    rw (s .is) (span-wider (exp-span (le-trans (k .at 0) (s .from)) (s .order) (le-trans (s .to) (k .at 1))) (lit≤ tt) (lit≤ tt) near)
 
 module _ {a b : ℕ} (h : Counts a b) where
   l : ℕ
@@ -120,22 +123,20 @@ module _ {a b : ℕ} (h : Counts a b) where
   pub inner-span : Span (innerEnds a b (nEnds a b)) 0 1000000000 610
   unfolding innerEnds
   inner-span =
-      let one = span-point 1000000000 {l = 1000000000} {h = 1000000000} (lit≤ tt) (lit≤ tt) in
+      let one = numeral-point 1000000000 {l = 1000000000} {h = 1000000000} (lits tt) in
       by-place (λ i. Span i 0 1000000000 610) (eqb a b)
       (λ e.
-      span-wider (span-quotient 1000000000 0 1000000000 1 (lit< tt) (lit≤ tt) (lit≤ tt) (lit≤ tt) one (line-root-span (h .across)))
-      (lit≤ tt) (lit≤ tt)
-      (lit≤ tt))
-      (λ e. power-span 610 (exponent-span e) (lit≤ tt) (lit≤ tt) (lit≤ tt))
+      numeral-wider (numeral-quotient 1000000000 0 1000000000 1 (lits tt) one (line-root-span (h .across))) (lits tt))
+      (λ e. power-span 610 (exponent-span e) (lits tt))
 
   -- ---- 0.5^(n−2)
 
   pub half-exponent-span : eqb a b ≡ false → Span (halfExponent (nEnds a b)) 277258872 15942385163 163
   unfolding halfExponent
   half-exponent-span e =
-      span-product 10000000 277258872 15942385163 162 (lit< tt) (lit≤ tt) (lit≤ tt) (lit≤ tt) (span-less 20000000 (lit≤ tt) (n-more h e))
+      numeral-product 10000000 277258872 15942385163 162 (lits tt) (span-less 20000000 (lit≤ tt) (n-more h e))
       ln2-span
 
   pub half-span : eqb a b ≡ false → Span (halfPowerEnds (nEnds a b)) 0 1000000000 2120
   unfolding halfPowerEnds
-  half-span e = power-span 2120 (half-exponent-span e) (lit≤ tt) (lit≤ tt) (lit≤ tt)
+  half-span e = power-span 2120 (half-exponent-span e) (lits tt)

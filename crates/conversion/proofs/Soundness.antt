@@ -4,11 +4,12 @@ use Prim.Native.Nat.{ℕ, _≤_}
 use mathlib.Core.Path.{_≡_, refl}
 use mathlib.Core.Logic.{_⊎_, inl, inr}
 use mathlib.Core.Bool.{Bool, true, false, cond, _&&_}
-use mathlib.Core.List.{List, [], _∷_}
+use mathlib.Core.List.{List, [], _∷_, _++_, map}
 use native.Mathlib.Omega.{arith}
 use lib.Dec.{T, leb, eqb, leb→le, eqb→eq}
-use lib.ListN.{length, getD}
+use lib.ListN.{length, getD, take, drop}
 use borrow.Author.Tests.{le-leb, eqb-true}
+use mir.Facts.{and-yes, or-yes}
 use Rattle.text.proofs.Clash.{clash}
 use Rattle.text.specs.Text.{same}
 use Rattle.case.specs.declared.Form.{Form as CodeForm}
@@ -18,7 +19,6 @@ use Rattle.case.specs.Columns.{Range, from, zeroOr, either, Form, inRange, colu
 use Rattle.case.specs.Check.{leftOf, outOfRange, agree, disagreement, finding}
 use Rattle.case.specs.Bounds.{Placed}
 use Rattle.case.specs.Parts.{rangeAt, formOf}
-use Rattle.case.proofs.Tests.{both, one-of}
 use Rattle.case.proofs.Ranges.{InRange, in-range, in-range-at, some-columns}
 use Rattle.writing.specs.Text.{allValues}
 use Rattle.conversion.specs.Values.{other, presentValues, formerValues, carried}
@@ -94,17 +94,17 @@ smallRange (either a b) = leb a 999999 && leb b 999999
 
 small-value : (r : Range) (x : ℕ) → T (smallRange r) → T (inRange r x) → x ≤ 999999
 unfolding smallRange inRange
-small-value (from low high) x s t = omega (arith, leb→le high 999999 s, leb→le x high (both (leb low x) (leb x high) t .1))
-small-value (zeroOr low high) x s t = go (one-of (eqb x 0) (leb low x && leb x high) t)
+small-value (from low high) x s t = omega (arith, leb→le high 999999 s, leb→le x high (and-yes (leb low x) (leb x high) t .1))
+small-value (zeroOr low high) x s t = go (or-yes (eqb x 0) (leb low x && leb x high) t)
   where
     go : T (eqb x 0) ⊎ T (leb low x && leb x high) → x ≤ 999999
     go (inl z) = omega (arith, eqb→eq x 0 z)
-    go (inr t) = omega (arith, leb→le high 999999 s, leb→le x high (both (leb low x) (leb x high) t .1))
-small-value (either a b) x s t = go (one-of (eqb x a) (eqb x b) t)
+    go (inr t) = omega (arith, leb→le high 999999 s, leb→le x high (and-yes (leb low x) (leb x high) t .1))
+small-value (either a b) x s t = go (or-yes (eqb x a) (eqb x b) t)
   where
     go : T (eqb x a) ⊎ T (eqb x b) → x ≤ 999999
-    go (inl z) = omega (arith, eqb→eq x a z, leb→le a 999999 (both (leb a 999999) (leb b 999999) s .0))
-    go (inr z) = omega (arith, eqb→eq x b z, leb→le b 999999 (both (leb a 999999) (leb b 999999) s .1))
+    go (inl z) = omega (arith, eqb→eq x a z, leb→le a 999999 (and-yes (leb a 999999) (leb b 999999) s .0))
+    go (inr z) = omega (arith, eqb→eq x b z, leb→le b 999999 (and-yes (leb a 999999) (leb b 999999) s .1))
 
 allSmall : Form → Bool
 allSmall [] = true
@@ -116,7 +116,7 @@ small-values [] [] s n r = refl
 small-values [] (x ∷ v) s n r = absurd (omega arith)
 small-values (k ∷ ks) [] s n r = refl
 small-values (k ∷ ks) (x ∷ v) s n r =
-    let t = both (smallRange (k .range)) (allSmall ks) s in
+    let t = and-yes (smallRange (k .range)) (allSmall ks) s in
     rw (le-leb x 999999 (small-value (k .range) x (t .0) (r .0)), small-values ks v (t .1) (omega arith) (r .1))
 
 form-small : (form : CodeForm) → T (allSmall (formOf form))
@@ -129,67 +129,31 @@ sound-small {v} form s = small-values (formOf form) v (form-small form) (s .coun
 
 -- ---- sound values are sound in the other form
 
+-- values at some places of sound ones, each in the range of its column, and more that are in theirs
+picked-in-range : (source : Form) (v : List ℕ) → ((i : ℕ) → T (inRange (rangeAt source i) (getD v i 0)))
+    → (form more : Form) (places w : List ℕ) → map (rangeAt source) places ≡ map (λ c. c .range) form → InRange more w
+    → InRange (form ++ more) (map (λ i. getD v i 0) places ++ w)
+picked-in-range source v at [] more [] w e r = r
+picked-in-range source v at [] more (p ∷ places) w e r = clash cc
+picked-in-range source v at (c ∷ form) more [] w e r = clash cc
+picked-in-range source v at (c ∷ form) more (p ∷ places) w e r =
+    let q : rangeAt source p ≡ c .range = cc in
+    (rw (← q) (at p), picked-in-range source v at form more places w (cc) r)
+
+-- where the values of a form, but hz, stand among those of the other
+placesIn : CodeForm → List ℕ
+placesIn Present = 0 ∷ 1 ∷ 2 ∷ 3 ∷ 4 ∷ 5 ∷ 5 ∷ 5 ∷ 6 ∷ 7 ∷ 8 ∷ 9 ∷ 10 ∷ 10 ∷ 11 ∷ 12 ∷ 13 ∷ 14 ∷ 15 ∷ 16 ∷ 17 ∷ []
+placesIn Former = 0 ∷ 1 ∷ 2 ∷ 3 ∷ 4 ∷ 5 ∷ 8 ∷ 9 ∷ 10 ∷ 11 ∷ 12 ∷ 14 ∷ 15 ∷ 16 ∷ 17 ∷ 18 ∷ 19 ∷ 20 ∷ []
+
 pub carried-sound : (form : CodeForm) (v : List ℕ) → Sound (formOf (other form)) v → Sound (formOf form) (carried form v)
-unfolding formOf other carried presentValues formerValues columns formerColumns agreeing named nameIndex same rangeAt inRange
+unfolding formOf other carried presentValues formerValues columns formerColumns agreeing named nameIndex same rangeAt inRange placesIn
 carried-sound Present v s =
-    let at : (i : ℕ) → T (inRange (rangeAt formerColumns i) (getD v i 0)) = in-range-at formerColumns v (s .count) (s .ranges) in
+    let at = in-range-at formerColumns v (s .count) (s .ranges) in
     record {
       count = refl;
-      ranges = (
-        at 0,
-        (
-          at 1,
-          (
-            at 2,
-            (
-              at 3,
-              (
-                at 4,
-                (
-                  at 5,
-                  (
-                    at 5,
-                    (
-                      at 5,
-                      (at 6, (at 7, (at 8, (at 9, (at 10, (at 10, (at 11, (at 12, (at 13, (at 14, (at 15, (at 16, (at 17, (tt, tt)))))))))))))),
-                    ),
-                  ),
-                ),
-              ),
-            ),
-          ),
-        ),
-      );
+      ranges = picked-in-range formerColumns v at (take 21 columns) (drop 21 columns) (placesIn Present) (60 ∷ []) refl (tt, tt);
       agrees = s .agrees;
     }
 carried-sound Former v s =
-    let at : (i : ℕ) → T (inRange (rangeAt columns i) (getD v i 0)) = in-range-at columns v (s .count) (s .ranges) in
-    record {
-      count = refl;
-      ranges = (
-        at 0,
-        (
-          at 1,
-          (
-            at 2,
-            (
-              at 3,
-              (
-                at 4,
-                (
-                  at 5,
-                  (
-                    at 8,
-                    (
-                      at 9,
-                      (at 10, (at 11, (at 12, (at 14, (at 15, (at 16, (at 17, (at 18, (at 19, (at 20, tt)))))))))),
-                    ),
-                  ),
-                ),
-              ),
-            ),
-          ),
-        ),
-      );
-      agrees = s .agrees;
-    }
+    let at = in-range-at columns v (s .count) (s .ranges) in
+    record { count = refl; ranges = picked-in-range columns v at formerColumns [] (placesIn Former) [] refl tt; agrees = s .agrees }

@@ -6,11 +6,15 @@ use Rattle.case.specs.Columns.{Form}
 use Rattle.header.specs.Header.{columnsOf}
 use Rattle.line.specs.Line.{lineValues}
 use Rattle.judgement.specs.Sheet.{names, valueLines}
-use Rattle.writing.specs.Text.{sheetText}
+use Rattle.writing.specs.Text.{parted, ended, sheetText}
 
 -- the cases of a sheet, in their order
 unfoldable pub casesIn : Form → List ℕ → List (List ℕ)
 casesIn form s = map (λ line. lineValues (columnsOf form (names s)) (fieldsOf line)) (valueLines s)
+
+-- the line of names of a form, with its byte 10
+unfoldable pub namesLine : Form → List ℕ
+namesLine form = ended (parted (map (λ c. c .name) form))
 
 -- the sheet of some cases, its names in the order of the form
 unfoldable pub sheetOf : Form → List (List ℕ) → List ℕ

@@ -25,22 +25,29 @@ const ALONG: usize = 13;
 
 const HZ: usize = 21;
 
+// What the form cannot say, by the numbers of the refusals.
+const TIMES_DIFFER: u32 = 9;
+
+const COUNTS_DIFFER: u32 = 10;
+
+const OTHER_FREQUENCY: u32 = 11;
+
 // Refusals 9, 10 and 11 of a line, or no lines where it has none of them.
 fn line_change(line: usize, v: &[u32]) -> Judgement
     requires { ⌜ length (now v) ≡ nameCount ⌝ }
     ensures { λ r. ⌜ r ≡ lineChange line (Judgement.Lines 0) (now (v .entry)) ⌝ }
 {
     if v[SHOCK] != v[CLEAR] {
-        return Judgement::Refused(9, line, 0);
+        return Judgement::Refused(TIMES_DIFFER, line, 0);
     }
     if v[CLEAR] != v[WIRE] {
-        return Judgement::Refused(9, line, 0);
+        return Judgement::Refused(TIMES_DIFFER, line, 0);
     }
     if v[ACROSS] != v[ALONG] {
-        return Judgement::Refused(10, line, 0);
+        return Judgement::Refused(COUNTS_DIFFER, line, 0);
     }
     if v[HZ] != 60 {
-        return Judgement::Refused(11, line, 0);
+        return Judgement::Refused(OTHER_FREQUENCY, line, 0);
     }
     Judgement::Lines(0)
 }

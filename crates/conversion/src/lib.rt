@@ -1,5 +1,6 @@
 // Sheets of document 01's own names carried over to those of today, and back. Document 02 (e).
 mod changes;
+mod names;
 mod values;
 
 ghost use Rattle.case.specs.declared.Form.the-variants.{Present, Former};
@@ -21,10 +22,15 @@ use changes::first_change;
 use judgement::Judgement;
 use judgement::VALUES;
 use judgement::read;
+use names::NAMES_BYTES;
+use names::put_names;
 use values::convert;
 use values::other_form;
 use writing::Written;
 use writing::write_sheet;
+
+// The refusal of a buffer without room for the sheet.
+const BUFFER_SHORT: u32 = 8;
 
 // The count of bytes written, or a refusal with number, line and column.
 pub enum Carried {
@@ -40,22 +46,9 @@ fn write_form(form: Form, buffer: &mut [u8], values: &[u32], n: usize) -> Writte
     ensures { λ r. ⌜ WrittenFirst (sheetOf (formOf form) (partsOf (length (formOf form)) n (now (values .entry)))) (now (buffer .entry)) (now (buffer .exit)) r ⌝ }
 {
     let k = name_count(form);
-    match form {
-        Form::Present => write_sheet(
-            buffer,
-            b"station,season,soil,layer,thick,shock,clear,wire,body,fault,split,xr,across,along,space,depth,dia,rods,rodlen,place,metal,hz\n",
-            values,
-            k,
-            n,
-        ),
-        Form::Former => write_sheet(
-            buffer,
-            b"station,season,soil,layer,thick,ms,body,fault,split,xr,lines,space,depth,dia,rods,rodlen,place,metal\n",
-            values,
-            k,
-            n,
-        ),
-    }
+    let mut line = [0u8; NAMES_BYTES];
+    let m = put_names(form, &mut line);
+    write_sheet(buffer, &line[..m], values, k, n)
 }
 
 // A sheet of the other form carried over to a form.
@@ -73,7 +66,7 @@ fn carry_to(form: Form, s: &[u8], buffer: &mut [u8]) -> Carried
             let mut carried = [0u32; VALUES];
             convert(form, &values, n, &mut carried);
             match write_form(form, buffer, &carried, n) {
-                Written::Short => Carried::Refused(8, 0, 0),
+                Written::Short => Carried::Refused(BUFFER_SHORT, 0, 0),
                 Written::Count(k) => Carried::Bytes(k),
             }
         }

@@ -3,14 +3,16 @@ use Prim.Native.Nat.{ℕ, _+_, _*_, _/_, _^_, _≤_, _<_}
 use mathlib.Core.Path.{refl}
 use native.Mathlib.Omega.{arith}
 use native.Mathlib.Nat.{mul-le-mul, mul-le-mul-right}
-use lib.Dec.{lit≤, lit<}
+use lib.Dec.{lit<}
 use lib.IntN.{pos}
 use Rattle.interval.specs.Whole.{ceilDiv}
 use Rattle.interval.specs.Operations.{natural, scaledOf}
 use Rattle.interval.specs.Span.{Span, Relative}
 use Rattle.interval.proofs.Natural.{natural-scaled, natural-outward}
 use Rattle.interval.proofs.Rounding.{floorDiv-above, ceilDiv-below}
-use Rattle.interval.proofs.Span.{span-wider, span-scaled, span-outward}
+use Rattle.interval.proofs.Span.{span-wider, span-scaled}
+use Rattle.interval.proofs.Rules.{lits}
+use Rattle.interval.proofs.NumeralSpans.{numeral-outward}
 use Rattle.exact.specs.Fraction.{_≈f_, whole, decimal, _+f_, neg, _−f_, _·f_}
 use Rattle.exact.specs.Reported.{ten, over, reported, AtMost, Reports}
 use Rattle.enclosure.specs.Enclosure.{Encloses}
@@ -70,7 +72,7 @@ module _ {c : Case} (b : Bounds c) where
   -- from 0.1 A to 178,885.44 A
   pub current-span : Span (currentEnds c) 100000 178885440000 40001
   unfolding currentEnds
-  current-span = span-outward (10 ^ 6) 100000 178885440000 40000 (lit< tt) (lit≤ tt) (lit≤ tt) (lit≤ tt) entering-span
+  current-span = numeral-outward (10 ^ 6) 100000 178885440000 40000 (lits tt) entering-span
 
   -- the ends are at most 1/2,000,000 of the lower end and 2 apart
   pub current-relative : Relative (currentEnds c) 2000000 2

@@ -12,10 +12,12 @@ use Rattle.interval.specs.Span.{Span, Relative}
 use Rattle.interval.specs.Wide.{Wide}
 use Rattle.interval.proofs.Natural.{point-natural, natural-difference, natural-scaled, natural-outward}
 use Rattle.interval.proofs.Rounding.{floorDiv-above, ceilDiv-below, ceilDiv-above, ceilDiv-by}
-use Rattle.interval.proofs.Span.{span-point, span-wider, span-scaled, span-outward, span-quotient}
+use Rattle.interval.proofs.Span.{span-wider, span-scaled, span-outward, span-quotient}
 use Rattle.interval.proofs.Negated.{span-difference}
 use Rattle.interval.proofs.Relatives.{relative-span}
 use Rattle.interval.proofs.WideProduct.{wide-fits}
+use Rattle.interval.proofs.Rules.{lits}
+use Rattle.interval.proofs.NumeralSpans.{numeral-point}
 use Rattle.enclosure.specs.Pi.{πBelow, πAbove, πEnds}
 use Rattle.enclosure.proofs.Constants.{π-span}
 use Rattle.exponential.specs.Ends.{billion, halvingsOf, endOf, expEnds, expPair}
@@ -133,7 +135,7 @@ module _ {c : Case} (h : Bounds c) where
   ratio-span =
       span-quotient (10 ^ 18) 0 ratioHigh 206 low-pos (omega arith) (ceilDiv-above (2 * 10 ^ 18) low-pos)
       (ratio-near exponentLow exponentHigh low-from ends-near)
-      (span-point 2 {l = 2} {h = 2} (lit≤ tt) (lit≤ tt)) ends-span
+      (numeral-point 2 {l = 2} {h = 2} (lits tt)) ends-span
 
   -- ---- 1 − e^−q
 
@@ -154,7 +156,7 @@ module _ {c : Case} (h : Bounds c) where
   pub rest-span : Span (restEnds c) 0 billion powerWidth
   unfolding restEnds
   rest-span =
-      span-wider (span-difference (lit≤ tt) (span-point billion {l = billion} {h = billion} (lit≤ tt) (lit≤ tt)) power-span) (omega arith)
+      span-wider (span-difference (lit≤ tt) (numeral-point billion {l = billion} {h = billion} (lits tt)) power-span) (omega arith)
       (omega arith)
       (omega arith)
 

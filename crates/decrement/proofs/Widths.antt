@@ -9,7 +9,9 @@ use Rattle.interval.specs.Root.{IsRoot}
 use Rattle.interval.specs.Operations.{natural, productOf}
 use Rattle.interval.specs.Span.{Span}
 use Rattle.interval.proofs.Rounding.{floorDiv-above}
-use Rattle.interval.proofs.Span.{span-natural, span-point, span-wider, span-sum, span-product}
+use Rattle.interval.proofs.Span.{span-natural, span-sum, span-product}
+use Rattle.interval.proofs.Rules.{lits}
+use Rattle.interval.proofs.NumeralSpans.{numeral-point, numeral-wider}
 use Rattle.enclosure.specs.SquareRoot.{squareRoot}
 use Rattle.enclosure.proofs.SquareRoot.{square-root}
 use Rattle.exponential.specs.Ends.{billion, halvingsOf, argumentOf, nestedOf, seriesOf, inverseOf, squaredOf, endOf}
@@ -138,7 +140,7 @@ module _ {c : Case} (h : Bounds c) where
   pub square-span : Span (squareEnds c) billion 5000000009 811
   unfolding squareEnds
   square-span =
-      span-wider (span-sum (span-point billion {l = billion} {h = billion} (lit≤ tt) (lit≤ tt)) product-span) (lit≤ tt) (lit≤ tt) (lit≤ tt)
+      numeral-wider (span-sum (numeral-point billion {l = billion} {h = billion} (lits tt)) product-span) (lits tt)
 
   -- from 1 to √5, and at most 500 billionths wide
   pub factor-span : Span (factorEnds c) billion 2236068000 500

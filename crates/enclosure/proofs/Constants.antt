@@ -3,7 +3,8 @@ use mathlib.Core.Path.{refl}
 use lib.Dec.{lit<, lit≤}
 use Rattle.interval.specs.Operations.{natural}
 use Rattle.interval.specs.Span.{Span}
-use Rattle.interval.proofs.Span.{span-natural}
+use Rattle.interval.proofs.Rules.{lits}
+use Rattle.interval.proofs.NumeralSpans.{numeral-natural}
 use Rattle.exact.specs.Fraction.{whole, top}
 use Rattle.exact.specs.Exact.{exactly}
 use Rattle.exact.specs.Root.{root}
@@ -22,7 +23,7 @@ unfolding πEnds natural reported over ten
 
 pub π-span : Span πEnds 3141592653 3141592654 1
 unfolding πEnds
-π-span = span-natural πBelow πAbove (lit≤ tt) (lit≤ tt) (lit≤ tt) (lit≤ tt)
+π-span = numeral-natural πBelow πAbove (lits tt)
 
 -- in 10^-9
 pub √20-encloses : Encloses (root 2 (exactly (whole 20))) (ten 9) (natural 4472135954 4472135955)

@@ -4,6 +4,7 @@ use Prim.Native.Nat.{ℕ, suc, _+_, _*_, _≤_}
 use mathlib.Core.Bool.{Bool, _&&_}
 use native.Mathlib.Omega.{arith}
 use lib.Dec.{T, leb, leb→le, lit≤}
+use mir.Facts.{and-yes}
 use Rattle.interval.specs.Operations.{natural}
 use Rattle.exact.specs.Fraction.{Fraction, _≤f_, _<f_, whole, _+f_, _−f_, _·f_, _÷f_}
 use Rattle.exact.specs.Ends.{Ends, combine, _+e_, _−e_, _·e_, _÷e_}
@@ -14,7 +15,6 @@ use Rattle.exact.proofs.Order.{refl≤, lt-of-lt-of-le}
 use Rattle.exact.proofs.Points.{Pointwise, proper-combine, sum-point, difference-point, product-point, quotient-point}
 use Rattle.exact.proofs.Inclusion.{within-refl, within-trans, within-combine}
 use Rattle.exact.proofs.Holding.{holds-depth}
-use Rattle.case.proofs.Tests.{both}
 
 -- the ends of x at the depth of the code lie within A
 pub record Known (x : Exact) (A : Ends) : Type 0 where
@@ -50,7 +50,7 @@ less-than a b t = record { lt = leb→le _ _ t }
 pub inside-within : (A B : Ends) → T (inside A B) → Within A B
 unfolding inside
 inside-within A B t =
-    let h = both (atMost (B .lower) (A .lower)) (atMost (A .upper) (B .upper)) t in
+    let h = and-yes (atMost (B .lower) (A .lower)) (atMost (A .upper) (B .upper)) t in
     record { low = at-most (B .lower) (A .lower) (h .0); high = at-most (A .upper) (B .upper) (h .1) }
 
 pub is-positive : (A : Ends) → T (positive A) → Positive A
@@ -66,7 +66,7 @@ holds-known c k = holds-depth c (lit≤ tt) (k .within)
 
 -- ---- each operation
 
--- a fraction is both its ends
+-- a fraction is and-yes its ends
 abbrev pub both-ends : Fraction → Ends
 both-ends q = record { lower = q; upper = q }
 
@@ -104,7 +104,7 @@ module _ {x y : Exact} {A B : Ends} (C : Ends) (a : Known x A) (b : Known y B) w
   pub known-quotient : T (positive B && inside (A ÷e B) C) → Known (x ÷x y) C
   unfolding _÷x_ _÷e_
   known-quotient t =
-      let h = both (positive B) (inside (A ÷e B) C) t in
+      let h = and-yes (positive B) (inside (A ÷e B) C) t in
       let p = is-positive B (h .0) in
       let q : Positive (y workDepth) = record { positive = lt-of-lt-of-le (p .positive) (b .within .low) } in
       known-combine _÷f_ (quotient-point _ _ q) (quotient-point A B p) (h .1)

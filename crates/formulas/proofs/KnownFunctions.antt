@@ -4,6 +4,7 @@ use mathlib.Core.Path.{refl}
 use mathlib.Core.Bool.{Bool, _&&_}
 use native.Mathlib.Decide.{decLe}
 use lib.Dec.{T, leb, leb→le, lit≤}
+use mir.Facts.{and-yes}
 use Rattle.interval.specs.Operations.{natural}
 use Rattle.exact.specs.Fraction.{Fraction, _≤f_, _<f_, whole, decimal, _+f_, neg, _−f_, _·f_, inv, _÷f_, top, powf, sumOf, decLef, choose}
 use Rattle.exact.specs.Fraction.{minf, maxf}
@@ -29,7 +30,6 @@ use Rattle.exact.proofs.ExpUp.{slack, slack-positive}
 use Rattle.exact.proofs.Exponential.{consistent-exp, exp-minus-within}
 use Rattle.exact.proofs.Pi.{consistent-π}
 use Rattle.exact.proofs.Computed.{within-π}
-use Rattle.case.proofs.Tests.{both}
 use Rattle.formulas.proofs.Known.{Known, digits, atMost, lessThan, inside, positive, at-most, less-than, inside-within, is-positive}
 
 -- ---- roots and logarithms, which grow with their argument
@@ -53,8 +53,8 @@ rootTest n A lo hi =
 pub known-root : (n : ℕ) (lo hi : ℕ) {x : Exact} {A : Ends} → Known x A → T (rootTest n A lo hi) → Known (root n x) (digits 12 lo hi)
 unfolding rootTest root ten natural
 known-root n lo hi {x} {A} a t =
-    let h = both (leb 1 n) _ t in
-    let k = both (leb (lo ^ n * A .lower .den) ((10 ^ 12) ^ n * top (A .lower))) _ (h .1) in
+    let h = and-yes (leb 1 n) _ t in
+    let k = and-yes (leb (lo ^ n * A .lower .den) ((10 ^ 12) ^ n * top (A .lower))) _ (h .1) in
     let hn : 1 ≤ n = leb→le _ _ (h .0) in
     record {
       proper = proper-extended (growing-root n hn) x tt (a .proper);
@@ -74,12 +74,12 @@ lnBy m q =
 module _ (m : ℕ) (q : Fraction) (t : T (halvedBy m q)) where
   from-one : whole 1 ≤f q
   unfolding halvedBy
-  from-one = at-most (whole 1) q (both (atMost (whole 1) q) _ t .0)
+  from-one = at-most (whole 1) q (and-yes (atMost (whole 1) q) _ t .0)
 
   ln-by : Within (lnOf q workDepth) (lnBy m q)
   unfolding halvedBy lnBy exactly _·x_ _+x_
   ln-by =
-      let k = both (leb (2 ^ m * q .den) (top q)) _ (both (atMost (whole 1) q) _ t .1) in
+      let k = and-yes (leb (2 ^ m * q .den) (top q)) _ (and-yes (atMost (whole 1) q) _ t .1) in
       within-ln-up m workDepth from-one (leb→le _ _ (k .0)) (leb→le _ _ (k .1)) (within-refl (lnBy m q))
 
 known-ln : {x : Exact} {A B C : Ends} (D : Ends) → Known x A → Positive A → Within (lnOf (A .lower) workDepth) B
@@ -101,8 +101,8 @@ lnTest m A D =
 pub known-ln-up : {x : Exact} {A : Ends} (m : ℕ) (D : Ends) → Known x A → T (lnTest m A D) → Known (ln x) D
 unfolding lnTest
 known-ln-up {A = A} m D a t =
-    let h = both (halvedBy m (A .lower)) _ t in
-    let k = both (halvedBy m (A .upper)) _ (h .1) in
+    let h = and-yes (halvedBy m (A .lower)) _ t in
+    let k = and-yes (halvedBy m (A .upper)) _ (h .1) in
     known-ln D a (record { positive = lt-of-lt-of-le (whole-pos (lit≤ tt)) (from-one m (A .lower) (h .0)) }) (ln-by m (A .lower) (h .0))
     (ln-by m (A .upper) (k .0)) (k .1)
 
@@ -119,11 +119,11 @@ lnDownTest m A D =
 pub known-ln-down : {x : Exact} {A : Ends} (m : ℕ) (D : Ends) → Known x A → T (lnDownTest m A D) → Known (ln x) D
 unfolding lnDownTest
 known-ln-down {A = A} m D a t =
-    let h = both (positive A) _ t in
-    let l = both (lessThan (A .lower) (whole 1)) _ (h .1) in
-    let u = both (lessThan (A .upper) (whole 1)) _ (l .1) in
-    let hl = both (halvedBy m (inv (A .lower))) _ (u .1) in
-    let hu = both (halvedBy m (inv (A .upper))) _ (hl .1) in
+    let h = and-yes (positive A) _ t in
+    let l = and-yes (lessThan (A .lower) (whole 1)) _ (h .1) in
+    let u = and-yes (lessThan (A .upper) (whole 1)) _ (l .1) in
+    let hl = and-yes (halvedBy m (inv (A .lower))) _ (u .1) in
+    let hu = and-yes (halvedBy m (inv (A .upper))) _ (hl .1) in
     let p = is-positive A (h .0) in
     let q : whole 0 <f A .upper = lt-of-lt-of-le (p .positive) (proper-within (a .proper) (a .within) .proper) in
     known-ln D a p (within-ln-down workDepth (p .positive) (less-than _ _ (l .0)) (ln-by m (inv (A .lower)) (hl .0)))
@@ -156,10 +156,10 @@ power-within n p h w = record { low = pow≤ (le-of-lt (p .positive)) (w .low) n
 pub known-exp-minus : {x : Exact} {A : Ends} (m : ℕ) (C D : Ends) → Consistent x → Known x A → T (expTest m A C D) → Known (exp (minus x)) D
 unfolding expTest expRoot powerEnds
 known-exp-minus {A = A} m C D c a t =
-    let h = both (positive A) _ t in
-    let k = both (leb (2 * top (A .upper)) (2 ^ m * A .upper .den)) _ (h .1) in
-    let p = both (positive C) _ (k .1) in
-    let q = both (inside (expRoot m A) C) _ (p .1) in
+    let h = and-yes (positive A) _ t in
+    let k = and-yes (leb (2 * top (A .upper)) (2 ^ m * A .upper .den)) _ (h .1) in
+    let p = and-yes (positive C) _ (k .1) in
+    let q = and-yes (inside (expRoot m A) C) _ (p .1) in
     let w : Within (exp (minus _) workDepth) (powerEnds (expRoot m A) (2 ^ m)) =
     exp-minus-within m (is-positive A (h .0)) c (lit≤ tt) (a .within) (doublings-least (A .upper) m (leb→le _ _ (k .0))) in
     record {

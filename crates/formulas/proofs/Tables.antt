@@ -5,8 +5,8 @@ use mathlib.Core.List.{List, [], _∷_}
 use native.Mathlib.Omega.{arith}
 use lib.ListN.{length, getD}
 use lib.Dec.{T, leb, leb→le}
+use mir.Facts.{and-yes}
 use Rattle.case.specs.Bounds.{Between}
-use Rattle.case.proofs.Tests.{both}
 
 -- a claim about every entry of a list
 abbrev pub Every : {A : Type 0} → (A → Type 0) → List A → Type 0
@@ -23,6 +23,6 @@ module _ (a b : ℕ) where
   unfolding inside
   entry-inside [] i t l = absurd (omega arith)
   entry-inside (x ∷ xs) zero t l =
-      let h = both (leb a x && leb x b) (inside xs) t .0 in
-      record { low = leb→le a x (both (leb a x) (leb x b) h .0); high = leb→le x b (both (leb a x) (leb x b) h .1) }
-  entry-inside (x ∷ xs) (suc i) t l = entry-inside xs i (both (leb a x && leb x b) (inside xs) t .1) (omega arith)
+      let h = and-yes (leb a x && leb x b) (inside xs) t .0 in
+      record { low = leb→le a x (and-yes (leb a x) (leb x b) h .0); high = leb→le x b (and-yes (leb a x) (leb x b) h .1) }
+  entry-inside (x ∷ xs) (suc i) t l = entry-inside xs i (and-yes (leb a x && leb x b) (inside xs) t .1) (omega arith)

@@ -1,9 +1,11 @@
 -- Every width of document 01, 'What exact means', as changed by requests (j), (c) and (d), worked by hand on its sample yard, on that yard
 -- with twenty rods of 7.5 m along the perimeter, and on a rectangle: a width made wider or narrower is refused here.
 use Prim.Native.Nat.{ℕ, _+_}
+use mathlib.Core.Bool.{Bool, true, _&&_}
 use mathlib.Core.List.{List, [], _∷_}
 use lib.IntN.{pos}
-use lib.Dec.{lit≤}
+use lib.Dec.{T}
+use mir.Facts.{and-yes}
 use Rattle.interval.specs.declared.Interval.{Interval}
 use Rattle.exact.specs.Fraction.{Fraction, _≈f_, whole, decimal, _+f_, _·f_, inv, _÷f_}
 use Rattle.exact.specs.Ends.{Ends}
@@ -15,6 +17,7 @@ use Rattle.formulas.specs.Width.{mV, μΩ, μA, billionths, factorWidth,
 use Rattle.formulas.specs.Width.{referenceKi, meshWidth, stepWidth}
 use Rattle.formulas.specs.Yards.{grid, sample, rectangle}
 use Rattle.formulas.proofs.Tables.{Every}
+use Rattle.formulas.proofs.Known.{atMost, at-most}
 
 -- the sample with twenty rods of 7.5 m along the perimeter
 abbrev rodded : Case
@@ -59,36 +62,22 @@ widths =
     ∷ worked (stepWidth rectangle current) (whole 2333459 ÷f whole 109707500)
     ∷ []
 
+-- a width is its number: the test that is computed for all of them together
+equal : Worked → Bool
+equal w = atMost (w .width) (w .number) && atMost (w .number) (w .width)
+
+equal-all : List Worked → Bool
+equal-all [] = true
+equal-all (w ∷ ws) = equal w && equal-all ws
+
+each-equal : (ws : List Worked) → T (equal-all ws) → Every (λ w. w .width ≈f w .number) ws
+unfolding equal equal-all
+each-equal [] t = tt
+each-equal (w ∷ ws) t =
+    let h = and-yes (equal w) (equal-all ws) t in
+    let l = and-yes (atMost (w .width) (w .number)) (atMost (w .number) (w .width)) (h .0) in
+    (record { to = at-most _ _ (l .0); fro = at-most _ _ (l .1) }, each-equal ws (h .1))
+
 as-worked : Every (λ w. w .width ≈f w .number) widths
-unfolding widths factorWidth currentWidth tolerableWidth resistanceWidth riseWidth meshWidth stepWidth referenceKi ρ D Lr Lx Ly Lc Lp LR LT na LS mV μΩ μA billionths reported ten over inv whole decimal _+f_ _·f_ _÷f_
-as-worked = (
-  record { to = record { le = lit≤ tt }; fro = record { le = lit≤ tt } },
-  (
-    record { to = record { le = lit≤ tt }; fro = record { le = lit≤ tt } },
-    (
-      record { to = record { le = lit≤ tt }; fro = record { le = lit≤ tt } },
-      (
-        record { to = record { le = lit≤ tt }; fro = record { le = lit≤ tt } },
-        (
-          record { to = record { le = lit≤ tt }; fro = record { le = lit≤ tt } },
-          (
-            record { to = record { le = lit≤ tt }; fro = record { le = lit≤ tt } },
-            (
-              record { to = record { le = lit≤ tt }; fro = record { le = lit≤ tt } },
-              (
-                record { to = record { le = lit≤ tt }; fro = record { le = lit≤ tt } },
-                (
-                  record { to = record { le = lit≤ tt }; fro = record { le = lit≤ tt } },
-                  (
-                    record { to = record { le = lit≤ tt }; fro = record { le = lit≤ tt } },
-                    (record { to = record { le = lit≤ tt }; fro = record { le = lit≤ tt } }, tt),
-                  ),
-                ),
-              ),
-            ),
-          ),
-        ),
-      ),
-    ),
-  ),
-)
+unfolding equal equal-all atMost widths factorWidth currentWidth tolerableWidth resistanceWidth riseWidth meshWidth stepWidth referenceKi ρ D Lr Lx Ly Lc Lp LR LT na LS mV μΩ μA billionths reported ten over inv whole decimal _+f_ _·f_ _÷f_
+as-worked = each-equal widths tt

@@ -1,12 +1,15 @@
 -- Every yard of the list of worked yards is right.
-use Prim.Native.Nat.{ℕ, _*_, _^_, _≤_, _<_}
+use Prim.Native.Nat.{ℕ, _*_, _^_, _<_}
 use mathlib.Core.Path.{_≡_, refl, ap}
 use mathlib.Core.Bool.{Bool, _&&_}
+use mathlib.Core.List.{[], _∷_}
 use native.Mathlib.Omega.{arith}
 use native.Mathlib.Nat.{zero-lt-suc}
 use lib.IntN.{pos}
 use lib.Dec.{T, leb, leb→le, lit≤}
+use mir.Facts.{and-yes}
 use Rattle.interval.specs.Operations.{natural}
+use Rattle.interval.proofs.Rules.{_≼_, Kept, lits}
 use Rattle.interval.proofs.Choice.{pos≤}
 use Rattle.exact.specs.Fraction.{Fraction, whole, decimal, _−f_, top}
 use Rattle.exact.specs.Ends.{Ends, _÷e_}
@@ -27,7 +30,7 @@ use Rattle.case.specs.Check.{leftOf, outOfRange, agree, disagreement, finding, 
 use Rattle.case.specs.Check.{recordJudged}
 use Rattle.case.specs.Bounds.{Bounds}
 use Rattle.case.proofs.Bounds.{record-bounds}
-use Rattle.case.proofs.Tests.{both, _then_}
+use Rattle.case.proofs.Tests.{_then_}
 use Rattle.formulas.specs.Lengths.{ρ, D, h, d}
 use Rattle.formulas.specs.Current.{IG}
 use Rattle.formulas.specs.Size.{constants, Kf, smallest, duty, enough, size}
@@ -61,11 +64,13 @@ unfolding top decimal
 top-decimal m e = omega arith
 
 -- a pair holds q / √t where √t is r units, and the pair has q over r units inside
-exact-root : (q : Fraction) (ms r : ℕ) (u : Scale) (R : Ends) → 1 ≤ ms → 0 < r → r ^ 2 * 1000 ≡ u .count ^ 2 * ms
+exact-root : (q : Fraction) (ms r : ℕ) (u : Scale) (R : Ends) → Kept ((1 ≼ ms) ∷ (1 ≼ r) ∷ []) → r ^ 2 * 1000 ≡ u .count ^ 2 * ms
     → T (inside (record { lower = q; upper = q } ÷e reported u (record { lower = pos r; upper = pos r })) R)
     → Holds R (exactly q ÷x root 2 (exactly (decimal ms 3)))
 unfolding reported over decimal whole
-exact-root q ms r u R m p e w =
+exact-root q ms r u R k e w =
+    let m = k .at 0 in
+    let p : 0 < r = k .at 1 in
     let t : Quantity (root 2 (exactly (decimal ms 3))) = quantity-root 2 (omega arith) (millisecond m) in
     let v : u .count ^ 2 * top (decimal ms 3) ≡ u .count ^ 2 * ms = ap (λ t. u .count ^ 2 * t) (top-decimal ms 3) in
     holds-wider (inside-within _ R w)
@@ -92,8 +97,8 @@ module _ (u : Scale) (width : Ends → Fraction) (a b : ℕ) where
   reports-known : {x : Exact} {A : Ends} → Consistent x → Known x A → T (reportTest A) → Reports x u width (natural a b)
   unfolding pair reportTest natural
   reports-known {A = A} c k t =
-      let h = both (leb a b) _ t in
-      let l = both (inside A pair) _ (h .1) in
+      let h = and-yes (leb a b) _ t in
+      let l = and-yes (inside A pair) _ (h .1) in
       record {
         ordered = pos≤ (leb→le a b (h .0));
         holds = holds-known c (rounded pair k (l .0));
@@ -154,9 +159,9 @@ sound-rodless = bounds rodless refl
 pub starred : Every Right yards
 unfolding yards tests checks pair reportTest halves size smallest enough duty Kf constants tolerableTouch tolerableStep rootTime Q k ρ G D h d mV μΩ μA billionths factorWidth currentWidth
 starred =
-    (exact-root _ 1000 1 (ten 0) _ (lit≤ tt) (lit≤ tt) refl tt, exact-root _ 1000 1 (ten 0) _ (lit≤ tt) (lit≤ tt) refl tt)
-    then (exact-root _ 250 1 halves _ (lit≤ tt) (lit≤ tt) refl tt, exact-root _ 250 1 halves _ (lit≤ tt) (lit≤ tt) refl tt)
-    then (exact-root _ 1000 1 (ten 0) _ (lit≤ tt) (lit≤ tt) refl tt, exact-root _ 1000 1 (ten 0) _ (lit≤ tt) (lit≤ tt) refl tt)
+    (exact-root _ 1000 1 (ten 0) _ (lits tt) refl tt, exact-root _ 1000 1 (ten 0) _ (lits tt) refl tt)
+    then (exact-root _ 250 1 halves _ (lits tt) refl tt, exact-root _ 250 1 halves _ (lits tt) refl tt)
+    then (exact-root _ 1000 1 (ten 0) _ (lits tt) refl tt, exact-root _ 1000 1 (ten 0) _ (lits tt) refl tt)
     then sized-3000 20000 1 refl refl
     then sized-3000 20000 4 refl refl
     then sized-3000 20000 8 refl refl

@@ -8,6 +8,8 @@ ghost use Rattle.header.specs.Header.{noColumns};
 ghost use Rattle.header.specs.Parts.{Header};
 use case::Form;
 use names::Found;
+pub use names::Name;
+pub use names::all_names;
 use names::name_of;
 use text::find;
 

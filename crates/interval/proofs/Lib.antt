@@ -4,6 +4,7 @@ pub mod Choice
 pub mod Rounding
 pub mod Sizes
 pub mod Natural
+pub mod Rules
 pub mod WideProduct
 pub mod Roots
 pub mod Newton
@@ -16,6 +17,7 @@ pub mod QuotientWidth
 pub mod Span
 pub mod Fits
 pub mod SpanFits
+pub mod NumeralSpans
 pub mod Negated
 pub mod Relatives
 pub mod Below

@@ -1,6 +1,7 @@
 -- How relative widths go through sums, products and quotients.
 use Prim.Native.Nat.{ℕ, _+_, _-_, _*_, _/_, _≤_, _<_}
 use mathlib.Core.Path.{_≡_, sym, ap, _∙_}
+use mathlib.Core.List.{[], _∷_}
 use native.Mathlib.Omega.{arith}
 use native.Mathlib.Nat.{mul-le-mul, mul-le-mul-left, mul-le-mul-right, le-trans, le-of-mul-le-mul-right, lt-of-mul-lt-mul-right}
 use native.Mathlib.Nat.{le-of-suc-le-suc}
@@ -10,6 +11,7 @@ use Rattle.interval.specs.declared.Interval.{Interval}
 use Rattle.interval.specs.Whole.{ceilDiv}
 use Rattle.interval.specs.Operations.{natural, point, sumOf, productOf, quotientOf}
 use Rattle.interval.specs.Span.{Span, Relative}
+use Rattle.interval.proofs.Rules.{_≼_, Kept}
 use Rattle.interval.proofs.Natural.{point-natural, natural-sum, natural-product, natural-quotient}
 use Rattle.interval.proofs.Rounding.{floorDiv-above, ceilDiv-below}
 
@@ -103,17 +105,19 @@ divided r a b c d k L U p h u l =
     le-of-suc-le-suc
     (lt-of-mul-lt-mul-right (c * d) (omega (arith, mul-le-mul-right k h, mul-le-mul-left (r * d) u, mul-le-mul-left ((r + 1) * c) l)))
 
-pub relative-divided : {i j : Interval} {l h w l′ h′ w′ : ℕ} (k p q r : ℕ) → 0 < l′ → p * w ≤ l → q * w′ ≤ l′ → 0 < p * q
-    → (p + 1) * (q + 1) * r ≤ p * q * (r + 1) → Span i l h w → Span j l′ h′ w′ → Relative (quotientOf i j k) r 2
-relative-divided k p q r z f g y t s u =
-    let c : 0 < u .a = le-trans z (u .from) in
+pub relative-divided : {i j : Interval} {l h w l′ h′ w′ : ℕ} (k p q r : ℕ)
+    → Kept ((1 ≼ l′) ∷ (p * w ≼ l) ∷ (q * w′ ≼ l′) ∷ (1 ≼ p * q) ∷ ((p + 1) * (q + 1) * r ≼ p * q * (r + 1)) ∷ [])
+    → Span i l h w → Span j l′ h′ w′
+    → Relative (quotientOf i j k) r 2
+relative-divided k p q r t s u =
+    let c : 0 < u .a = le-trans (t .at 0) (u .from) in
     record {
       a = s .a * k / u .b;
       b = ceilDiv (s .b * k) (u .a);
       is = rw (s .is, u .is) (natural-quotient (s .a) (s .b) k c (u .order));
       near =
           divided r (s .a) (s .b) (u .a) (u .b) k _ _ c
-          (both p q r (s .a) (s .b) (u .a) (u .b) y t (omega (arith, mul-le-mul-left p (s .near), s .from))
-          (omega (arith, mul-le-mul-left q (u .near), u .from)))
+          (both p q r (s .a) (s .b) (u .a) (u .b) (t .at 3) (t .at 4) (omega (arith, t .at 1, mul-le-mul-left p (s .near), s .from))
+          (omega (arith, t .at 2, mul-le-mul-left q (u .near), u .from)))
           (ceilDiv-below (s .b * k) c) (floorDiv-above (s .a * k) (le-trans c (u .order)));
     }

@@ -10,6 +10,7 @@ use lib.ListN.{length, getD, set}
 use lib.Seq.{getD-set-same, getD-set-other}
 use lib.Dec.{T, eqb, leb, leb→le}
 use borrow.Author.Tests.{eq-eqb, ne-eqb, eqb-true}
+use mir.Facts.{and-yes}
 use Rattle.text.proofs.Clash.{clash}
 use Rattle.text.specs.Text.{bytes, same}
 use Rattle.case.specs.declared.Form.{Form as CodeForm}
@@ -19,7 +20,6 @@ use Rattle.case.specs.Columns.{Form, columns, formerColumns, nameIndex, named, 
 use Rattle.case.specs.Check.{outOfRange, disagreement, finding}
 use Rattle.case.specs.Bounds.{Placed}
 use Rattle.case.specs.Parts.{formOf, rangeAt}
-use Rattle.case.proofs.Tests.{both}
 use Rattle.case.proofs.Ranges.{in-range, in-range-at, some-columns}
 use Rattle.judgement.specs.Findings.{sameKey, repeats, lineFinding}
 use Rattle.judgement.specs.Parts.{keyOf, Keyable, packed, keysOf, seenIn}
@@ -143,7 +143,7 @@ key-fits form {at} v p l h =
     (in-ranges (formOf form) at v h)))
   where
     few : (a b x : ℕ) → T (leb a x && leb x b) → x ≤ b
-    few a b x t = leb→le x b (both (leb a x) (leb x b) t .1)
+    few a b x t = leb→le x b (and-yes (leb a x) (leb x b) t .1)
 
     go : (f : CodeForm) → ((i : ℕ) → T (inRange (rangeAt (formOf f) i) (getD v i 0))) → Keyable (getD v 0 0) (getD v 1 0)
     go Present at =

@@ -33,6 +33,13 @@ pub const VALUES: usize = LINES * NAMES;
 // The line named where there are too many.
 const PAST_LINES: usize = LINES + 2;
 
+// The refusals of a sheet before its lines are read, by their numbers: its text, its names, the count of its value lines.
+const NOT_A_SHEET: u32 = 1;
+
+const WRONG_NAME: u32 = 2;
+
+const WRONG_LINE_COUNT: u32 = 4;
+
 // The count of value lines, or a refusal with number, line and column.
 pub enum Judgement {
     Lines(usize),
@@ -77,10 +84,10 @@ fn judge_values<'a>(
 {
     let n = count_lines(s);
     if n == 0 {
-        return Judgement::Refused(4, 2, 0);
+        return Judgement::Refused(WRONG_LINE_COUNT, 2, 0);
     }
     if LINES < n {
-        return Judgement::Refused(4, PAST_LINES, 0);
+        return Judgement::Refused(WRONG_LINE_COUNT, PAST_LINES, 0);
     }
     check_lines(form, s, at, order, n, values)
 }
@@ -99,12 +106,12 @@ fn read_by(
     ensures { λ r. ⌜ Read (formOf form) (now (s .entry)) (now (values .entry)) (now (values .exit)) r ⌝ }
 {
     if bad_text(s) {
-        return Judgement::Refused(1, 0, 0);
+        return Judgement::Refused(NOT_A_SHEET, 0, 0);
     }
     let e = find(s, 10);
     let c = read_header(form, &s[..e], at, order);
     if c != 0 {
-        return Judgement::Refused(2, 1, c);
+        return Judgement::Refused(WRONG_NAME, 1, c);
     }
     let next = skip(e, s.len());
     judge_values(form, &s[next..], at, order, values)

@@ -16,8 +16,15 @@ use crate::LineFinding;
 use crate::check::check_line;
 use crate::check::key;
 use case::Form;
+use case::VALUE_OUT_OF_RANGE;
+use case::VALUES_DISAGREE;
 use text::find;
 use text::skip;
+
+// The refusals of a line that its values alone do not settle: a field that is no value, a second line of one station and season.
+const NOT_A_VALUE: u32 = 3;
+
+const LINE_REPEATED: u32 = 7;
 
 // The refusal of a line, or no lines where it is sound.
 fn refusal(line: usize, f: LineFinding) -> Judgement
@@ -25,10 +32,10 @@ fn refusal(line: usize, f: LineFinding) -> Judgement
 {
     match f {
         LineFinding::Sound => Judgement::Lines(0),
-        LineFinding::Form(column) => Judgement::Refused(3, line, column),
-        LineFinding::OutOfRange(column) => Judgement::Refused(5, line, column),
-        LineFinding::Disagreement(column) => Judgement::Refused(6, line, column),
-        LineFinding::Repeated => Judgement::Refused(7, line, 0),
+        LineFinding::Form(column) => Judgement::Refused(NOT_A_VALUE, line, column),
+        LineFinding::OutOfRange(column) => Judgement::Refused(VALUE_OUT_OF_RANGE, line, column),
+        LineFinding::Disagreement(column) => Judgement::Refused(VALUES_DISAGREE, line, column),
+        LineFinding::Repeated => Judgement::Refused(LINE_REPEATED, line, 0),
     }
 }
 

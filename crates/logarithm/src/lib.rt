@@ -13,6 +13,9 @@ mod terms;
 // The largest number of a fraction: 10^15.
 const MOST: u64 = 1000000000000000;
 
+// The refusal of a number out of its range.
+const OUT_OF_RANGE: u32 = 5;
+
 // The ends of ln (p/q), for q not above p.
 fn up_ends(p: u64, q: u64) -> Interval
     requires { ⌜ Inside p × (Inside q × (q ≤ p)) ⌝ }
@@ -65,10 +68,10 @@ pub fn logarithm(p: u64, q: u64) -> Pair
     ensures { λ r. ⌜ Answered p q r ⌝ }
 {
     if !is_inside(p) {
-        return Pair::Refused(5, 0, 1);
+        return Pair::Refused(OUT_OF_RANGE, 0, 1);
     }
     if !is_inside(q) {
-        return Pair::Refused(5, 0, 2);
+        return Pair::Refused(OUT_OF_RANGE, 0, 2);
     }
     Pair::Ends(ln_ends(p, q))
 }

@@ -6,11 +6,11 @@ use native.Mathlib.Nat.{mul-le-mul-left, div-le-self}
 use lib.Dec.{T}
 use lib.IntN.{ℤ, pos, negsuc}
 use lib.Signed.{leZ, leZ-yes}
+use mir.Facts.{and-yes}
 use Rattle.interval.specs.Whole.{ceilDiv}
 use Rattle.interval.specs.Wide.{WideFits}
 use Rattle.interval.proofs.Choice.{le-pos}
 use Rattle.interval.proofs.Rounding.{ceilDiv-by}
-use Rattle.case.proofs.Tests.{both}
 use Rattle.margin.specs.Margin.{whole, mostVoltage, inRange, comparable}
 
 -- a number from low to the most
@@ -26,7 +26,7 @@ natural-of low (negsuc n) t = absurd (t .0)
 
 in-range : (low : ℕ) (z : ℤ) → T (inRange (pos low) z) → Natural low z
 unfolding inRange
-in-range low z t = natural-of low z (both (leZ (pos low) z) (leZ z (pos mostVoltage)) t)
+in-range low z t = natural-of low z (and-yes (leZ (pos low) z) (leZ z (pos mostVoltage)) t)
 
 -- a voltage and a tolerable voltage
 pub record Voltages (voltage tolerable : ℤ) : Type 0 where
@@ -36,7 +36,7 @@ pub record Voltages (voltage tolerable : ℤ) : Type 0 where
 pub voltages : (voltage tolerable : ℤ) → T (comparable voltage tolerable) → Voltages voltage tolerable
 unfolding comparable
 voltages voltage tolerable h =
-    let p = both (inRange (pos 0) voltage) (inRange (pos 1) tolerable) h in
+    let p = and-yes (inRange (pos 0) voltage) (inRange (pos 1) tolerable) h in
     record { v = in-range 0 voltage (p .0); t = in-range 1 tolerable (p .1) }
 
 -- ---- 64 bits

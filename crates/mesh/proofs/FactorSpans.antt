@@ -6,8 +6,10 @@ use lib.Dec.{lit≤, lit<}
 use Rattle.interval.specs.declared.Interval.{Interval}
 use Rattle.interval.specs.Operations.{size, sumOf, minusOf, scaledOf, productOf, quotientOf}
 use Rattle.interval.specs.Span.{Span}
-use Rattle.interval.proofs.Span.{span-point, span-wider, span-scaled, span-product, span-quotient, span-size}
+use Rattle.interval.proofs.Span.{span-scaled, span-size}
 use Rattle.interval.proofs.Negated.{product-negated, sum-negated, span-difference, size-negated}
+use Rattle.interval.proofs.Rules.{lits}
+use Rattle.interval.proofs.NumeralSpans.{numeral-point, numeral-product, numeral-quotient, numeral-wider}
 use Rattle.case.specs.declared.Case.{Case}
 use Rattle.case.specs.Bounds.{Bounds}
 use Rattle.formulas.proofs.Conductors.{by-place}
@@ -35,12 +37,12 @@ module _ {c : Case} (b : Bounds c) where
   pub inner-factor-span : Span (innerFactor c) 0 1000000000 610
   unfolding innerFactor
   inner-factor-span =
-      let one = span-point 1000000000 {l = 1000000000} {h = 1000000000} (lit≤ tt) (lit≤ tt) in
-      by-place (λ i. Span i 0 1000000000 610) (perimeterRods c) (λ e. span-wider one (lit≤ tt) (lit≤ tt) (lit≤ tt))
+      let one = numeral-point 1000000000 {l = 1000000000} {h = 1000000000} (lits tt) in
+      by-place (λ i. Span i 0 1000000000 610) (perimeterRods c) (λ e. numeral-wider one (lits tt))
       (λ e. inner-span (counts b))
 
   pub ratio-span : Span (quotientOf (innerFactor c) (depthFactor c) 1000000000) 0 894500000 915
-  ratio-span = span-quotient 1000000000 0 894500000 914 (lit< tt) (lit≤ tt) (lit≤ tt) (lit≤ tt) inner-factor-span depth-span
+  ratio-span = numeral-quotient 1000000000 0 894500000 914 (lits tt) inner-factor-span depth-span
 
   -- ---- (Kii/Kh)·ln(8/(π(2n−1))), below 0
 
@@ -57,7 +59,7 @@ module _ {c : Case} (b : Bounds c) where
 
   share-span : Span share 0 2650000000 2764
   unfolding share
-  share-span = span-product 1000000000 0 2650000000 2763 (lit< tt) (lit≤ tt) (lit≤ tt) (lit≤ tt) ratio-span above-span
+  share-span = numeral-product 1000000000 0 2650000000 2763 (lits tt) ratio-span above-span
 
   term-is : innerTerm c ≡ minusOf share
   unfolding innerTerm spreadEnds share above
@@ -77,4 +79,4 @@ module _ {c : Case} (b : Bounds c) where
 
   pub factor-span : Span (geometricFactor c) 0 17652000 6
   unfolding geometricFactor
-  factor-span = span-quotient 10000000 0 17652000 5 (lit< tt) (lit≤ tt) (lit≤ tt) (lit≤ tt) total-span turn-span
+  factor-span = numeral-quotient 10000000 0 17652000 5 (lits tt) total-span turn-span

@@ -6,7 +6,9 @@ use lib.Dec.{eqb, lit≤, lit<}
 use lib.IntN.{pos}
 use Rattle.interval.specs.Operations.{point, productOf, quotientOf}
 use Rattle.interval.specs.Span.{Span}
-use Rattle.interval.proofs.Span.{span-point, span-wider, span-sum, span-product, span-quotient}
+use Rattle.interval.proofs.Span.{span-point, span-wider, span-sum, span-product}
+use Rattle.interval.proofs.Rules.{lits}
+use Rattle.interval.proofs.NumeralSpans.{numeral-point, numeral-quotient}
 use Rattle.case.specs.declared.Case.{Case}
 use Rattle.case.specs.Bounds.{Between, Bounds}
 use Rattle.formulas.proofs.Conductors.{by-place}
@@ -36,11 +38,11 @@ module _ {c : Case} (b : Bounds c) where
   rodlen-span = span-point (122 * c .rodlen) (omega arith) (mul-le-mul-left 122 (rodlen-high b))
 
   pub share-span : Span (quotientOf (point (pos (122 * c .rodlen))) (diagonalEnds c) 10000000000) 0 3452000000 978
-  share-span = span-quotient 10000000000 0 3452000000 977 (lit< tt) (lit≤ tt) (lit≤ tt) (lit≤ tt) rodlen-span diagonal-span
+  share-span = numeral-quotient 10000000000 0 3452000000 977 (lits tt) rodlen-span diagonal-span
 
   pub weight-span : Span (rodWeight c) 1000000000 5002000000 978
   unfolding rodWeight
-  weight-span = span-sum (span-point _ {l = 1000000000} {h = 1550000000} (lit≤ tt) (lit≤ tt)) share-span
+  weight-span = span-sum (numeral-point _ {l = 1000000000} {h = 1550000000} (lits tt)) share-span
 
   pub rods-point : Span (point (pos (rodLength c))) (rodLength c) 2000000 0
   rods-point = span-point (rodLength c) (omega arith) (rod-bound b)

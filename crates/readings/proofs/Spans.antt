@@ -13,6 +13,8 @@ use Rattle.interval.proofs.Relatives.{relative-product}
 use Rattle.interval.proofs.Rounding.{ceilDiv-by}
 use Rattle.interval.proofs.Span.{span-natural, span-point, floor≤ceil}
 use Rattle.interval.proofs.WideProduct.{wide-fits}
+use Rattle.interval.proofs.Rules.{lits}
+use Rattle.interval.proofs.NumeralSpans.{numeral-natural}
 use Rattle.exact.specs.Fraction.{decimal, _+f_, neg, _−f_, _·f_}
 use Rattle.exact.specs.Reported.{ten, over, reported, AtMost}
 use Rattle.readings.specs.Taken.{mostPairs, mostProduct}
@@ -21,7 +23,7 @@ use Rattle.readings.specs.Ends.{twoPiBelow, twoPiAbove, twoPi, twoPiUnit
 
 two-pi-span : Span twoPi twoPiBelow twoPiAbove 1
 unfolding twoPi
-two-pi-span = span-natural twoPiBelow twoPiAbove (lit≤ tt) (lit≤ tt) (lit≤ tt) (lit≤ tt)
+two-pi-span = numeral-natural twoPiBelow twoPiAbove (lits tt)
 
 two-pi-near : Relative twoPi 1000000 0
 unfolding twoPi

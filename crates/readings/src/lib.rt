@@ -34,6 +34,13 @@ pub enum Sounding {
 // The most numbers of a list.
 const NUMBERS: usize = 128;
 
+// The refusals of a list by their numbers: its count, a distance or a resistance out of its range.
+const WRONG_COUNT: u32 = 12;
+
+const DISTANCE_OUT_OF_RANGE: u32 = 13;
+
+const RESISTANCE_OUT_OF_RANGE: u32 = 14;
+
 // In mm.
 const DISTANCES: Range = Range {
     low: 500,
@@ -111,15 +118,15 @@ pub fn soil(readings: &[u32]) -> Sounding
     ensures { λ r. ⌜ Answered (now (readings .entry)) r ⌝ }
 {
     if !sound_count(readings.len()) {
-        return Sounding::Refused(12, 0, 0);
+        return Sounding::Refused(WRONG_COUNT, 0, 0);
     }
     let distance = first_outside(readings, 1, DISTANCES);
     if let Found::At(line) = distance {
-        return Sounding::Refused(13, line, 1);
+        return Sounding::Refused(DISTANCE_OUT_OF_RANGE, line, 1);
     }
     let resistance = first_outside(readings, 2, RESISTANCES);
     if let Found::At(line) = resistance {
-        return Sounding::Refused(14, line, 2);
+        return Sounding::Refused(RESISTANCE_OUT_OF_RANGE, line, 2);
     }
     Sounding::Soil(work_report(readings))
 }

@@ -23,10 +23,10 @@ use Rattle.release.specs.declared.licence.Wrong.the-variants.{At, Nothin
 use Rattle.release.specs.declared.Released.the-variants.{Pairs, Refused}
 use Rattle.release.specs.Licence.{pairsOf, badCount, firstWrong}
 use Rattle.release.specs.Pair.{pairLength}
-use Rattle.release.specs.Tally.{EveryBounds}
+use Rattle.tally.specs.Tally.{EveryBounds}
 use Rattle.release.specs.Answer.{roomAnswer, afterPairs, licenceAnswer, afterSheet, releaseAnswer}
 use Rattle.release.specs.Meaning.{lineAt}
-use Rattle.release.proofs.Members.{every-bounds}
+use Rattle.tally.proofs.Members.{every-bounds}
 use Rattle.release.proofs.Pairs.{pair-count}
 
 -- ---- an answer that is a count of pairs

@@ -1,10 +1,6 @@
-pub mod Faults
-pub mod Counts
 pub mod Pairs
-pub mod StationLines
 pub mod Tables
 pub mod Answers
-pub mod Members
 pub mod CountedPairs
 pub mod StationMeaning
 pub mod ReleasedStations

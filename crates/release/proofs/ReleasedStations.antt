@@ -15,9 +15,9 @@ use Rattle.case.specs.declared.Case.{Case}
 use Rattle.sheet.specs.Answer.{cases}
 use Rattle.release.specs.declared.Released.the-variants.{Pairs}
 use Rattle.release.specs.Licence.{pairsOf}
-use Rattle.release.specs.Lines.{linesOf, countOf, missing, answeredUnsafe, answeredUndecided, otherYard, tooSmall, firstLine}
-use Rattle.release.specs.Pair.{pairLength, released, numbersOf, stationNumbers, releaseOf}
-use Rattle.release.specs.Tally.{EveryBounds}
+use Rattle.tally.specs.Lines.{linesOf, countOf, missing, answeredUnsafe, answeredUndecided, otherYard, tooSmall, firstLine}
+use Rattle.release.specs.Pair.{pairLength, numbersOf, stationNumbers, releaseOf}
+use Rattle.tally.specs.Tally.{released, EveryBounds}
 use Rattle.release.specs.Answer.{Filled, TableAfter, ReleaseAnswered}
 use Rattle.release.specs.Meaning.{numberAt, stationAt, seasonsAt, ReleasedStation, FaultReported, NothingFound}
 use Rattle.release.proofs.Tables.{release-count, release-at}

@@ -21,14 +21,14 @@ use Rattle.row.proofs.Right.{right-row}
 use Rattle.yards.specs.Yards.{isSafe}
 use Rattle.sheet.specs.Answer.{cases}
 use Rattle.headroom.specs.Headroom.{InRange}
-use Rattle.release.specs.Lines.{linesOf, countOf, missing, answeredUnsafe, answeredUndecided, sameYard, otherYard, tooSmall}
-use Rattle.release.specs.Lines.{firstLine}
-use Rattle.release.specs.Fault.{everySafe, commonFault, stationFault}
-use Rattle.release.specs.Tally.{EveryBounds}
+use Rattle.tally.specs.Lines.{linesOf, countOf, missing, answeredUnsafe, answeredUndecided, sameYard, otherYard, tooSmall}
+use Rattle.tally.specs.Lines.{firstLine}
+use Rattle.tally.specs.Fault.{everySafe, commonFault, stationFault}
+use Rattle.tally.specs.Tally.{EveryBounds}
 use Rattle.release.specs.Meaning.{lineAt, LineOf, SeasonLine, OneYard, ReleasedStation, SafeThroughout, FaultReported}
-use Rattle.release.proofs.Faults.{left, right, test-safe, safe-test, UpTo, common-up-to}
-use Rattle.release.proofs.Members.{Member, line-member, Found, member-line, every-at, lines-bounds, count-none, Seasoned, has-line}
-use Rattle.release.proofs.Members.{season-has-line, every-safe-at, at-every-safe}
+use Rattle.tally.proofs.Faults.{left, right, test-safe, safe-test, UpTo, common-up-to}
+use Rattle.tally.proofs.Members.{Member, line-member, Found, member-line, every-at, lines-bounds, count-none, Seasoned, has-line}
+use Rattle.tally.proofs.Members.{season-has-line, every-safe-at, at-every-safe}
 
 -- ---- the tests of a line
 

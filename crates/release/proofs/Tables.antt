@@ -9,10 +9,12 @@ use borrow.Rule.Slice.PartMut.{putMid}
 use Rattle.tables.specs.Parts.{Written}
 use Rattle.tables.proofs.Writing.{put-written}
 use Rattle.case.specs.declared.Case.{Case}
-use Rattle.release.specs.declared.Tally.{Tally}
+use Rattle.tally.specs.declared.Tally.{Tally}
 use Rattle.release.specs.Licence.{pairsOf}
-use Rattle.release.specs.Pair.{pairLength, stationNumbers, releaseOf}
-use Rattle.release.specs.Tally.{eight}
+use Rattle.release.specs.Pair.{eight, numbersOf, pairLength, stationNumbers, releaseOf}
+use Rattle.tally.specs.Lines.{missing, without, firstLine}
+use Rattle.tally.specs.Fault.{stationFault}
+use Rattle.tally.specs.Tally.{tallyOf, lacks, missingBy}
 use Rattle.release.proofs.Pairs.{pair-count}
 
 pub eight-set : (l : List ℤ) (a b c d e f g h : ℤ) → length l ≡ pairLength
@@ -37,6 +39,13 @@ pub pair-written : (i : ℕ) (t part : List ℤ) (station noLine : ℕ) (y : Tal
     → part ≡ eight station noLine y
     → Written pairLength i (eight station noLine y) t (putMid (pairLength * i) (pairLength * i + pairLength - pairLength * i) t part)
 pair-written i t part station noLine y h e = rw e (put-written pairLength i t (eight station noLine y) h (eight-long station noLine y))
+
+-- ---- the eight numbers by what is counted
+
+pub eight-is : (station seasons : ℕ) (cs : List Case)
+    → eight station (missingBy seasons (tallyOf (firstLine cs) cs)) (tallyOf (firstLine cs) cs) ≡ numbersOf station seasons cs
+unfolding eight numbersOf missingBy missing lacks without tallyOf stationFault
+eight-is station seasons cs = refl
 
 -- ---- the numbers of pair k
 

@@ -6,9 +6,9 @@ use Rattle.case.specs.declared.Case.{Case}
 use Rattle.case.specs.Case.{caseOf}
 use Rattle.release.specs.declared.Released.{Released}
 use Rattle.release.specs.declared.Released.the-variants.{Pairs, Refused}
-use Rattle.release.specs.Licence.{pairsOf, licensed, badCount, among, wrongStation, wrongSeasons, firstWrong}
-use Rattle.release.specs.Lines.{linesOf, one, countOf, hasLine, without, missing, sameYard, otherYard, firstLine}
-use Rattle.release.specs.Pair.{released}
+use Rattle.release.specs.Licence.{pairsOf, badCount, among, wrongStation, wrongSeasons, firstWrong}
+use Rattle.tally.specs.Lines.{licensed, linesOf, one, countOf, hasLine, without, missing, sameYard, otherYard, firstLine}
+use Rattle.tally.specs.Tally.{released}
 use Rattle.release.specs.Answer.{roomAnswer, afterPairs, licenceAnswer}
 
 -- a licence, the length of the table, and the answer

@@ -1,9 +1,6 @@
 pub mod Licence
 pub mod Earlier
-pub mod Lines
-pub mod Fault
 pub mod Pair
-pub mod Tally
 pub mod Answer
 pub mod Meaning
 pub mod Examples

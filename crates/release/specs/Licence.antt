@@ -1,6 +1,6 @@
 -- The licence: "a slice of 32-bit numbers, pairs of a station and its seasons as a number 1..15 (season i counts 2^(i−1))", and its
 -- refusals 21 and 22.
-use Prim.Native.Nat.{ℕ, suc, _-_, _/_, _%_, _^_}
+use Prim.Native.Nat.{ℕ, suc, _%_}
 use mathlib.Core.Bool.{Bool, false, cond, not, _&&_, _||_}
 use mathlib.Core.List.{List, [], _∷_}
 use lib.Dec.{leb, ltb, eqb}
@@ -16,10 +16,6 @@ unfoldable pub pairsOf : List ℕ → List Pair
 pairsOf [] = []
 pairsOf (a ∷ []) = []
 pairsOf (a ∷ b ∷ numbers) = record { station = a; seasons = b } ∷ pairsOf numbers
-
--- season i is one of these seasons: "season i counts 2^(i−1)"
-unfoldable pub licensed : ℕ → ℕ → Bool
-licensed i seasons = eqb (seasons / 2 ^ (i - 1) % 2) 1
 
 -- "21, 0, 0 when the count of numbers is 0, odd or above 512"
 unfoldable pub badCount : ℕ → Bool

@@ -15,7 +15,7 @@ use Rattle.formulas.specs.Step
 use Rattle.row.specs.Ends.{rowOf}
 use Rattle.headroom.specs.Headroom.{InRange, SafeWith}
 use Rattle.sheet.specs.Answer.{cases}
-use Rattle.release.specs.Licence.{licensed}
+use Rattle.tally.specs.Lines.{licensed}
 use Rattle.release.specs.Pair.{pairLength}
 
 -- number `place`, from 0, of the pair with index k

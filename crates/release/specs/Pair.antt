@@ -1,21 +1,19 @@
 -- The eight numbers of a pair of the licence.
-use Prim.Native.Nat.{ℕ, _+_}
+use Prim.Native.Nat.{ℕ}
 use mathlib.Core.Bool.{cond}
 use mathlib.Core.List.{List, [], _∷_, map}
 use lib.Dec.{eqb}
 use lib.IntN.{ℤ, pos}
 use Rattle.case.specs.declared.Case.{Case}
 use Rattle.release.specs.Licence.{Pair}
-use Rattle.release.specs.Lines.{linesOf, countOf, missing, answeredUnsafe, answeredUndecided, otherYard, tooSmall, firstLine}
-use Rattle.release.specs.Fault.{stationFault}
+use Rattle.tally.specs.declared.Tally.{Tally}
+use Rattle.tally.specs.Lines.{linesOf, countOf, missing, answeredUnsafe, answeredUndecided, otherYard, tooSmall, firstLine}
+use Rattle.tally.specs.Fault.{stationFault}
+use Rattle.tally.specs.Tally.{released}
 
 -- "eight numbers a pair"
 abbrev pub pairLength : ℕ
 pairLength = 8
-
--- "1 released or 2 held": "Released exactly when the five counts are 0", which they are where their sum is
-unfoldable pub released : ℕ → ℕ → ℕ → ℕ → ℕ → ℕ
-released noLine unsafe undecided other small = cond (eqb (noLine + unsafe + undecided + other + small) 0) 1 2
 
 -- of a station with its seasons and its lines: "station; 1 released or 2 held; how many seasons of the licence have no line; of all lines
 -- of the station, licensed or not, how many are answered unsafe; how many undecided; how many describe another yard than its first line;
@@ -40,3 +38,16 @@ stationNumbers station seasons cs = numbersOf station seasons (linesOf station c
 -- "For each pair in the licence's order eight numbers", of the cases of a sheet
 unfoldable pub releaseOf : List Pair → List Case → List (List ℤ)
 releaseOf ps cs = map (λ p. stationNumbers (p .station) (p .seasons) cs) ps
+
+-- the eight numbers of a station by what is counted of its lines
+unfoldable pub eight : ℕ → ℕ → Tally → List ℤ
+eight station noLine t =
+    pos station
+    ∷ pos (released noLine (t .«not_safe») (t .undecided) (t .other) (t .small))
+    ∷ pos noLine
+    ∷ pos (t .«not_safe»)
+    ∷ pos (t .undecided)
+    ∷ pos (t .other)
+    ∷ pos (t .small)
+    ∷ pos (cond (eqb (t .lines) 0) 0 (t .fault))
+    ∷ []

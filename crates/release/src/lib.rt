@@ -1,8 +1,6 @@
 // Release: which stations of a licence may be released on a sheet, and why the others are held.
-mod add;
 mod licence;
 mod put;
-mod station;
 
 ghost use Prim.Native.Nat.{_*_, _≤_};
 ghost use mathlib.Core.Path.{_≡_};
@@ -23,23 +21,12 @@ use put::put_pairs;
 // How many numbers a pair of the licence has in the table.
 pub const PAIR_LENGTH: usize = 8;
 
-// What is counted of the lines of a station.
-struct Tally {
-    pub lines: u32,
-    // whether seasons 1 to 4 have a line
-    pub first: bool,
-    pub second: bool,
-    pub third: bool,
-    pub fourth: bool,
-    pub not_safe: u32,
-    pub undecided: u32,
-    // lines of another yard than the first
-    pub other: u32,
-    // lines whose conductor is too small
-    pub small: u32,
-    // the greatest fault current at which every line is safe, in amperes, or 0
-    pub fault: u32,
-}
+// The refusals of a licence by their numbers: its count, a pair of it, a table without room for the pairs.
+const WRONG_COUNT: u32 = 21;
+
+const WRONG_PAIR: u32 = 22;
+
+const TABLE_SHORT: u32 = 23;
 
 // The count of pairs, or a refusal with number, line and column.
 pub enum Released {
@@ -55,14 +42,14 @@ fn release_lines<'a>(values: &'a [u32], n: usize, licence: &'a [u32], table: &mu
     ensures { λ r. ⌜ LinesReleased (storedCases (now (values .entry)) n) (now (licence .entry)) (now (table .entry)) (now (table .exit)) r ⌝ }
 {
     if bad_count(licence.len()) {
-        return Released::Refused(21, 0, 0);
+        return Released::Refused(WRONG_COUNT, 0, 0);
     }
     match first_wrong(licence) {
-        Wrong::At(place, column) => Released::Refused(22, place, column),
+        Wrong::At(place, column) => Released::Refused(WRONG_PAIR, place, column),
         Wrong::Nothing => {
             let pairs = licence.len() / 2;
             if table.len() < PAIR_LENGTH * pairs {
-                return Released::Refused(23, 0, 0);
+                return Released::Refused(TABLE_SHORT, 0, 0);
             }
             put_pairs(values, n, licence, table);
             Released::Pairs(pairs)

@@ -9,58 +9,17 @@ ghost use Rattle.case.specs.Columns.{nameCount};
 ghost use Rattle.judgement.specs.Limits.{mostLines};
 ghost use Rattle.sheet.specs.Rows.{StoredBounds, storedCases};
 ghost use Rattle.release.specs.Licence.{pairsOf};
-ghost use Rattle.release.specs.Lines.{linesOf, one};
-ghost use Rattle.release.specs.Pair.{pairLength, released, releaseOf, stationNumbers};
-ghost use Rattle.release.specs.Tally.{Small, missingBy, eight};
+ghost use Rattle.tally.specs.Lines.{linesOf, one};
+ghost use Rattle.release.specs.Pair.{pairLength, releaseOf, stationNumbers, eight};
+ghost use Rattle.tally.specs.Tally.{Small};
 ghost use Rattle.release.specs.Answer.{Filled};
 use crate::PAIR_LENGTH;
-use crate::Tally;
-use crate::station::count_lines;
-use crate::station::first_line;
-
-// 1 where the season that counts `unit` is licensed and has no line.
-fn lacking(unit: u32, seasons: u32, has: bool) -> u32
-    requires { ⌜ 1 ≤ unit ⌝ }
-    ensures { λ r. ⌜ r ≡ one (eqb (seasons / unit % 2) 1 && not has) ⌝ }
-{
-    if seasons / unit % 2 != 1 {
-        return 0;
-    }
-    if has {
-        return 0;
-    }
-    1
-}
-
-// How many licensed seasons have no line.
-fn missing_seasons(seasons: u32, t: Tally) -> u32
-    ensures { λ r. ⌜ r ≡ missingBy seasons t ⌝ }
-{
-    let first_two = lacking(1, seasons, t.first) + lacking(2, seasons, t.second);
-    first_two + lacking(4, seasons, t.third) + lacking(8, seasons, t.fourth)
-}
-
-// 1 released, 2 held; `without` is the count of licensed seasons that have no line.
-fn released_or_held(without: u32, t: Tally) -> u32
-    requires { ⌜ without ≤ 4 ⌝ }
-    requires { ⌜ Small t ⌝ }
-    ensures { λ r. ⌜ r ≡ released without (t .«not_safe») (t .undecided) (t .other) (t .small) ⌝ }
-{
-    if without + t.not_safe + t.undecided + t.other + t.small == 0 {
-        return 1;
-    }
-    2
-}
-
-// The fault current, which without a line is 0.
-fn reported_fault(t: Tally) -> u32
-    ensures { λ r. ⌜ r ≡ cond (eqb (t .lines) 0) 0 (t .fault) ⌝ }
-{
-    if t.lines == 0 {
-        return 0;
-    }
-    t.fault
-}
+use tally::Tally;
+use tally::count_lines;
+use tally::first_line;
+use tally::missing_seasons;
+use tally::released_or_held;
+use tally::reported_fault;
 
 fn put_numbers(station: u32, without: u32, t: Tally, part: &mut [i64])
     requires { ⌜ without ≤ 4 ⌝ }

@@ -3,13 +3,13 @@ use Prim.Native.Nat.{ℕ, _*_, _^_, _≤_}
 use native.Mathlib.Omega.{arith}
 use native.Mathlib.Nat.{mul-le-mul, mul-le-mul-left}
 use native.Mathlib.Decide.{decLe}
-use lib.Dec.{lit≤, lit<}
 use lib.IntN.{pos}
 use Rattle.interval.specs.Operations.{point, scaledOf, quotientOf}
 use Rattle.interval.specs.Span.{Span, Relative}
-use Rattle.interval.proofs.Span.{span-natural, span-point, span-wider, span-sum, span-scaled, span-outward, span-product, span-divide}
-use Rattle.interval.proofs.Span.{span-quotient}
+use Rattle.interval.proofs.Span.{span-natural, span-point, span-wider, span-sum, span-scaled, span-divide}
 use Rattle.interval.proofs.Relatives.{relative-add, relative-divided}
+use Rattle.interval.proofs.Rules.{lits}
+use Rattle.interval.proofs.NumeralSpans.{numeral-natural, numeral-outward, numeral-point, numeral-product, numeral-quotient, numeral-wider}
 use Rattle.enclosure.specs.SquareRoot.{rootPair}
 use Rattle.enclosure.proofs.RootSpan.{root-span}
 use Rattle.case.specs.declared.Case.{Case}
@@ -22,10 +22,10 @@ use Rattle.resistance.specs.Ends.{rootTwenty, sideEnds, depthEnds, shape
 
 pub twenty-span : Span rootTwenty 4472135954 4472135955 1
 unfolding rootTwenty
-twenty-span = span-natural _ _ (lit≤ tt) (lit≤ tt) (lit≤ tt) (lit≤ tt)
+twenty-span = numeral-natural _ _ (lits tt)
 
 pub one-span : Span (point (pos (10 ^ 9))) (10 ^ 9) (10 ^ 9) 0
-one-span = span-point (10 ^ 9) (lit≤ tt) (lit≤ tt)
+one-span = numeral-point (10 ^ 9) (lits tt)
 
 -- the root of the area, for sides in mm
 area-span : (x y : ℕ) → 2500 ≤ x → 2500 ≤ y → x ≤ 720000 → y ≤ 720000 → Span (rootPair (x * y * 10 ^ 6)) 2500000 720000001 1
@@ -39,8 +39,7 @@ module _ {c : Case} (b : Bounds c) where
       let x = x-bounds b in
       let y = y-bounds b in
       by-place (λ i. Span i 2500000 720000001 1) (equalCounts c)
-      (λ e. span-wider (span-point (1000 * sideX c) (mul-le-mul-left 1000 (x .low)) (mul-le-mul-left 1000 (x .high))) (lit≤ tt) (lit≤ tt)
-      (lit≤ tt))
+      (λ e. numeral-wider (span-point (1000 * sideX c) (mul-le-mul-left 1000 (x .low)) (mul-le-mul-left 1000 (x .high))) (lits tt))
       (λ e. area-span _ _ (omega arith) (omega arith) (omega arith) (omega arith))
 
   pub depth-scaled : Span (scaledOf rootTwenty (c .depth)) 1118033988500 11180339887500 2500
@@ -49,14 +48,14 @@ module _ {c : Case} (b : Bounds c) where
       (mul-le-mul-left 4472135954 (b .depth .low)) (mul-le-mul-left 4472135955 (b .depth .high)) (omega (arith, b .depth .high))
 
   pub share-span : Span (quotientOf (scaledOf rootTwenty (c .depth)) (sideEnds c) 1000) 0 4472135955 2078
-  share-span = span-quotient 1000 0 4472135955 2077 (lit< tt) (lit≤ tt) (lit≤ tt) (lit≤ tt) depth-scaled side-span
+  share-span = numeral-quotient 1000 0 4472135955 2077 (lits tt) depth-scaled side-span
 
   pub depth-span : Span (depthEnds c) (10 ^ 9) 5472135955 2078
   unfolding depthEnds
   depth-span = span-sum one-span share-span
 
   pub inverse-span : Span (quotientOf (point (pos (10 ^ 9))) (depthEnds c) (10 ^ 9)) 0 (10 ^ 9) 2079
-  inverse-span = span-quotient (10 ^ 9) 0 (10 ^ 9) 2078 (lit< tt) (lit≤ tt) (lit≤ tt) (lit≤ tt) one-span depth-span
+  inverse-span = numeral-quotient (10 ^ 9) 0 (10 ^ 9) 2078 (lits tt) one-span depth-span
 
   pub shape-span : Span (shapeEnds c) (10 ^ 9) (2 * 10 ^ 9) 2079
   unfolding shapeEnds
@@ -64,7 +63,7 @@ module _ {c : Case} (b : Bounds c) where
 
   pub width-span : Span (widthEnds c) 11180000000 3220000000000 5194
   unfolding widthEnds
-  width-span = span-product (10 ^ 6) 11180000000 3220000000000 5193 (lit< tt) (lit≤ tt) (lit≤ tt) (lit≤ tt) side-span twenty-span
+  width-span = numeral-product (10 ^ 6) 11180000000 3220000000000 5193 (lits tt) side-span twenty-span
 
   -- ---- for s of at least 430 m, and of less
 
@@ -75,12 +74,12 @@ module _ {c : Case} (b : Bounds c) where
     long-depth : Span (depthEnds c) (10 ^ 9) 1026100000 2
     unfolding depthEnds
     long-depth =
-        span-sum one-span (span-quotient 1000 0 26100000 1 (lit< tt) (lit≤ tt) (lit≤ tt) (lit≤ tt) depth-scaled long-side)
+        span-sum one-span (numeral-quotient 1000 0 26100000 1 (lits tt) depth-scaled long-side)
 
     long-shape : Span (shapeEnds c) 1970000000 (2 * 10 ^ 9) 3
     unfolding shapeEnds
     long-shape =
-        span-sum one-span (span-quotient (10 ^ 9) 970000000 (10 ^ 9) 2 (lit< tt) (lit≤ tt) (lit≤ tt) (lit≤ tt) one-span long-depth)
+        span-sum one-span (numeral-quotient (10 ^ 9) 970000000 (10 ^ 9) 2 (lits tt) one-span long-depth)
 
   module _ (l : 430000000 ≤ side-span .a → ⊥) where
     short-side : Span (sideEnds c) 2500000 430000000 1
@@ -88,18 +87,18 @@ module _ {c : Case} (b : Bounds c) where
 
     short-width : Span (widthEnds c) 11180000000 1924000000000 5194
     unfolding widthEnds
-    short-width = span-product (10 ^ 6) 11180000000 1924000000000 5193 (lit< tt) (lit≤ tt) (lit≤ tt) (lit≤ tt) short-side twenty-span
+    short-width = numeral-product (10 ^ 6) 11180000000 1924000000000 5193 (lits tt) short-side twenty-span
 
   pub second-span : Span (quotientOf (shapeEnds c) (widthEnds c) (10 ^ 9)) 510000 200000000 54001
   second-span = go (decLe 430000000 (side-span .a))
     where
       go : Dec (430000000 ≤ side-span .a) → Span (quotientOf (shapeEnds c) (widthEnds c) (10 ^ 9)) 510000 200000000 54001
-      go (yes l) = span-quotient (10 ^ 9) 510000 200000000 54000 (lit< tt) (lit≤ tt) (lit≤ tt) (lit≤ tt) (long-shape l) width-span
-      go (no l) = span-quotient (10 ^ 9) 510000 200000000 54000 (lit< tt) (lit≤ tt) (lit≤ tt) (lit≤ tt) shape-span (short-width l)
+      go (yes l) = numeral-quotient (10 ^ 9) 510000 200000000 54000 (lits tt) (long-shape l) width-span
+      go (no l) = numeral-quotient (10 ^ 9) 510000 200000000 54000 (lits tt) shape-span (short-width l)
 
   second-near : Relative (quotientOf (shapeEnds c) (widthEnds c) (10 ^ 9)) 200000 2
   second-near =
-      relative-divided (10 ^ 9) 400000 1000000 200000 (lit< tt) (lit≤ tt) (lit≤ tt) (lit< tt) (lit≤ tt) shape-span width-span
+      relative-divided (10 ^ 9) 400000 1000000 200000 (lits tt) shape-span width-span
 
   pub total-span : Span (point (pos (totalLength c))) 10000 38000000 0
   total-span = span-point (totalLength c) (total-bounds b .low) (total-bounds b .high)
@@ -107,7 +106,7 @@ module _ {c : Case} (b : Bounds c) where
   pub first-span : Span (quotientOf (point (pos 1)) (point (pos (totalLength c))) (10 ^ 12)) 0 100000000 1
   first-span =
       span-divide (totalLength c) (10 ^ 12) 0 100000000 0 (omega (arith, total-bounds b .low)) (omega arith)
-      (omega (arith, total-bounds b .low)) (omega arith) (span-point 1 {l = 1} {h = 1} (lit≤ tt) (lit≤ tt))
+      (omega (arith, total-bounds b .low)) (omega arith) (numeral-point 1 {l = 1} {h = 1} (lits tt))
 
   pub per-soil-span : Span (perSoilEnds c) 510000 300000000 54002
   unfolding perSoilEnds
@@ -124,4 +123,4 @@ module _ {c : Case} (b : Bounds c) where
 
   pub resistance-span : Span (resistanceEnds c) 5100 1500000000 300000
   unfolding resistanceEnds
-  resistance-span = span-outward 1000 5100 1500000000 299999 (lit< tt) (lit≤ tt) (lit≤ tt) (lit≤ tt) soil-scaled
+  resistance-span = numeral-outward 1000 5100 1500000000 299999 (lits tt) soil-scaled

@@ -1,3 +1,4 @@
+pub mod Compared
 pub mod Verdicts
 pub mod Right
 pub mod NoWorse

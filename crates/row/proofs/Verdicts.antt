@@ -4,12 +4,12 @@ use mathlib.Core.Bool.{Bool, true, false, cond, _&&_}
 use mathlib.Core.Logic.{_⊎_, inl, inr, ⊎-elim}
 use lib.Dec.{T}
 use lib.Signed.{_≤ℤ_, leZ, ltZ, leZ-yes, ltZ-yes}
+use mir.Facts.{and-yes, or-yes}
 use Rattle.text.proofs.Clash.{clash}
 use Rattle.interval.specs.declared.Interval.{Interval}
 use Rattle.exact.specs.Exact.{Exact, Above, AtOrBelow}
 use Rattle.exact.specs.Reported.{Scale}
 use Rattle.exact.specs.Depth.{Consistent}
-use Rattle.case.proofs.Tests.{both, one-of}
 use Rattle.enclosure.specs.Enclosure.{Encloses}
 use Rattle.enclosure.proofs.Verdicts.{encloses-at-or-below, encloses-above}
 use Rattle.row.specs.declared.Verdict.the-variants.{Safe, Unsafe, Undecided}
@@ -38,7 +38,7 @@ module _ (t l m s : Interval) where
   pub safe-ends : verdict t l m s ≡ Safe → (m .upper ≤ℤ t .lower) × (s .upper ≤ℤ l .lower)
   unfolding verdict safe
   safe-ends e =
-      let p = both (leZ (m .upper) (t .lower)) (leZ (s .upper) (l .lower)) (safe-tested (safe t l m s) (unsafe t l m s) e) in
+      let p = and-yes (leZ (m .upper) (t .lower)) (leZ (s .upper) (l .lower)) (safe-tested (safe t l m s) (unsafe t l m s) e) in
       (leZ-yes (p .0), leZ-yes (p .1))
 
   pub ends-safe : m .upper ≤ℤ t .lower → s .upper ≤ℤ l .lower → verdict t l m s ≡ Safe
@@ -66,4 +66,4 @@ module _ {u : Scale} {touch limit mesh step : Exact} {t l m s : Interval}
   unsafe-true e =
       ⊎-elim (λ h. inl (encloses-above (em .encloses) (et .encloses) (ltZ-yes h)))
       (λ h. inr (encloses-above (es .encloses) (el .encloses) (ltZ-yes h)))
-      (one-of (ltZ (t .upper) (m .lower)) (ltZ (l .upper) (s .lower)) (unsafe-tested (safe t l m s) (unsafe t l m s) e))
+      (or-yes (ltZ (t .upper) (m .lower)) (ltZ (l .upper) (s .lower)) (unsafe-tested (safe t l m s) (unsafe t l m s) e))

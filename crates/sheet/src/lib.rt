@@ -14,6 +14,9 @@ use judgement::read;
 use row::ROW_LENGTH;
 use rows::write_rows;
 
+// The refusal of a table without room for the rows.
+pub const TABLE_SHORT: u32 = 8;
+
 // The count of rows, or a refusal with number, line and column.
 pub enum Answer {
     Rows(usize),
@@ -29,7 +32,7 @@ fn fill_table(s: &[u8], values: &mut [u32], table: &mut [i64]) -> Answer
         Judgement::Refused(number, line, column) => Answer::Refused(number, line, column),
         Judgement::Lines(n) => {
             if table.len() < ROW_LENGTH * n {
-                return Answer::Refused(8, 0, 0);
+                return Answer::Refused(TABLE_SHORT, 0, 0);
             }
             write_rows(values, n, table);
             Answer::Rows(n)

@@ -13,6 +13,7 @@ use judgement::LINES;
 use put::put_stations;
 use row::ROW_LENGTH;
 use sheet::Answer;
+use sheet::TABLE_SHORT;
 use sheet::sheet;
 
 // A row for each of the most value lines.
@@ -20,6 +21,9 @@ const TABLE: usize = LINES * ROW_LENGTH;
 
 // How many numbers a station has in the summary.
 pub const STATION_LENGTH: usize = 6;
+
+// The refusal of a table without room for the stations.
+const SUMMARY_SHORT: u32 = 20;
 
 // What the summary reads of a row.
 struct Entry {
@@ -66,10 +70,10 @@ pub fn summary(s: &[u8], rows: &mut [i64], beside: &mut [i64]) -> Summed
             let room = ROW_LENGTH * n;
             let beside_room = STATION_LENGTH * m;
             if rows.len() < room {
-                return Summed::Refused(8, 0, 0);
+                return Summed::Refused(TABLE_SHORT, 0, 0);
             }
             if beside.len() < beside_room {
-                return Summed::Refused(20, 0, 0);
+                return Summed::Refused(SUMMARY_SHORT, 0, 0);
             }
             copy_numbers(&own, room, rows);
             let places = found.places;

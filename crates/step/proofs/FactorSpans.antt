@@ -8,8 +8,10 @@ use lib.Dec.{lit≤, lit<}
 use lib.IntN.{pos}
 use Rattle.interval.specs.Operations.{point, differenceOf}
 use Rattle.interval.specs.Span.{Span}
-use Rattle.interval.proofs.Span.{span-point, span-wider, span-sum, span-divide, span-quotient}
+use Rattle.interval.proofs.Span.{span-point, span-sum, span-divide}
 use Rattle.interval.proofs.Negated.{span-difference}
+use Rattle.interval.proofs.Rules.{lits}
+use Rattle.interval.proofs.NumeralSpans.{numeral-point, numeral-quotient, numeral-wider}
 use Rattle.enclosure.proofs.Constants.{π-span}
 use Rattle.case.specs.declared.Case.{Case}
 use Rattle.case.specs.Bounds.{Between, Bounds}
@@ -27,7 +29,7 @@ per-metre-span a d high p h =
     span-divide d (10 ^ 12) 0 high 0 p (omega arith) h (omega arith) (span-point a {l = a} {h = a} (omega arith) (omega arith))
 
 pub one-span : Span (point (pos (10 ^ 9))) (10 ^ 9) (10 ^ 9) 0
-one-span = span-point (10 ^ 9) (lit≤ tt) (lit≤ tt)
+one-span = numeral-point (10 ^ 9) (lits tt)
 
 module _ {c : Case} (b : Bounds c) where
   pub depth-span : Span (perMetre 1 (2 * c .depth)) 0 2000000000 1
@@ -65,7 +67,7 @@ module _ {c : Case} (b : Bounds c) where
   unfolding shareEnds
   share-span =
       let d = b .space .low in
-      by-place (λ i. Span i 0 400000000 849) (equalCounts c) (λ e. span-wider square-span (lit≤ tt) (lit≤ tt) (lit≤ tt))
+      by-place (λ i. Span i 0 400000000 849) (equalCounts c) (λ e. numeral-wider square-span (lits tt))
       (λ e. span-divide _ _ 0 400000000 848 (omega arith) (omega arith) (omega arith) (omega arith) (rest-span e))
 
   -- ---- Ks
@@ -76,4 +78,4 @@ module _ {c : Case} (b : Bounds c) where
 
   pub factor-span : Span (spacingFactor c) 0 10000000 4
   unfolding spacingFactor
-  factor-span = span-quotient (10 ^ 7) 0 10000000 3 (lit< tt) (lit≤ tt) (lit≤ tt) (lit≤ tt) sum-span π-span
+  factor-span = numeral-quotient (10 ^ 7) 0 10000000 3 (lits tt) sum-span π-span

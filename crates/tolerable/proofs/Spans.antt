@@ -7,7 +7,9 @@ use lib.Dec.{lit≤, eqb}
 use lib.IntN.{pos}
 use Rattle.interval.specs.Operations.{point, sumOf, scaledOf}
 use Rattle.interval.specs.Span.{Span}
-use Rattle.interval.proofs.Span.{span-point, span-wider, span-sum, span-scaled}
+use Rattle.interval.proofs.Span.{span-wider, span-sum, span-scaled}
+use Rattle.interval.proofs.Rules.{lits}
+use Rattle.interval.proofs.NumeralSpans.{numeral-point}
 use Rattle.enclosure.proofs.RootSpan.{root-span}
 use Rattle.case.specs.declared.Case.{Case}
 use Rattle.case.specs.Bounds.{Between, Bounds}
@@ -27,7 +29,7 @@ body-bounds {c} b =
 pub sum-span : {c : Case} → Bounds c → (weight : ℕ)
     → Span (sumOf (point (pos 2000000)) (scaledOf (layerEnds c) weight)) 2000000 (2000000 + 10000000 * weight) (1 * weight)
 sum-span b weight =
-    span-wider (span-sum (span-point 2000000 {l = 2000000} {h = 2000000} (lit≤ tt) (lit≤ tt)) (span-scaled weight (layer-span b)))
+    span-wider (span-sum (numeral-point 2000000 {l = 2000000} {h = 2000000} (lits tt)) (span-scaled weight (layer-span b)))
     (omega arith) (omega arith) (omega arith)
 
 pub top-span : {c : Case} → Bounds c → (weight : ℕ) → weight ≤ 12 → Span (topEnds c weight) 232000000 19154000000 1884

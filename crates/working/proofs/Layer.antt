@@ -5,11 +5,12 @@ use mathlib.Core.Logic.{⊎-elim}
 use native.Mathlib.Omega.{arith}
 use native.Mathlib.Nat.{mul-le-mul, mul-le-mul-left, mul-pos}
 use borrow.Author.Tests.{eq-eqb, ne-eqb}
-use lib.Dec.{lit≤}
 use lib.IntN.{pos}
 use Rattle.interval.specs.Operations.{point, quotientOf}
 use Rattle.interval.specs.Span.{Span}
-use Rattle.interval.proofs.Span.{span-point, span-wider, span-divide}
+use Rattle.interval.proofs.Span.{span-point, span-divide}
+use Rattle.interval.proofs.Rules.{lits}
+use Rattle.interval.proofs.NumeralSpans.{numeral-point, numeral-wider}
 use Rattle.exact.specs.Fraction.{Fraction, _≈f_, whole, decimal, _+f_, neg, _−f_, _·f_, _÷f_}
 use Rattle.exact.specs.Exact.{exactly}
 use Rattle.exact.specs.Reported.{ten, reported}
@@ -136,7 +137,7 @@ module _ {c : Case} (b : Bounds c) where
   unfolding layerFactor
   factor-span =
       by-surface (λ i. Span i 300000000 6450000000000000 1) (b .surface)
-      (λ z. span-wider (span-point (10 ^ 9) {l = 10 ^ 9} {h = 10 ^ 9} (lit≤ tt) (lit≤ tt)) (lit≤ tt) (lit≤ tt) (lit≤ tt))
+      (λ z. numeral-wider (numeral-point (10 ^ 9) {l = 10 ^ 9} {h = 10 ^ 9} (lits tt)) (lits tt))
       (λ l.
       let p : 0 < full c = omega (arith, full-bounds l .low) in
       span-divide (full c) (10 ^ 9) 300000000 6450000000000000 0 p (omega (arith, derated-least l))

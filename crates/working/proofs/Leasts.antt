@@ -12,7 +12,9 @@ use Rattle.interval.specs.Span.{Span}
 use Rattle.interval.proofs.Signed.{size-is, sum-is}
 use Rattle.interval.proofs.Sizes.{size-lower}
 use Rattle.interval.proofs.Rounding.{floorDiv-by}
-use Rattle.interval.proofs.Span.{span-point, span-wider, span-sum, span-quotient, span-divide, span-lower}
+use Rattle.interval.proofs.Span.{span-sum, span-divide, span-lower}
+use Rattle.interval.proofs.Rules.{lits}
+use Rattle.interval.proofs.NumeralSpans.{numeral-point, numeral-quotient, numeral-wider}
 use Rattle.exponential.specs.Ends.{halvingsOf, argumentOf, nestedOf, seriesOf, inverseOf, squaredOf, endOf, expEnds, expPair}
 use Rattle.exponential.proofs.Sizes.{halvings-least, argument-size, nested-size, series-least}
 use Rattle.enclosure.proofs.Constants.{π-span}
@@ -88,23 +90,22 @@ unfolding expPair expEnds natural
 power-span s e = span-from (ap (λ j. expPair j .lower) (s .is)) (power-least (s .b) (s .to)) e
 
 one-span : Span (point (pos 1000000000)) 1000000000 1000000000 0
-one-span = span-point 1000000000 (lit≤ tt) (lit≤ tt)
+one-span = numeral-point 1000000000 (lits tt)
 
 inner-least : {a b : ℕ} → Counts a b → Span (innerEnds a b (nEnds a b)) 100000000 1000000000 610
 unfolding innerEnds
 inner-least {a} {b} h =
     by-place (λ i. Span i 0 1000000000 610 → Span i 100000000 1000000000 610) (eqb a b)
     (λ e s.
-    span-wider (span-quotient 1000000000 249999999 1000000000 1 (lit< tt) (lit≤ tt) (lit≤ tt) (lit≤ tt) one-span
-    (line-root-span (h .across))) (lit≤ tt)
-    (lit≤ tt) (lit≤ tt))
+    numeral-wider (numeral-quotient 1000000000 249999999 1000000000 1 (lits tt) one-span
+    (line-root-span (h .across))) (lits tt))
     (λ e s. power-span (exponent-span h e) s) (inner-span h)
 
 module _ {c : Case} (b : Bounds c) where
   pub Kii-span : Span (innerFactor c) 100000000 1000000000 610
   unfolding innerFactor
   Kii-span =
-      by-place (λ i. Span i 100000000 1000000000 610) (perimeterRods c) (λ e. span-wider one-span (lit≤ tt) (lit≤ tt) (lit≤ tt))
+      by-place (λ i. Span i 100000000 1000000000 610) (perimeterRods c) (λ e. numeral-wider one-span (lits tt))
       (λ e. inner-least (counts b))
 
   -- ---- Km: ln G is at least 3.218, and the term below 0 at most 2.65
@@ -134,7 +135,7 @@ module _ {c : Case} (b : Bounds c) where
   unfolding geometricFactor
   Km-span =
       let s = mesh.total-span b in
-      span-quotient 10000000 903000 17652000 5 (lit< tt) (lit≤ tt) (lit≤ tt) (lit≤ tt)
+      numeral-quotient 10000000 903000 17652000 5 (lits tt)
       (record { a = s .a; b = s .b; is = s .is; from = total-least; order = s .order; to = s .to; near = s .near }) mesh.turn-span
 
   -- ---- Ks: 1/(2h) is at least 0.2 per metre
@@ -143,10 +144,10 @@ module _ {c : Case} (b : Bounds c) where
   unfolding perMetre
   depth-least =
       span-divide (2 * c .depth) (10 ^ 12) 200000000 2000000000 0 (omega (arith, b .depth .low)) (omega (arith, b .depth .high))
-      (omega (arith, b .depth .low)) (omega arith) (span-point 1 {l = 1} {h = 1} (lit≤ tt) (lit≤ tt))
+      (omega (arith, b .depth .low)) (omega arith) (numeral-point 1 {l = 1} {h = 1} (lits tt))
 
   pub Ks-span : Span (spacingFactor c) 636000 10000000 4
   unfolding spacingFactor spacingSum
   Ks-span =
-      span-quotient (10 ^ 7) 636000 10000000 3 (lit< tt) (lit≤ tt) (lit≤ tt) (lit≤ tt)
+      numeral-quotient (10 ^ 7) 636000 10000000 3 (lits tt)
       (span-sum (span-sum depth-least (step.reach-span b)) (step.share-span b)) π-span

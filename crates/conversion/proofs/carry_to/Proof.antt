@@ -2,13 +2,14 @@
 use Prim.Native.Nat.{ℕ, _*_, _≤_}
 use mathlib.Core.Path.{_≡_, sym, ap, subst, _∙_}
 use mathlib.Core.Bool.{true}
-use mathlib.Core.List.{[], map}
+use mathlib.Core.List.{List, [], map}
 use native.Mathlib.Nat.{mul-le-mul-left, mul-le-mul-right}
 use native.Mathlib.Omega.{arith}
 use borrow.Author.Needs.{needs}
 use lib.ListN.{length}
 use Rattle.tables.specs.Parts.{partsOf}
 use Rattle.case.specs.declared.Form.{Form}
+use Rattle.case.specs.Columns as Columns
 use Rattle.case.specs.Columns.{nameCount}
 use Rattle.case.specs.Parts.{formOf}
 use Rattle.case.proofs.Findings.{form-most}
@@ -43,64 +44,84 @@ read-requires c κs = form-room _ mostLines (omega arith)
 abbrev start : tie.After-read → tie.Start
 start r = r .before .before .before .before .before
 
-judged-is : (r : tie.After-read) → r .read .result ≡ judgement (formOf (other (start r .args .form))) (start r .args .s .now)
-judged-is r = r .read .ensures .answer-is ∙ ap (λ f. judgement (formOf f) (start r .args .s .now)) (r .before .before .other-form .ensures)
+-- the form asked for and its columns, those of the source, and the source
+abbrev asked : tie.After-read → Form
+asked r = start r .args .form
 
-store-count : (r : tie.After-read) → length (r .read .last .1 .1 .0) ≡ nameCount * mostLines
+abbrev to : tie.After-read → Columns.Form
+to r = formOf (asked r)
+
+abbrev from : tie.After-read → Columns.Form
+from r = formOf (other (asked r))
+
+abbrev sheet : tie.After-read → List ℕ
+sheet r = start r .args .s .now
+
+-- the cases of its lines, and their values as they were stored
+abbrev cases : tie.After-read → List (List ℕ)
+cases r = casesIn (from r) (sheet r)
+
+abbrev store : tie.After-read → List ℕ
+store r = r .read .last .1 .1 .0
+
+judged-is : (r : tie.After-read) → r .read .result ≡ judgement (from r) (sheet r)
+judged-is r = r .read .ensures .answer-is ∙ ap (λ f. judgement (formOf f) (sheet r)) (r .before .before .other-form .ensures)
+
+store-count : (r : tie.After-read) → length (store r) ≡ nameCount * mostLines
 store-count r = r .read .ensures .size
 
 -- n lines
 module _ (r : tie.After-read) {n : ℕ} (e : r .read .result ≡ Lines n) where
-  lines-accepted : Accepted (formOf (other (start r .args .form))) (start r .args .s .now) n
+  lines-accepted : Accepted (from r) (sheet r) n
   lines-accepted = accepted _ _ _ (sym (judged-is r) ∙ e)
 
   -- a store has room for the lines of either form
-  from-room : length (formOf (other (start r .args .form))) * n ≤ nameCount * mostLines
-  from-room = form-room (other (start r .args .form)) n (lines-accepted .most)
+  from-room : length (from r) * n ≤ nameCount * mostLines
+  from-room = form-room (other (asked r)) n (lines-accepted .most)
 
-  to-room : length (formOf (start r .args .form)) * n ≤ nameCount * mostLines
-  to-room = form-room (start r .args .form) n (lines-accepted .most)
+  to-room : length (to r) * n ≤ nameCount * mostLines
+  to-room = form-room (asked r) n (lines-accepted .most)
 
-  lines-are : partsOf (length (formOf (other (start r .args .form)))) n (r .read .last .1 .1 .0) ≡ casesIn (formOf (other (start r .args .form))) (start r .args .s .now)
+  lines-are : partsOf (length (from r)) n (store r) ≡ cases r
   unfolding casesIn
   lines-are =
       stored-parts _ lines-accepted
-      (subst (λ f. Stored (formOf f) (columnsOf (formOf f) (names (start r .args .s .now))) (valueLines (start r .args .s .now))
-      (r .read .last .1 .1 .0)) (r .before .before .other-form .ensures)
-      (r .read .ensures .stored _ e))
+      (subst (λ f. Stored (formOf f) (columnsOf (formOf f) (names (sheet r))) (valueLines (sheet r)) (store r))
+      (r .before .before .other-form .ensures) (r .read .ensures .stored _ e))
+
+-- the read before the count of lines, and before the search for what the form cannot say
+abbrev read-of : tie.After-n → tie.After-read
+read-of n = n .before .before .before
+
+abbrev searched : tie.After-first-change → tie.After-n
+searched f = f .before .before .before
 
 change-is : (f : tie.After-first-change)
-    → f .first-change .result ≡ changes (start (f .before .before .before .before .before .before) .args .form) (casesIn (formOf (other (start (f .before .before .before .before .before .before) .args .form))) (start (f .before .before .before .before .before .before) .args .s .now))
-change-is f =
-    let n = f .before .before .before in
-    f .first-change .ensures ∙ ap (changes _) (lines-are (n .before .before .before) (n .n .given .1))
+    → f .first-change .result ≡ changes (asked (read-of (searched f))) (cases (read-of (searched f)))
+change-is f = f .first-change .ensures ∙ ap (changes _) (lines-are (read-of (searched f)) (searched f .n .given .1))
 
 slice-aggregate-first-change : tie.Need-slice-aggregate-first-change
-slice-aggregate-first-change c = sym (store-count (c .before .before .before .before .before))
+slice-aggregate-first-change c = sym (store-count (read-of (c .before .before)))
 
 first-change-requires : tie.Need-first-change-requires
 first-change-requires c κs =
     let n = c .before .before in
-    let r = n .before .before .before in
+    let r = read-of n in
     (omega (arith, from-room r (n .n .given .1), store-count r), lines-accepted r (n .n .given .1) .most)
 
 returns : tie.Need-returns
 returns c =
     let f = c .before .before .before in
-    let n = f .before .before .before in
-    let r = n .before .before .before in
-    answered-change _ _ _ (judged-is r) (n .n .given .1) (change-is f) (c .before .change .given .1)
-
-enum-told : tie.Need-enum-told
-enum-told c = search needs
+    let n = searched f in
+    answered-change _ _ _ (judged-is (read-of n)) (n .n .given .1) (change-is f) (c .before .change .given .1)
 
 slice-aggregate-convert : tie.Need-slice-aggregate-convert
-slice-aggregate-convert c = sym (store-count (c .before .before .before .before .before .before .before .before .before))
+slice-aggregate-convert c = sym (store-count (read-of (c .before .before .before .before .before .before)))
 
 convert-requires : tie.Need-convert-requires
 convert-requires c κs =
     let n = c .before .before .before .before .before .before .before in
-    let r = n .before .before .before in
+    let r = read-of n in
     (omega (arith, from-room r (n .n .given .1), store-count r), to-room r (n .n .given .1))
 
 -- ---- the lines carried over
@@ -109,22 +130,27 @@ abbrev lined : tie.After-convert → tie.After-n
 lined v = v .before .before .before .before .before .before .before .before
 
 abbrev source : tie.After-convert → tie.After-read
-source v = lined v .before .before .before
+source v = read-of (lined v)
+
+-- the count of lines, and the values as they are carried over
+abbrev count : tie.After-convert → ℕ
+count v = lined v .n .given .0 .0
+
+abbrev converted : tie.After-convert → List ℕ
+converted v = v .convert .last .1 .1 .1 .0
 
 carried-lines : (v : tie.After-convert)
-    → partsOf (length (formOf (start (source v) .args .form))) (lined v .n .given .0 .0) (v .convert .last .1 .1 .1 .0) ≡ map (carried (start (source v) .args .form)) (casesIn (formOf (other (start (source v) .args .form))) (start (source v) .args .s .now))
+    → partsOf (length (to (source v))) (count v) (converted v) ≡ map (carried (asked (source v))) (cases (source v))
 carried-lines v =
-    v .convert .ensures .lines ∙ ap (map (carried (start (source v) .args .form))) (lines-are (source v) (lined v .n .given .1))
+    v .convert .ensures .lines ∙ ap (map (carried (asked (source v)))) (lines-are (source v) (lined v .n .given .1))
 
 -- they can be written
 writable : (v : tie.After-convert)
-    → allLines (length (formOf (start (source v) .args .form))) (partsOf (length (formOf (start (source v) .args .form))) (lined v .n .given .0 .0) (v .convert .last .1 .1 .1 .0)) ≡ true
+    → allLines (length (to (source v))) (partsOf (length (to (source v))) (count v) (converted v)) ≡ true
 writable v =
     rw (carried-lines v)
-    (all-lines (start (source v) .args .form) [] _
-    (carried-cases (start (source v) .args .form) []
-    (casesIn (formOf (other (start (source v) .args .form))) (start (source v) .args .s .now))
-    (accepted-cases (lines-accepted (source v) (lined v .n .given .1)))))
+    (all-lines (asked (source v)) [] _
+    (carried-cases (asked (source v)) [] (cases (source v)) (accepted-cases (lines-accepted (source v) (lined v .n .given .1)))))
 
 slice-aggregate-write-form : tie.Need-slice-aggregate-write-form
 slice-aggregate-write-form c = sym (c .before .before .before .convert .ensures .size)
@@ -140,13 +166,16 @@ write-form-requires c κs =
 abbrev made : tie.After-write-form → tie.After-convert
 made w = w .before .before .before .before
 
-written : (w : tie.After-write-form)
-    → WrittenFirst (carriedText (start (source (made w)) .args .form) (start (source (made w)) .args .s .now)) (start (source (made w)) .args .buffer .now) (w .write-form .last .1 .0) (w .write-form .result)
+abbrev origin : tie.After-write-form → tie.After-read
+origin w = source (made w)
+
+-- the bytes t are what was written
+abbrev Wrote : tie.After-write-form → List ℕ → Type 0
+Wrote w t = WrittenFirst t (start (origin w) .args .buffer .now) (w .write-form .last .1 .0) (w .write-form .result)
+
+written : (w : tie.After-write-form) → Wrote w (carriedText (asked (origin w)) (sheet (origin w)))
 unfolding carriedText
-written w =
-    subst (λ l. WrittenFirst (sheetOf (formOf (start (source (made w)) .args .form)) l) (start (source (made w)) .args .buffer .now)
-    (w .write-form .last .1 .0) (w .write-form .result)) (carried-lines (made w))
-    (w .write-form .ensures)
+written w = subst (λ l. Wrote w (sheetOf (to (origin w)) l)) (carried-lines (made w)) (w .write-form .ensures)
 
 abbrev kept : tie.After-write-form → tie.After-first-change
 kept w = made w .before .before .before .before .before
@@ -189,7 +218,7 @@ carry-to-spec =
     first-change-requires
     (λ c. search needs)
     returns
-    enum-told
+    (λ c. search needs)
     slice-aggregate-convert
     (λ c. search needs)
     convert-requires

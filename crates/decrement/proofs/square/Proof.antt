@@ -1,11 +1,12 @@
 -- `square` keeps within 64 bits by the spans of its parts.
 use mathlib.Core.Path.{_≡_}
-use lib.Dec.{lit≤, lit<}
+use lib.Dec.{lit<}
 use lib.IntN.{pos}
 use Rattle.interval.specs.Operations.{point}
 use Rattle.interval.specs.Span.{Span}
-use Rattle.interval.proofs.Span.{span-point, span-wider}
-use Rattle.interval.proofs.SpanFits.{sum-fits, quotient-fits}
+use Rattle.interval.proofs.SpanFits.{sum-fits}
+use Rattle.interval.proofs.Rules.{lits}
+use Rattle.interval.proofs.NumeralSpans.{numeral-point, numeral-quotient-fits, numeral-wider}
 use Rattle.exponential.specs.Ends.{billion}
 use Rattle.decrement.specs.Ends.{ratioEnds, restEnds, squareEnds}
 use Rattle.decrement.proofs.Spans.{exponent-span, power-span, rest-ratio-wide}
@@ -15,18 +16,18 @@ use Rattle.decrement.proofs.square.Statement.{statement}
 use Rattle.decrement.proofs.square.Tie as tie
 
 one : Span (point (pos billion)) 0 billion 0
-one = span-point billion (lit≤ tt) (lit≤ tt)
+one = numeral-point billion (lits tt)
 
 quotient-requires : tie.Need-quotient-requires
 quotient-requires c κs =
     let q = c .before in
     rw (c .point .ensures, q .exponent .ensures)
-    (quotient-fits (lit< tt) (lit< tt) (lit≤ tt) (span-point 2 {l = 2} {h = 2} (lit≤ tt) (lit≤ tt)) (exponent-span (q .before .pre)))
+    (numeral-quotient-fits (lits tt) (numeral-point 2 {l = 2} {h = 2} (lits tt)) (exponent-span (q .before .pre)))
 
 exp-pair-requires : tie.Need-exp-pair-requires
 exp-pair-requires c κs =
     let q = c .before .before .before in
-    rw (q .exponent .ensures) (span-wider (exponent-span (q .before .pre)) (lit≤ tt) (lit≤ tt) (lit≤ tt))
+    rw (q .exponent .ensures) (numeral-wider (exponent-span (q .before .pre)) (lits tt))
 
 difference-requires : tie.Need-difference-requires
 difference-requires c κs =

@@ -1,12 +1,13 @@
 -- `header::read_header` meets its contract: the reading of proofs/HeaderReading.antt.
-use Prim.Native.Nat.{_+_, _-_, _≤_, _<_}
+use Prim.Native.Nat.{ℕ, _+_, _-_, _≤_, _<_}
 use mathlib.Core.Path.{_≡_, sym, ap, _∙_}
-use mathlib.Core.List.{[]}
+use mathlib.Core.List.{List, []}
 use native.Mathlib.Omega.{arith}
 use borrow.Author.Needs.{needs}
 use lib.ListN.{length, take, set}
 use Rattle.text.specs.Text.{fieldsOf}
 use Rattle.text.proofs.FieldTurns.{part-length, field-first, field-last, field-next}
+use Rattle.case.specs.Columns.{Form}
 use Rattle.case.specs.Parts.{formOf}
 use Rattle.case.proofs.Findings.{form-most}
 use Rattle.header.specs.declared.names.Found.the-variants.{At}
@@ -25,89 +26,105 @@ abbrev μ-loop : tie.MeasureT-loop
 loop-holds : tie.Need-loop-holds Inv-loop μ-loop
 loop-holds c = let s = c .before .before .before in rw (s .pre .0) (turn-start _ _ _ (s .pre .1))
 
+-- the start of the function in a turn of the loop, and the form that it was asked for
+abbrev start : tie.At-loop Inv-loop μ-loop → tie.Start Inv-loop μ-loop
+start l = l .before .before .before .before
+
+abbrev asked : tie.At-loop Inv-loop μ-loop → Form
+asked l = formOf (start l .args .form)
+
+-- the turn that looks for a name, the one that finds it, and the one in which a name without a column gets one
+abbrev looking : tie.After-name-of Inv-loop μ-loop → tie.At-loop Inv-loop μ-loop
+looking m = m .before .before .before
+
+abbrev finding : tie.After-known-told Inv-loop μ-loop → tie.At-loop Inv-loop μ-loop
+finding c = looking (c .before .before .before)
+
+abbrev turn : tie.Else1 Inv-loop μ-loop → tie.At-loop Inv-loop μ-loop
+turn c = finding (c .before .before)
+
+-- the index of the name that was found
+abbrev index : tie.After-known-told Inv-loop μ-loop → ℕ
+index c = c .before .found .given .0 .0
+
+-- where the name ends
+abbrev place : tie.After-known-told Inv-loop μ-loop → tie.After-find Inv-loop μ-loop
+place c = c .before .before .before .before .before
+
+-- the columns with the column of that name
+abbrev columns : tie.Else1 Inv-loop μ-loop → List ℕ
+columns c = set (turn c .loop .at) (index (c .before .before)) (turn c .loop .c)
+
 -- the table of columns has one for each name
-columns-all : (s : tie.Start Inv-loop μ-loop) → length (s .args .at .now) ≡ length (formOf (s .args .form))
-columns-all s = ap length (s .pre .0) ∙ no-columns-count _
+columns-all : (l : tie.At-loop Inv-loop μ-loop) → length (start l .args .at .now) ≡ length (asked l)
+columns-all l = ap length (start l .pre .0) ∙ no-columns-count _
 
 slice-aggregate-name-of : tie.Need-slice-aggregate-name-of Inv-loop μ-loop
 slice-aggregate-name-of c = part-length 44 _ _ (c .before .find .ensures)
 
-enum-told : tie.Need-enum-told Inv-loop μ-loop
-enum-told c = search needs
-
 -- the lengths of both tables stay
-at-kept : (l : tie.At-loop Inv-loop μ-loop) → length (l .loop .at) ≡ length (l .before .before .before .before .args .at .now)
-at-kept l = l .loop .inv .header .count ∙ sym (columns-all (l .before .before .before .before))
+at-kept : (l : tie.At-loop Inv-loop μ-loop) → length (l .loop .at) ≡ length (start l .args .at .now)
+at-kept l = l .loop .inv .header .count ∙ sym (columns-all l)
 
-order-kept : (l : tie.At-loop Inv-loop μ-loop) → length (l .loop .order) ≡ length (l .before .before .before .before .args .order .now)
-order-kept l = l .loop .inv .named .count ∙ sym (l .before .before .before .before .pre .1)
+order-kept : (l : tie.At-loop Inv-loop μ-loop) → length (l .loop .order) ≡ length (start l .args .order .now)
+order-kept l = l .loop .inv .named .count ∙ sym (start l .pre .1)
 
 same-length : tie.Need-same-length Inv-loop μ-loop
-same-length c = at-kept (c .before .before .before .before .before)
+same-length c = at-kept (looking (c .before .before))
 
 same-length-2 : tie.Need-same-length-2 Inv-loop μ-loop
-same-length-2 c = order-kept (c .before .before .before .before .before)
+same-length-2 c = order-kept (looking (c .before .before))
 
 returns : tie.Need-returns Inv-loop μ-loop
 returns c =
     let m = c .before .before in
-    let l = m .before .before .before in
-    let a = l .loop .inv in
-    header-refused (a .header) (a .named)
-    (header-unknown (a .header) (field-first _ _ (m .before .before .find .ensures)) (sym (m .name-of .ensures) ∙ c .enum-told .given .1))
+    let a = looking m .loop .inv in
+    header-refused (a .header) (a .named) (header-unknown (a .header) (field-first _ _ (m .before .before .find .ensures))
+    (sym (m .name-of .ensures) ∙ c .enum-told .given .1))
 
 -- the name that was found
 found-is : (c : tie.After-known-told Inv-loop μ-loop)
-    → foundName (formOf (c .before .before .before .before .before .before .before .before .before .before .args .form)) (take (c .before .before .before .before .before .find .result) (c .before .before .before .before .before .before .loop .rest .now))
-    ≡ At (c .before .found .given .0 .0)
+    → foundName (asked (finding c)) (take (place c .find .result) (finding c .loop .rest .now))
+    ≡ At (index c)
 found-is c = sym (c .before .before .before .name-of .ensures) ∙ c .before .found .given .1
 
-within : (c : tie.After-known-told Inv-loop μ-loop)
-    → c .before .found .given .0 .0 < length (formOf (c .before .before .before .before .before .before .before .before .before .before .args .form))
+within : (c : tie.After-known-told Inv-loop μ-loop) → index c < length (asked (finding c))
 within c =
-    let m = c .before .before .before in
-    let l = m .before .before .before in
-    header-within (l .loop .inv .header) (field-first _ _ (m .before .before .find .ensures)) (found-is c)
+    header-within (finding c .loop .inv .header) (field-first _ _ (place c .find .ensures)) (found-is c)
 
 mul-if1 : tie.Need-mul-if1 Inv-loop μ-loop
-mul-if1 c =
-    omega (arith, within c, form-most (c .before .before .before .before .before .before .before .before .before .before .args .form))
+mul-if1 c = omega (arith, within c, form-most (start (finding c) .args .form))
 
 slice-read-if1 : tie.Need-slice-read-if1 Inv-loop μ-loop
-slice-read-if1 c = omega (arith, within (c .before), c .before .before .before .before .before .before .before .loop .inv .header .count)
+slice-read-if1 c = omega (arith, within (c .before), finding (c .before) .loop .inv .header .count)
 
 same-length-3 : tie.Need-same-length-3 Inv-loop μ-loop
-same-length-3 c = at-kept (c .before .before .before .before .before .before .before .before)
+same-length-3 c = at-kept (finding (c .before .before))
 
 same-length-4 : tie.Need-same-length-4 Inv-loop μ-loop
-same-length-4 c = order-kept (c .before .before .before .before .before .before .before .before)
+same-length-4 c = order-kept (finding (c .before .before))
 
 returns-2 : tie.Need-returns-2 Inv-loop μ-loop
 returns-2 c =
     let k = c .before .before in
-    let m = k .before .before .before in
-    let a = m .before .before .before .loop .inv in
-    header-refused (a .header) (a .named) (header-again (a .header) (field-first _ _ (m .before .before .find .ensures)) (found-is k)
-    (c .if1 .taken))
+    let a = finding k .loop .inv in
+    header-refused (a .header) (a .named)
+    (header-again (a .header) (field-first _ _ (place k .find .ensures)) (found-is k) (c .if1 .taken))
 
--- the turn in which a name without a column gets one
-abbrev turn : (c : tie.Else1 Inv-loop μ-loop) → tie.At-loop Inv-loop μ-loop
-turn c = c .before .before .before .before .before .before .before .before
-
-room : (c : tie.Else1 Inv-loop μ-loop) → turn c .loop .c ≤ length (formOf (turn c .before .before .before .before .args .form))
+room : (c : tie.Else1 Inv-loop μ-loop) → turn c .loop .c ≤ length (asked (turn c))
 room c =
     let k = c .before .before in
-    let m = k .before .before .before in
-    let a = m .before .before .before .loop .inv in
-    header-room (a .header) (field-first _ _ (m .before .before .find .ensures)) (found-is k) (c .if1 .left)
+    header-room (turn c .loop .inv .header) (field-first _ _ (place k .find .ensures)) (found-is k)
+    (c .if1 .left)
 
 -- the names of the columns after it
 named : (c : tie.Else1 Inv-loop μ-loop)
-    → OrderAt (formOf (turn c .before .before .before .before .args .form)) (set (turn c .loop .at) (c .before .before .before .found .given .0 .0) (turn c .loop .c)) (set (turn c .loop .order) (turn c .loop .c - 1) (c .before .before .before .found .given .0 .0)) (turn c .loop .c + 1)
+    → OrderAt (asked (turn c)) (columns c) (set (turn c .loop .order) (turn c .loop .c - 1) (index (c .before .before)))
+    (turn c .loop .c + 1)
 named c = order-step _ (turn c .loop .inv .header) (turn c .loop .inv .named) (within (c .before .before)) (room c) (c .if1 .left)
 
 mul-at : tie.Need-mul-at Inv-loop μ-loop
-mul-at c = omega (arith, within (c .before .before), form-most (turn c .before .before .before .before .args .form))
+mul-at c = omega (arith, within (c .before .before), form-most (start (turn c) .args .form))
 
 slice-write-at : tie.Need-slice-write-at Inv-loop μ-loop
 slice-write-at c = omega (arith, within (c .before .before), turn c .loop .inv .header .count)
@@ -116,40 +133,43 @@ sub-order : tie.Need-sub-order Inv-loop μ-loop
 sub-order c = turn c .loop .inv .header .first
 
 mul-order : tie.Need-mul-order Inv-loop μ-loop
-mul-order c = omega (arith, room c, form-most (turn c .before .before .before .before .args .form))
+mul-order c = omega (arith, room c, form-most (start (turn c) .args .form))
 
 slice-write-order : tie.Need-slice-write-order Inv-loop μ-loop
 slice-write-order c = omega (arith, room c, turn c .loop .inv .header .first, turn c .loop .inv .named .count)
 
 add-c : tie.Need-add-c Inv-loop μ-loop
-add-c c = omega (arith, room c, form-most (turn c .before .before .before .before .args .form))
+add-c c = omega (arith, room c, form-most (start (turn c) .args .form))
 
 loop-again : tie.Need-loop-again Inv-loop μ-loop
 loop-again c =
     let k = c .before .before in
-    let f = k .before .before .before .before .before .before .before in
     record {
       header =
-          header-step (turn k .loop .inv .header) (field-next _ _ (f .find .ensures) (c .before .if2 .left)) (found-is (k .before .before))
-          (k .if1 .left);
+          header-step (turn k .loop .inv .header) (field-next _ _ (place (k .before .before) .find .ensures) (c .before .if2 .left))
+          (found-is (k .before .before)) (k .if1 .left);
       named = named k;
       short = omega (arith, c .rest .given .2, turn k .loop .inv .short);
     }
 
 -- the last name
 stepped : (c : tie.Then2 Inv-loop μ-loop)
-    → HeaderAt (formOf (turn (c .before) .before .before .before .before .args .form)) (fieldsOf (turn (c .before) .before .before .before .before .args .line .now)) (set (turn (c .before) .loop .at) (c .before .before .before .before .found .given .0 .0) (turn (c .before) .loop .c)) [] (turn (c .before) .loop .c + 1)
+    → HeaderAt (asked (turn (c .before))) (fieldsOf (start (turn (c .before)) .args .line .now)) (columns (c .before)) []
+    (turn (c .before) .loop .c + 1)
 stepped c =
     let k = c .before in
-    let f = k .before .before .before .before .before .before .before in
-    header-step (turn k .loop .inv .header) (field-last _ _ (f .find .ensures) (c .if2 .taken)) (found-is (k .before .before))
-    (k .if1 .left)
+    header-step (turn k .loop .inv .header) (field-last _ _ (place (k .before .before) .find .ensures) (c .if2 .taken))
+    (found-is (k .before .before)) (k .if1 .left)
+
+-- after the last name both tables are as long as they were
+columns-stay : (c : tie.Then2 Inv-loop μ-loop) → length (columns (c .before)) ≡ length (start (turn (c .before)) .args .at .now)
+columns-stay c = stepped c .count ∙ sym (columns-all (turn (c .before)))
 
 same-length-5 : tie.Need-same-length-5 Inv-loop μ-loop
-same-length-5 c = stepped (c .before) .count ∙ sym (columns-all (turn (c .before .before) .before .before .before .before))
+same-length-5 c = columns-stay (c .before)
 
 same-length-6 : tie.Need-same-length-6 Inv-loop μ-loop
-same-length-6 c = named (c .before .before) .count ∙ sym (turn (c .before .before) .before .before .before .before .pre .1)
+same-length-6 c = named (c .before .before) .count ∙ sym (start (turn (c .before .before)) .pre .1)
 
 returns-3 : tie.Need-returns-3 Inv-loop μ-loop
 returns-3 c =
@@ -157,10 +177,10 @@ returns-3 c =
     header-refused h (named (c .before .before)) (header-few h (omega (arith, c .if3 .taken, h .count)))
 
 same-length-7 : tie.Need-same-length-7 Inv-loop μ-loop
-same-length-7 c = stepped (c .before) .count ∙ sym (columns-all (turn (c .before .before) .before .before .before .before))
+same-length-7 c = columns-stay (c .before)
 
 same-length-8 : tie.Need-same-length-8 Inv-loop μ-loop
-same-length-8 c = named (c .before .before) .count ∙ sym (turn (c .before .before) .before .before .before .before .pre .1)
+same-length-8 c = named (c .before .before) .count ∙ sym (start (turn (c .before .before)) .pre .1)
 
 returns-4 : tie.Need-returns-4 Inv-loop μ-loop
 returns-4 c = header-end (stepped (c .before)) (named (c .before .before)) (omega (arith, c .if3 .left, stepped (c .before) .count))
@@ -176,7 +196,7 @@ read-header-spec =
     slice-aggregate-name-of
     (λ c κs. search needs)
     (λ c. search needs)
-    enum-told
+    (λ c. search needs)
     same-length
     same-length-2
     returns

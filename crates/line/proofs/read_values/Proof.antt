@@ -1,7 +1,7 @@
 -- `line::read_values` meets its contract: the reading of proofs/ValuesReading.antt.
-use Prim.Native.Nat.{_+_, _≤_, _<_}
+use Prim.Native.Nat.{ℕ, _+_, _≤_, _<_}
 use mathlib.Core.Path.{refl}
-use mathlib.Core.List.{[]}
+use mathlib.Core.List.{List, []}
 use native.Mathlib.Omega.{arith}
 use borrow.Author.Needs.{needs}
 use lib.ListN.{length, getD, set}
@@ -31,9 +31,6 @@ same-length c = c .before .loop .inv .0 .count
 returns : tie.Need-returns Inv-loop μ-loop
 returns c = values-many (c .before .loop .inv .0) (field-first (c .before .loop .rest .now) _ refl) (c .if1 .taken)
 
-enum-told : tie.Need-enum-told Inv-loop μ-loop
-enum-told c = search needs
-
 same-length-2 : tie.Need-same-length-2 Inv-loop μ-loop
 same-length-2 c = c .before .before .before .before .loop .inv .0 .count
 
@@ -51,11 +48,20 @@ turn c = c .before .before .before .before .before
 abbrev start : tie.After-shared-slice-known3 Inv-loop μ-loop → tie.Start Inv-loop μ-loop
 start c = turn c .before .before .before .before .before .before .before .before .before .before
 
+-- the index of the column's name, the field that was read, and the row with its value
+abbrev index : tie.After-shared-slice-known3 Inv-loop μ-loop → ℕ
+index c = getD (start c .args .order .now) (turn c .before .loop .c) 0
+
+abbrev field : tie.After-shared-slice-known3 Inv-loop μ-loop → tie.After-first-field Inv-loop μ-loop
+field c = c .before .before .before .before
+
+abbrev row : tie.After-shared-slice-known3 Inv-loop μ-loop → List ℕ
+row c = set (turn c .before .loop .row) (index c) (c .before .before .f .given .0 .0)
+
 shared-slice-read-k : tie.Need-shared-slice-read-k Inv-loop μ-loop
 shared-slice-read-k c = omega (arith, turn c .if1 .left, start c .pre .count)
 
-within : (c : tie.After-shared-slice-known3 Inv-loop μ-loop)
-    → getD (start c .args .order .now) (turn c .before .loop .c) 0 < length (start c .args .row .now)
+within : (c : tie.After-shared-slice-known3 Inv-loop μ-loop) → index c < length (start c .args .row .now)
 within c = start c .pre .within _ (turn c .if1 .left)
 
 mul-row : tie.Need-mul-row Inv-loop μ-loop
@@ -67,7 +73,7 @@ slice-write-row c = omega (arith, within c, turn c .before .loop .inv .0 .count)
 loop-again : tie.Need-loop-again Inv-loop μ-loop
 loop-again c =
     let k = c .before .before in
-    let m = k .before .before .before .before .first-field .ensures in (
+    let m = field k .first-field .ensures in (
       values-step (turn k .before .loop .inv .0) (field-next _ _ (m .ends) (c .before .if2 .left)) (m .held) (turn k .if1 .left) _
           (start k .pre) (k .before .before .f .given .1),
       omega (arith, c .rest2 .given .2),
@@ -75,10 +81,11 @@ loop-again c =
 
 -- the last value
 stepped : (c : tie.Then2 Inv-loop μ-loop)
-    → ValuesAt (length (start (c .before) .args .row .now)) (start (c .before) .args .order .now) (fieldsOf (start (c .before) .args .line .now)) (set (turn (c .before) .before .loop .row) (getD (start (c .before) .args .order .now) (turn (c .before) .before .loop .c) 0) (c .before .before .before .f .given .0 .0)) [] (turn (c .before) .before .loop .c + 1)
+    → ValuesAt (length (start (c .before) .args .row .now)) (start (c .before) .args .order .now)
+    (fieldsOf (start (c .before) .args .line .now)) (row (c .before)) [] (turn (c .before) .before .loop .c + 1)
 stepped c =
     let k = c .before in
-    let m = k .before .before .before .before .first-field .ensures in
+    let m = field k .first-field .ensures in
     values-step (turn k .before .loop .inv .0) (field-last _ _ (m .ends) (c .if2 .taken)) (m .held) (turn k .if1 .left) _ (start k .pre)
     (k .before .before .f .given .1)
 
@@ -110,7 +117,7 @@ read-values-spec =
     returns
     (λ c κs. search needs)
     (λ c. search needs)
-    enum-told
+    (λ c. search needs)
     (λ c. search needs)
     same-length-2
     returns-2

@@ -1,6 +1,8 @@
 -- `depth_term` keeps within 64 bits by the spans of its parts.
-use lib.Dec.{lit≤, lit<}
-use Rattle.interval.proofs.SpanFits.{sum-fits, scaled-fits, quotient-fits}
+use lib.Dec.{lit<}
+use Rattle.interval.proofs.SpanFits.{sum-fits, scaled-fits}
+use Rattle.interval.proofs.Rules.{lits}
+use Rattle.interval.proofs.NumeralSpans.{numeral-quotient-fits}
 use Rattle.resistance.specs.Ends.{depthEnds}
 use Rattle.resistance.proofs.Spans.{one-span, twenty-span, side-span, depth-scaled, share-span}
 use borrow.Author.Needs.{needs}
@@ -17,7 +19,7 @@ quotient-requires c κs =
     let r = c .before .before .before in
     let b = r .before .pre in
     rw (c .side-term .ensures, c .before .scaled .ensures, r .root-twenty .ensures)
-    (quotient-fits (lit< tt) (lit< tt) (lit≤ tt) (depth-scaled b) (side-span b))
+    (numeral-quotient-fits (lits tt) (depth-scaled b) (side-span b))
 
 sum-requires : tie.Need-sum-requires
 sum-requires c κs =

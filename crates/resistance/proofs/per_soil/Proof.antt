@@ -1,8 +1,9 @@
 -- `per_soil` keeps within 64 bits by the spans of its parts.
 use native.Mathlib.Omega.{arith}
-use lib.Dec.{lit≤, lit<}
-use Rattle.interval.proofs.SpanFits.{sum-fits, quotient-fits}
-use Rattle.interval.proofs.Span.{span-point}
+use lib.Dec.{lit<}
+use Rattle.interval.proofs.SpanFits.{sum-fits}
+use Rattle.interval.proofs.Rules.{lits}
+use Rattle.interval.proofs.NumeralSpans.{numeral-point, numeral-quotient-fits}
 use Rattle.lengths.proofs.Lengths.{total-bounds}
 use Rattle.resistance.specs.Ends.{perSoilEnds}
 use Rattle.resistance.proofs.Spans.{total-span, shape-span, width-span, first-span, second-span}
@@ -17,12 +18,12 @@ quotient-requires : tie.Need-quotient-requires
 quotient-requires c κs =
     let p = c .before in
     rw (c .point2 .ensures, p .point .ensures, p .before .total-length .ensures)
-    (quotient-fits (lit< tt) (lit< tt) (lit≤ tt) (span-point 1 {l = 1} {h = 1} (lit≤ tt) (lit≤ tt)) (total-span (p .before .before .pre)))
+    (numeral-quotient-fits (lits tt) (numeral-point 1 {l = 1} {h = 1} (lits tt)) (total-span (p .before .before .pre)))
 
 quotient-requires-2 : tie.Need-quotient-requires-2
 quotient-requires-2 c κs =
     let b = c .before .before .before .before .before .before .pre in
-    rw (c .width-term .ensures, c .before .shape-term .ensures) (quotient-fits (lit< tt) (lit< tt) (lit≤ tt) (shape-span b) (width-span b))
+    rw (c .width-term .ensures, c .before .shape-term .ensures) (numeral-quotient-fits (lits tt) (shape-span b) (width-span b))
 
 sum-requires : tie.Need-sum-requires
 sum-requires c κs =

@@ -1,6 +1,8 @@
 -- `shape_term` keeps within 64 bits by the spans of its parts.
-use lib.Dec.{lit≤, lit<}
-use Rattle.interval.proofs.SpanFits.{sum-fits, quotient-fits}
+use lib.Dec.{lit<}
+use Rattle.interval.proofs.SpanFits.{sum-fits}
+use Rattle.interval.proofs.Rules.{lits}
+use Rattle.interval.proofs.NumeralSpans.{numeral-quotient-fits}
 use Rattle.resistance.specs.Ends.{shapeEnds}
 use Rattle.resistance.proofs.Spans.{one-span, depth-span, inverse-span}
 use borrow.Author.Needs.{needs}
@@ -10,7 +12,7 @@ use Rattle.resistance.proofs.shape_term.Tie as tie
 quotient-requires : tie.Need-quotient-requires
 quotient-requires c κs =
     rw (c .depth-term .ensures, c .before .point .ensures)
-    (quotient-fits (lit< tt) (lit< tt) (lit≤ tt) one-span (depth-span (c .before .before .pre)))
+    (numeral-quotient-fits (lits tt) one-span (depth-span (c .before .before .pre)))
 
 sum-requires : tie.Need-sum-requires
 sum-requires c κs =

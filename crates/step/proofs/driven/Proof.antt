@@ -1,9 +1,10 @@
 -- `driven` divides ρ·Ki·IG, which is within 64 bits, by LS.
 use Prim.Native.Nat.{_*_}
 use native.Mathlib.Omega.{arith}
-use lib.Dec.{lit≤, lit<}
+use lib.Dec.{lit<}
 use Rattle.interval.proofs.Fits.{fits-below}
-use Rattle.interval.proofs.SpanFits.{quotient-fits}
+use Rattle.interval.proofs.Rules.{lits}
+use Rattle.interval.proofs.NumeralSpans.{numeral-quotient-fits}
 use Rattle.drive.proofs.Spans.{drive-span}
 use Rattle.step.specs.Ends.{drivenEnds}
 use Rattle.step.proofs.Spans.{length-bounds, length-span}
@@ -22,7 +23,7 @@ quotient-requires : tie.Need-quotient-requires
 quotient-requires c κs =
     let s = c .before .before in
     rw (c .point .ensures, c .before .step-length .ensures, s .pre .1)
-    (quotient-fits (lit< tt) (lit< tt) (lit≤ tt) (drive-span (s .pre .0)) (length-span (s .pre .0)))
+    (numeral-quotient-fits (lits tt) (drive-span (s .pre .0)) (length-span (s .pre .0)))
 
 returns : tie.Need-returns
 unfolding drivenEnds

@@ -1,8 +1,8 @@
 -- `per_metre` is a quotient of two whole numbers.
 use native.Mathlib.Omega.{arith}
-use lib.Dec.{lit≤, lit<}
 use Rattle.interval.proofs.Span.{span-point}
-use Rattle.interval.proofs.SpanFits.{quotient-fits}
+use Rattle.interval.proofs.Rules.{lits}
+use Rattle.interval.proofs.NumeralSpans.{numeral-quotient-fits}
 use Rattle.step.specs.Ends.{perMetre}
 use borrow.Author.Needs.{needs}
 use Rattle.step.proofs.per_metre.Statement.{statement}
@@ -12,7 +12,7 @@ quotient-requires : tie.Need-quotient-requires
 quotient-requires c κs =
     let s = c .before .before in
     rw (c .point2 .ensures, c .before .point .ensures)
-    (quotient-fits (lit< tt) (lit< tt) (lit≤ tt) (span-point (s .args .a) {l = 0} {h = 8388607} (omega arith) (omega arith))
+    (numeral-quotient-fits (lits tt) (span-point (s .args .a) {l = 0} {h = 8388607} (omega arith) (omega arith))
     (span-point (s .args .d) {l = 1} {h = s .args .d} (omega arith) (omega arith)))
 
 returns : tie.Need-returns

@@ -1,6 +1,6 @@
 -- `spacing_factor` divides by π.
-use lib.Dec.{lit≤, lit<}
-use Rattle.interval.proofs.SpanFits.{quotient-fits}
+use Rattle.interval.proofs.Rules.{lits}
+use Rattle.interval.proofs.NumeralSpans.{numeral-quotient-fits}
 use Rattle.enclosure.proofs.Constants.{π-span}
 use Rattle.step.specs.Ends.{spacingFactor}
 use Rattle.step.proofs.FactorSpans.{sum-span}
@@ -11,7 +11,7 @@ use Rattle.step.proofs.spacing_factor.Tie as tie
 quotient-requires : tie.Need-quotient-requires
 quotient-requires c κs =
     rw (c .pi .ensures, c .before .spacing-sum .ensures)
-    (quotient-fits (lit< tt) (lit< tt) (lit≤ tt) (sum-span (c .before .before .pre .0)) π-span)
+    (numeral-quotient-fits (lits tt) (sum-span (c .before .before .pre .0)) π-span)
 
 returns : tie.Need-returns
 unfolding spacingFactor

@@ -1,9 +1,11 @@
 -- `spacing_share` is by the power of two of a square, else by the half-power.
 use native.Mathlib.Omega.{arith}
-use lib.Dec.{lit≤, lit<}
+use lib.Dec.{lit<}
 use borrow.Author.Tests.{eq-eqb, ne-eqb}
 use Rattle.interval.proofs.Fits.{fits-below}
-use Rattle.interval.proofs.SpanFits.{sum-fits, quotient-fits}
+use Rattle.interval.proofs.SpanFits.{sum-fits}
+use Rattle.interval.proofs.Rules.{lits}
+use Rattle.interval.proofs.NumeralSpans.{numeral-quotient-fits}
 use Rattle.conductors.proofs.NumberSpans.{n-span}
 use Rattle.conductors.proofs.NumberEnclosed.{counts}
 use Rattle.conductors.proofs.WeightWidths.{half-span}
@@ -51,7 +53,7 @@ quotient-requires c κs =
     let p = d .before .before in
     let s = p .before .before .before .before in
     rw (c .point2 .ensures, d .difference .ensures, d .before .half-power .ensures, p .point .ensures, s .pre .1)
-    (quotient-fits (lit< tt) (lit< tt) (lit≤ tt) (rest-span (s .pre .0) (ne-eqb _ _ (p .before .if1 .left))) (space-span (s .pre .0)))
+    (numeral-quotient-fits (lits tt) (rest-span (s .pre .0) (ne-eqb _ _ (p .before .if1 .left))) (space-span (s .pre .0)))
 
 returns-2 : tie.Need-returns-2
 unfolding shareEnds

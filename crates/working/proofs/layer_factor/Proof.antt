@@ -1,10 +1,11 @@
 -- `layer_factor` is Cs for bare soil or with a layer; the bounds of layer, thickness and soil keep it within 64 bits.
 use native.Mathlib.Omega.{arith}
 use borrow.Author.Tests.{eq-eqb, ne-eqb}
-use lib.Dec.{lit≤, lit<}
+use lib.Dec.{lit<}
 use Rattle.interval.proofs.Fits.{fits-below, fits-product}
 use Rattle.interval.proofs.Span.{span-point}
-use Rattle.interval.proofs.SpanFits.{quotient-fits}
+use Rattle.interval.proofs.Rules.{lits}
+use Rattle.interval.proofs.NumeralSpans.{numeral-quotient-fits}
 use Rattle.case.specs.Bounds.{Layered}
 use Rattle.working.specs.Ends.{derated, full, layerFactor}
 use Rattle.working.proofs.Layer.{not-bare, derated-most, full-bounds}
@@ -60,7 +61,7 @@ quotient-requires c κs =
     let b = e .before .before .pre in
     let f = full-bounds b (covered e) in
     rw (c .point3 .ensures, c .before .point2 .ensures)
-    (quotient-fits (lit< tt) (lit< tt) (lit≤ tt)
+    (numeral-quotient-fits (lits tt)
     (span-point (derated (e .before .before .args .c)) {l = 0} (omega arith) (derated-most b (covered e)))
     (span-point (full (e .before .before .args .c)) (f .low) (f .high)))
 

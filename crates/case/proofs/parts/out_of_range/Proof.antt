@@ -4,8 +4,8 @@ use Prim.Native.Nat.{_-_}
 use mathlib.Core.Path.{ap, _∙_}
 use native.Mathlib.Omega.{arith}
 use lib.ListN.{getD}
-use Rattle.case.specs.Columns.{columns, inRange}
-use Rattle.case.specs.Parts.{formOf, lowOf, highOf, otherOf}
+use Rattle.case.specs.Columns.{Column, columns, allColumns, inRange}
+use Rattle.case.specs.Parts.{formOf, rangeAt, lowOf, highOf, otherOf}
 use Rattle.case.proofs.RangeNumbers.{table-entry}
 use Rattle.case.proofs.Findings.{form-most}
 use Rattle.case.proofs.Leftmost.{Leftmost, leftmost-start, leftmost-by, leftmost-end}
@@ -56,13 +56,14 @@ shared-slice-read-worse-2 : tie.Need-shared-slice-read-worse-2 Inv-loop μ-loop
 shared-slice-read-worse-2 c = omega (arith, c .before .before .before .before .loop .inv .within)
 
 loop-again : tie.Need-loop-again Inv-loop μ-loop
-unfolding columns lowOf highOf otherOf
+unfolding columns allColumns rangeAt lowOf highOf otherOf
 loop-again c =
     let p = c .before .before .before in
     let i = p .before in
     let x = getD (i .before .before .before .before .args .v .now) (i .before .loop .k - 1) 0 in
     leftmost-by _ (i .before .loop .inv) (i .loop-test .taken)
-    (table-entry (p .place .result) x (p .place .ensures .within) ∙ ap (λ range. inRange range x) (p .place .ensures .is))
+    (table-entry (p .place .result) x (p .place .ensures .within)
+    ∙ ap (λ (column : Column). inRange (column .range) x) (p .place .ensures .is))
     (c .worse .ensures)
 
 returns : tie.Need-returns Inv-loop μ-loop

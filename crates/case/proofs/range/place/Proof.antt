@@ -1,16 +1,13 @@
--- `case::range::place` meets its contract: each place of the code's table holds the range of the name there.
+-- `case::range::place` meets its contract: each place of the code's table is that of the name.
 use Prim.Native.Nat.{_<_}
 use native.Mathlib.Omega.{arith}
 use lib.ListN.{length}
 use borrow.Author.Needs.{needs}
 use Rattle.case.specs.Columns.{formerColumns, former-name-count}
 use Rattle.case.specs.Parts.{formOf}
-use Rattle.case.proofs.FormerPlaces.{formerPlaces, former-place, present-place}
+use Rattle.case.proofs.Places.{formerPlaces, former-place, present-place}
 use Rattle.case.proofs.range.place.Statement.{statement}
 use Rattle.case.proofs.range.place.Tie as tie
-
-enum-told : tie.Need-enum-told
-enum-told c = search needs
 
 -- the index of a name of the former form
 former-index : (c : tie.After-enum-told2) → c .before .before .args .k < length formerColumns
@@ -33,4 +30,4 @@ returns-2 c = rw (c .enum-told2 .given .1) (former-place _ (former-index c))
 
 pub place-spec : {M : Type 1} → statement M
 place-spec =
-    tie.close (tie.spec enum-told (λ c. search needs) mul-result array-read-result returns returns-2)
+    tie.close (tie.spec (λ c. search needs) (λ c. search needs) mul-result array-read-result returns returns-2)

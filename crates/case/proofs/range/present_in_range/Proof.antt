@@ -1,7 +1,7 @@
 -- `case::range::present_in_range` meets its contract: the pass of proofs/RangeNumbers.antt, with the code's tables those of the names by
 -- one computed test.
 use Prim.Native.Nat.{_-_}
-use Rattle.case.specs.Columns.{columns}
+use Rattle.case.specs.Columns.{columns, allColumns}
 use Rattle.case.specs.Parts.{lowOf, highOf, otherOf}
 use Rattle.case.proofs.RangeNumbers.{Tested, tested-start, tested-step, tested-end}
 use borrow.Author.Needs.{needs}
@@ -18,7 +18,7 @@ loop-holds : tie.Need-loop-holds Inv-loop μ-loop
 loop-holds c = tested-start _
 
 loop-again : tie.Need-loop-again Inv-loop μ-loop
-unfolding columns lowOf highOf otherOf
+unfolding columns allColumns lowOf highOf otherOf
 loop-again c = rw (c .in-range .ensures) (tested-step (c .before .before .before .loop .inv) (c .before .before .loop-test .taken))
 
 returns : tie.Need-returns Inv-loop μ-loop

@@ -1,7 +1,8 @@
 -- `exponent` keeps within 64 bits by the spans of its parts; 2n is inside the range of the logarithm.
 use lib.Dec.{lit≤, lit<}
-use Rattle.interval.proofs.Span.{span-point, span-wider}
-use Rattle.interval.proofs.SpanFits.{scaled-fits, product-fits, quotient-fits}
+use Rattle.interval.proofs.SpanFits.{scaled-fits, product-fits}
+use Rattle.interval.proofs.Rules.{lits}
+use Rattle.interval.proofs.NumeralSpans.{numeral-point, numeral-quotient-fits, numeral-wider}
 use Rattle.conductors.specs.Weights.{innerExponent}
 use Rattle.conductors.proofs.WeightSpans.{twice-span, share-span, twice-log-span}
 use borrow.Author.Needs.{needs}
@@ -11,7 +12,7 @@ use Rattle.conductors.proofs.inner.exponent.Tie as tie
 quotient-requires : tie.Need-quotient-requires
 quotient-requires c κs =
     rw (c .point .ensures)
-    (quotient-fits (lit< tt) (lit< tt) (lit≤ tt) (span-point 20000000 {l = 0} {h = 20000000} (lit≤ tt) (lit≤ tt)) (c .before .pre))
+    (numeral-quotient-fits (lits tt) (numeral-point 20000000 {l = 0} {h = 20000000} (lits tt)) (c .before .pre))
 
 scaled-requires : tie.Need-scaled-requires
 scaled-requires c κs = scaled-fits 2 (lit< tt) (lit< tt) (lit≤ tt) (c .before .before .pre)
@@ -19,7 +20,7 @@ scaled-requires c κs = scaled-fits 2 (lit< tt) (lit< tt) (lit≤ tt) (c .before
 ln-pair-requires : tie.Need-ln-pair-requires
 ln-pair-requires c κs =
     rw (c .scaled .ensures)
-    (record { low = lit≤ tt; high = lit≤ tt }, span-wider (twice-span (c .before .before .before .pre)) (lit≤ tt) (lit≤ tt) (lit≤ tt))
+    (record { low = lit≤ tt; high = lit≤ tt }, numeral-wider (twice-span (c .before .before .before .pre)) (lits tt))
 
 product-requires : tie.Need-product-requires
 product-requires c κs =

@@ -1,9 +1,8 @@
 -- `inner_weight` is one over the root of a square, else the exponential of an exponent inside its range.
 use native.Mathlib.Omega.{arith}
-use lib.Dec.{lit≤, lit<}
 use borrow.Author.Tests.{eq-eqb, ne-eqb}
-use Rattle.interval.proofs.Span.{span-point, span-wider}
-use Rattle.interval.proofs.SpanFits.{quotient-fits}
+use Rattle.interval.proofs.Rules.{lits}
+use Rattle.interval.proofs.NumeralSpans.{numeral-point, numeral-quotient-fits, numeral-wider}
 use Rattle.conductors.specs.Weights.{innerEnds}
 use Rattle.conductors.proofs.WeightSpans.{exponent-span}
 use Rattle.conductors.proofs.LineRoots.{root-known, line-root-span}
@@ -30,7 +29,7 @@ quotient-requires c κs =
     let p = c .before in
     let r = p .before in
     rw (c .natural .ensures, p .point .ensures, r .lines-root .ensures)
-    (quotient-fits (lit< tt) (lit< tt) (lit≤ tt) (span-point 1000000000 {l = 0} {h = 1000000000} (lit≤ tt) (lit≤ tt))
+    (numeral-quotient-fits (lits tt) (numeral-point 1000000000 {l = 0} {h = 1000000000} (lits tt))
     (line-root-span (r .before .before .pre .0 .across)))
 
 returns : tie.Need-returns
@@ -39,7 +38,7 @@ returns c = rw (eq-eqb _ _ (c .before .before .before .before .if1 .taken)) (cc)
 
 exp-pair-requires : tie.Need-exp-pair-requires
 exp-pair-requires c κs =
-    rw (c .exponent .ensures) (span-wider (exponent-span (c .before .before .pre .1)) (lit≤ tt) (lit≤ tt) (lit≤ tt))
+    rw (c .exponent .ensures) (numeral-wider (exponent-span (c .before .before .pre .1)) (lits tt))
 
 returns-2 : tie.Need-returns-2
 unfolding innerEnds

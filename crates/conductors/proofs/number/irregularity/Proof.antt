@@ -1,7 +1,9 @@
 -- `irregularity` keeps within 64 bits by the span of n.
 use lib.Dec.{lit≤, lit<}
-use Rattle.interval.proofs.Span.{span-point, span-scaled}
+use Rattle.interval.proofs.Span.{span-scaled}
 use Rattle.interval.proofs.SpanFits.{sum-fits, scaled-fits}
+use Rattle.interval.proofs.Rules.{lits}
+use Rattle.interval.proofs.NumeralSpans.{numeral-point}
 use Rattle.conductors.specs.Number.{KiEnds}
 use borrow.Author.Needs.{needs}
 use Rattle.conductors.proofs.number.irregularity.Statement.{statement}
@@ -14,7 +16,7 @@ sum-requires : tie.Need-sum-requires
 sum-requires c κs =
     let p = c .before in
     rw (c .scaled .ensures, p .point .ensures)
-    (sum-fits (lit< tt) (span-point 6440000000 {l = 0} {h = 6440000000} (lit≤ tt) (lit≤ tt)) (span-scaled 148 (p .before .pre)))
+    (sum-fits (lit< tt) (numeral-point 6440000000 {l = 0} {h = 6440000000} (lits tt)) (span-scaled 148 (p .before .pre)))
 
 returns : tie.Need-returns
 unfolding KiEnds

@@ -1,7 +1,8 @@
 -- `half_exponent` keeps within 64 bits by the spans of its parts.
-use lib.Dec.{lit≤, lit<}
-use Rattle.interval.proofs.Span.{span-point}
+use lib.Dec.{lit<}
 use Rattle.interval.proofs.SpanFits.{sum-fits, product-fits}
+use Rattle.interval.proofs.Rules.{lits}
+use Rattle.interval.proofs.NumeralSpans.{numeral-point}
 use Rattle.conductors.specs.Weights.{ln2Ends, halfExponent}
 use Rattle.conductors.proofs.WeightSpans.{ln2-span, above-span}
 use borrow.Author.Needs.{needs}
@@ -10,7 +11,7 @@ use Rattle.conductors.proofs.weights.half_exponent.Tie as tie
 
 difference-requires : tie.Need-difference-requires
 difference-requires c κs =
-    rw (c .point .ensures) (sum-fits (lit< tt) (c .before .pre) (span-point 20000000 {l = 0} {h = 20000000} (lit≤ tt) (lit≤ tt)))
+    rw (c .point .ensures) (sum-fits (lit< tt) (c .before .pre) (numeral-point 20000000 {l = 0} {h = 20000000} (lits tt)))
 
 product-requires : tie.Need-product-requires
 unfolding ln2Ends

@@ -1,6 +1,6 @@
 -- `half_power` takes the exponential of an exponent inside its range.
-use lib.Dec.{lit≤}
-use Rattle.interval.proofs.Span.{span-wider}
+use Rattle.interval.proofs.Rules.{lits}
+use Rattle.interval.proofs.NumeralSpans.{numeral-wider}
 use Rattle.conductors.specs.Weights.{halfPowerEnds}
 use Rattle.conductors.proofs.WeightSpans.{half-exponent-span}
 use borrow.Author.Needs.{needs}
@@ -9,7 +9,7 @@ use Rattle.conductors.proofs.weights.half_power.Tie as tie
 
 exp-pair-requires : tie.Need-exp-pair-requires
 exp-pair-requires c κs =
-    rw (c .half-exponent .ensures) (span-wider (half-exponent-span (c .before .pre)) (lit≤ tt) (lit≤ tt) (lit≤ tt))
+    rw (c .half-exponent .ensures) (numeral-wider (half-exponent-span (c .before .pre)) (lits tt))
 
 returns : tie.Need-returns
 unfolding halfPowerEnds

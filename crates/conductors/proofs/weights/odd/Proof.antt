@@ -1,7 +1,8 @@
 -- `odd` keeps within 64 bits by the spans of its parts.
 use lib.Dec.{lit≤, lit<}
-use Rattle.interval.proofs.Span.{span-point}
 use Rattle.interval.proofs.SpanFits.{sum-fits, scaled-fits, product-fits}
+use Rattle.interval.proofs.Rules.{lits}
+use Rattle.interval.proofs.NumeralSpans.{numeral-point}
 use Rattle.enclosure.proofs.Constants.{π-span}
 use Rattle.conductors.specs.Weights.{oddEnds}
 use Rattle.conductors.proofs.WeightSpans.{twice-span, less-span}
@@ -16,7 +17,7 @@ difference-requires : tie.Need-difference-requires
 difference-requires c κs =
     let s = c .before .before in
     rw (c .point .ensures, s .scaled .ensures)
-    (sum-fits (lit< tt) (twice-span (s .before .pre)) (span-point 10000000 {l = 0} {h = 10000000} (lit≤ tt) (lit≤ tt)))
+    (sum-fits (lit< tt) (twice-span (s .before .pre)) (numeral-point 10000000 {l = 0} {h = 10000000} (lits tt)))
 
 product-requires : tie.Need-product-requires
 product-requires c κs =

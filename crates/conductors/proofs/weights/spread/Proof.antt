@@ -1,7 +1,9 @@
 -- `spread` is minus a logarithm: π(2n−1) is above 8, and both are inside its range.
 use native.Mathlib.Omega.{arith}
 use lib.Dec.{lit≤}
-use Rattle.interval.proofs.Span.{span-size, span-wider}
+use Rattle.interval.proofs.Span.{span-size}
+use Rattle.interval.proofs.Rules.{lits}
+use Rattle.interval.proofs.NumeralSpans.{numeral-wider}
 use Rattle.conductors.specs.Weights.{spreadEnds}
 use Rattle.conductors.proofs.WeightSpans.{odd-span, odd-log-span}
 use borrow.Author.Needs.{needs}
@@ -11,7 +13,7 @@ use Rattle.conductors.proofs.weights.spread.Tie as tie
 ln-pair-requires : tie.Need-ln-pair-requires
 ln-pair-requires c κs =
     rw (c .odd .ensures)
-    (record { low = lit≤ tt; high = lit≤ tt }, span-wider (odd-span (c .before .pre)) (lit≤ tt) (lit≤ tt) (lit≤ tt))
+    (record { low = lit≤ tt; high = lit≤ tt }, numeral-wider (odd-span (c .before .pre)) (lits tt))
 
 minus-requires : tie.Need-minus-requires
 minus-requires c κs =

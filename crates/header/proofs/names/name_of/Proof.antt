@@ -1,28 +1,57 @@
 -- `header::names::name_of` meets its contract: the search of proofs/Naming.antt.
-use Prim.Native.Nat.{_-_}
-use mathlib.Core.Path.{sym, _∙_}
+use Prim.Native.Nat.{_-_, _<_}
+use mathlib.Core.Path.{_≡_, sym, _∙_}
+use native.Mathlib.Omega.{arith}
 use borrow.Author.Needs.{needs}
+use lib.ListN.{length}
+use Rattle.text.specs.Text.{same}
 use Rattle.case.specs.Parts.{formOf}
+use Rattle.header.specs.Parts.{nameAt}
+use Rattle.header.proofs.NameTable.{place-spells}
 use Rattle.header.proofs.Naming.{Naming, naming-start, naming-found, naming-step, naming-end}
 use Rattle.header.proofs.names.name_of.Statement.{statement}
 use Rattle.header.proofs.names.name_of.Tie as tie
 
 abbrev Inv-loop : tie.InvT-loop
-Inv-loop form s n k₀ k = Naming (formOf form) s k
+Inv-loop form s names n k₀ k = Naming (formOf form) s k
 
 abbrev μ-loop : tie.MeasureT-loop
-μ-loop form s n k₀ k = n - k
+μ-loop form s names n k₀ k = n - k
 
 loop-holds : tie.Need-loop-holds Inv-loop μ-loop
 loop-holds c = naming-start _ _
 
+-- a turn of the loop has a name left, which it asks for
+within : (i : tie.In-loop Inv-loop μ-loop)
+    → i .before .loop .k < length (formOf (i .before .before .before .before .before .args .form))
+within i = omega (arith, i .loop-test .taken, i .before .before .name-count .ensures)
+
+place-requires : tie.Need-place-requires Inv-loop μ-loop
+place-requires c κs = within c
+
+is-name-requires : tie.Need-is-name-requires Inv-loop μ-loop
+is-name-requires c κs =
+    let m = c .before in
+    rw (m .before .before .before .before .all-names .ensures) (place-spells _ (m .place .ensures) .fits)
+
+asked : (a : tie.After-is-name Inv-loop μ-loop)
+    → let i = a .before .before .before in
+    a .is-name .result
+    ≡ same (i .before .before .before .before .before .args .s .now)
+    (nameAt (formOf (i .before .before .before .before .before .args .form)) (i .before .loop .k))
+asked a =
+    let m = a .before .before in
+    rw (m .before .before .before .before .all-names .ensures, place-spells _ (m .place .ensures) .is) at (a .is-name .ensures)
+
 returns : tie.Need-returns Inv-loop μ-loop
 returns c =
-    naming-found (c .before .before .before .loop .inv) (search needs) (sym (c .before .is-name .ensures) ∙ c .if1 .taken)
+    let i = c .before .before .before .before in
+    naming-found (i .before .loop .inv) (within i) (sym (asked (c .before)) ∙ c .if1 .taken)
 
 loop-again : tie.Need-loop-again Inv-loop μ-loop
 loop-again c =
-    naming-step (c .before .before .before .loop .inv) (search needs) (sym (c .before .is-name .ensures) ∙ c .if1 .left)
+    let i = c .before .before .before .before in
+    naming-step (i .before .loop .inv) (within i) (sym (asked (c .before)) ∙ c .if1 .left)
 
 returns-2 : tie.Need-returns-2 Inv-loop μ-loop
 returns-2 c = naming-end (c .before .loop .inv) (search needs)
@@ -34,8 +63,12 @@ name-of-spec =
     Inv-loop
     μ-loop
     (λ c κs. search needs)
-    loop-holds
     (λ c κs. search needs)
+    loop-holds
+    place-requires
+    (λ c. omega (arith, c .place .ensures .within))
+    (λ c. omega (arith, c .place .ensures .within))
+    is-name-requires
     returns
     (λ c. search needs)
     (λ c. search needs)

@@ -1,6 +1,7 @@
 -- `judgement::pass::store_line` meets its contract: the line's values are a part of the store.
-use Prim.Native.Nat.{_+_, _*_, _-_, _≤_}
+use Prim.Native.Nat.{ℕ, _+_, _*_, _-_, _≤_}
 use mathlib.Core.Path.{_∙_}
+use mathlib.Core.List.{List}
 use native.Mathlib.Omega.{arith}
 use borrow.Author.Needs.{needs}
 use borrow.Rule.Slice.PartMut.{putMid, mid-len}
@@ -14,9 +15,15 @@ use Rattle.judgement.proofs.pass.store_line.Tie as tie
 abbrev start : tie.After-slice-known → tie.Start
 start c = c .before .before .before .before .before
 
+-- the count of columns, and where the line's part of the store begins
+abbrev width : tie.Start → ℕ
+width s = length (s .args .at .now)
+
+abbrev from : tie.Start → ℕ
+from s = width s * s .args .n
+
 -- there is room for as many numbers as there are columns
-room : (c : tie.After-slice-known)
-    → length (start c .args .at .now) * start c .args .n + length (start c .args .at .now) ≤ length (start c .args .values .now)
+room : (c : tie.After-slice-known) → from (start c) + width (start c) ≤ length (start c .args .values .now)
 room c = rw (start c .pre .0 .count) (start c .pre .1 .1 .1)
 
 mul-a : tie.Need-mul-a
@@ -37,22 +44,24 @@ check-line-requires c κs =
     let p = start k .pre in
     (p .0, (p .1 .0, (p .1 .1 .0, mid-len _ _ (start k .args .values .now) (room k) ∙ omega (arith, p .0 .count))))
 
+-- the start of a checked line, and its values
+abbrev begun : tie.After-check-line → tie.Start
+begun v = start (v .before .before)
+
+abbrev row : tie.After-check-line → List ℕ
+row v = v .check-line .last .1 .1 .1 .1 .1 .1 .0
+
 -- the line's values in their place
 stored : (v : tie.After-check-line)
-    → LineStored (formOf (start (v .before .before) .args .form)) (start (v .before .before) .args .at .now)
-    (keysOf (start (v .before .before) .args .keys .now) (start (v .before .before) .args .n))
-    (start (v .before .before) .args .line .now) (start (v .before .before) .args .n) (start (v .before .before) .args .values .now)
-    (putMid (length (start (v .before .before) .args .at .now) * start (v .before .before) .args .n)
-    (length (start (v .before .before) .args .at .now) * start (v .before .before) .args .n + length
-    (start (v .before .before) .args .at .now) - length (start (v .before .before) .args .at .now) * start (v .before .before) .args .n)
-    (start (v .before .before) .args .values .now) (v .check-line .last .1 .1 .1 .1 .1 .1 .0))
+    → LineStored (formOf (begun v .args .form)) (begun v .args .at .now) (keysOf (begun v .args .keys .now) (begun v .args .n))
+    (begun v .args .line .now) (begun v .args .n) (begun v .args .values .now)
+    (putMid (from (begun v)) (from (begun v) + width (begun v) - from (begun v)) (begun v .args .values .now) (row v))
     (v .check-line .result)
 stored v =
-    let k = v .before .before in
     record {
-      row = v .check-line .last .1 .1 .1 .1 .1 .1 .0;
+      row = row v;
       checks = v .check-line .ensures;
-      written = put-written-as _ _ _ _ (start k .pre .0 .count) (room k) (v .check-line .ensures .count);
+      written = put-written-as _ _ _ _ (begun v .pre .0 .count) (room (v .before .before)) (v .check-line .ensures .count);
     }
 
 same-length : tie.Need-same-length

@@ -1,9 +1,10 @@
 -- `inner_term` keeps within 64 bits by the spans of its parts.
 use native.Mathlib.Omega.{arith}
 use native.Mathlib.Nat.{mul-le-mul}
-use lib.Dec.{lit≤, lit<}
+use lib.Dec.{lit<}
 use Rattle.interval.proofs.Span.{span-size}
-use Rattle.interval.proofs.SpanFits.{quotient-fits}
+use Rattle.interval.proofs.Rules.{lits}
+use Rattle.interval.proofs.NumeralSpans.{numeral-quotient-fits}
 use Rattle.conductors.proofs.NumberSpans.{n-span}
 use Rattle.conductors.proofs.NumberEnclosed.{counts}
 use Rattle.mesh.specs.Factor.{innerTerm}
@@ -16,7 +17,7 @@ quotient-requires : tie.Need-quotient-requires
 quotient-requires c κs =
     let s = c .before .before in
     rw (c .depth-factor .ensures, c .before .inner-factor .ensures)
-    (quotient-fits (lit< tt) (lit< tt) (lit≤ tt) (inner-factor-span (s .pre .0)) (depth-span (s .pre .0)))
+    (numeral-quotient-fits (lits tt) (inner-factor-span (s .pre .0)) (depth-span (s .pre .0)))
 
 spread-requires : tie.Need-spread-requires
 spread-requires c κs =

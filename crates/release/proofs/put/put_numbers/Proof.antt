@@ -5,7 +5,7 @@ use lib.ListN.{length-set}
 use borrow.Author.Needs.{needs}
 use mir.Syntax.{w64}
 use mir.Facts.{toZ-pos}
-use Rattle.release.specs.Tally.{eight}
+use Rattle.release.specs.Pair.{eight}
 use Rattle.release.proofs.Tables.{eight-set}
 use Rattle.release.proofs.put.put_numbers.Statement.{statement}
 use Rattle.release.proofs.put.put_numbers.Tie as tie

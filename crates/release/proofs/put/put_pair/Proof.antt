@@ -5,13 +5,13 @@ use mathlib.Core.List.{List}
 use borrow.Author.Needs.{needs}
 use Rattle.case.specs.declared.Case.{Case}
 use Rattle.sheet.specs.Rows.{storedCases}
-use Rattle.release.specs.Lines.{linesOf, firstLine}
-use Rattle.release.specs.Pair.{stationNumbers}
-use Rattle.release.specs.declared.Tally.{Tally}
-use Rattle.release.specs.Tally.{tallyOf, Small, missingBy, eight}
-use Rattle.release.proofs.Counts.{tally-small, missing-most, eight-is}
-use Rattle.release.proofs.StationLines.{lines-most}
-use Rattle.release.proofs.Tables.{pair-written}
+use Rattle.tally.specs.Lines.{linesOf, firstLine}
+use Rattle.release.specs.Pair.{eight, stationNumbers}
+use Rattle.tally.specs.declared.Tally.{Tally}
+use Rattle.tally.specs.Tally.{tallyOf, Small, missingBy}
+use Rattle.tally.proofs.Counts.{tally-small, missing-most}
+use Rattle.tally.proofs.StationLines.{lines-most}
+use Rattle.release.proofs.Tables.{eight-is, pair-written}
 use Rattle.release.proofs.put.put_pair.Statement.{statement}
 use Rattle.release.proofs.put.put_pair.Tie as tie
 

@@ -1,0 +1,103 @@
+-- What is counted of a station's lines, with one line more.
+use Prim.Native.Nat.{ℕ, suc, _+_, _*_, _/_, _≤_}
+use mathlib.Core.Path.{_≡_, refl, sym}
+use mathlib.Core.Bool.{Bool, true, false, not, _&&_}
+use mathlib.Core.List.{List, [], _∷_}
+use native.Mathlib.Nat.{mul-le-mul}
+use native.Mathlib.Omega.{arith}
+use lib.Dec.{ltb}
+use lib.IntN.{ℤ, pos}
+use lib.ListN.{length}
+use lib.Signed.{ltZ}
+use borrow.Author.Tests.{ltb-true, ltb-false, lt-ltb, le-ltb}
+use Rattle.case.specs.declared.Case.{Case}
+use Rattle.case.specs.Bounds.{Bounds}
+use Rattle.formulas.specs.Size as Size
+use Rattle.current.specs.Ends.{upperFactor}
+use Rattle.row.specs.Ends.{rowOf}
+use Rattle.judgement.specs.Limits.{mostLines}
+use Rattle.tally.specs.declared.Tally.{Tally}
+use Rattle.tally.specs.Lines.{licensed}
+use Rattle.tally.specs.Lines.{one, countOf, hasLine, answeredUnsafe, answeredUndecided, otherYard, tooSmall}
+use Rattle.tally.specs.Tally.{EveryBounds, tallyOf, addLine, Small, lacks, missingBy}
+use Rattle.tally.proofs.Faults.{common-none, common-step}
+
+pub one-most : (b : Bool) → one b ≤ 1
+unfolding one
+one-most true = omega arith
+one-most false = omega arith
+
+-- what a test counts
+pub counts-most : {r : ℕ} (b : Bool) → r ≡ one b → r ≤ 1
+counts-most b e = rw e (one-most b)
+
+count-most : (test : Case → Bool) (cs : List Case) → countOf test cs ≤ length cs
+unfolding countOf
+count-most test [] = omega arith
+count-most test (c ∷ cs) = omega (arith, one-most (test c), count-most test cs)
+
+-- ---- the counts of some lines
+
+pub tally-none : (yard : Case) → tallyOf yard []
+    ≡ record {
+      lines = 0;
+      first = false;
+      second = false;
+      third = false;
+      fourth = false;
+      «not_safe» = 0;
+      undecided = 0;
+      other = 0;
+      small = 0;
+      fault = 80000;
+    }
+unfolding tallyOf countOf hasLine
+tally-none yard = rw common-none
+
+pub tally-step : (yard : Case) {c : Case} (cs : List Case) → Bounds c → EveryBounds cs
+    → tallyOf yard (c ∷ cs) ≡ addLine yard c (tallyOf yard cs)
+unfolding tallyOf addLine countOf hasLine
+tally-step yard {c} cs b d =
+    let l : suc (length cs) ≡ 1 + length cs = omega arith in
+    rw (common-step cs b d, l)
+
+pub tally-small : (yard : Case) (cs : List Case) → length cs ≤ mostLines → Small (tallyOf yard cs)
+unfolding tallyOf
+tally-small yard cs h =
+    record {
+      lines = omega arith;
+      not-safe = omega (arith, count-most answeredUnsafe cs);
+      undecided = omega (arith, count-most answeredUndecided cs);
+      other = omega (arith, count-most (otherYard yard) cs);
+      small = omega (arith, count-most tooSmall cs);
+    }
+
+-- ---- the seasons without a line
+
+pub missing-most : (seasons : ℕ) (t : Tally) → missingBy seasons t ≤ 4
+unfolding missingBy lacks
+missing-most seasons t =
+    omega (
+      arith,
+      one-most (licensed 1 seasons && not (t .first)),
+      one-most (licensed 2 seasons && not (t .second)),
+      one-most (licensed 3 seasons && not (t .third)),
+      one-most (licensed 4 seasons && not (t .fourth)),
+    )
+
+-- ---- a conductor too small
+
+pub square-most : {c : Case} → Bounds c → c .dia * c .dia ≤ 90000
+square-most {c} b = omega (arith, mul-le-mul (b .dia .high) (b .dia .high))
+
+pub small-test : (a k : ℕ) → ltb (a / 64516) k ≡ ltb a (64516 * k)
+small-test a k = go (ltb (a / 64516) k) refl
+  where
+    go : (t : Bool) → ltb (a / 64516) k ≡ t → t ≡ ltb a (64516 * k)
+    go true e = sym (lt-ltb a (64516 * k) (omega (arith, ltb-true (a / 64516) k e)))
+    go false e = sym (le-ltb a (64516 * k) (omega (arith, ltb-false (a / 64516) k e)))
+
+-- the quotient is below the row's size
+pub small-is : (c : Case) (size : ℤ) → size ≡ rowOf c .size → ltZ (pos (1000 * (c .dia * c .dia) / 64516)) size ≡ tooSmall c
+unfolding tooSmall rowOf
+small-is c size e = rw e (small-test (1000 * (c .dia * c .dia)) (Size.size c (upperFactor c)))
