@@ -1,53 +1,118 @@
-# For programs in C: the archive, the header and a pkg-config file under a prefix; the example, and what tests and times the entry.
+# For programs in C: both libraries, the header, pkg-config files and the man page; the example, what tests and times the entries,
+# and a release for a customer without the Rattle kit.
 #
-#   make install PREFIX=/usr/local
-#   make panel harness
+#   make                              the libraries and the example
+#   make install PREFIX=/usr/local    also LIBDIR, INCLUDEDIR, MANDIR, DESTDIR; uninstall takes the same
+#   make dist                         target/dist/hocsimbur-VERSION.tar.gz
 #   make check                        what the gate runs of it
 PREFIX ?= /usr/local
-CC = cc
-CFLAGS = -O2
-STRICT = -Wall -Wextra -Werror -std=c11 -Iinclude
+LIBDIR ?= $(PREFIX)/lib
+INCLUDEDIR ?= $(PREFIX)/include
+MANDIR ?= $(PREFIX)/share/man
+CC ?= cc
+CXX ?= c++
+CFLAGS ?= -O2
+LDFLAGS ?=
+STRICT = -Wall -Wextra -Werror -pedantic -std=c11 -Iinclude
 SANITIZED = -g -O1 -fsanitize=address,undefined -fno-sanitize-recover=all
 
+NUMBER := $(shell sed -n 's/^.define HOCSIMBUR_VERSION \([0-9]*\).*/\1/p' include/hocsimbur.h)
+VERSION := $(shell echo $$(($(NUMBER) / 10000)).$$(($(NUMBER) / 100 % 100)).$$(($(NUMBER) % 100)))
+SONAME = libhocsimbur.so.$(firstword $(subst ., ,$(VERSION)))
+SHARED = libhocsimbur.so.$(VERSION)
+
 OUT = target/host
-ARCHIVE = target/staticlib/libpanel.a
-HARNESS = $(addprefix host/, harness.c random.c sheets.c serve.c times.c stack.c cases.c doubles.c)
+# two archives, so that the rows are compiled by themselves: what the compiler inlines for them does not hang on the other entries
+ARCHIVES = target/staticlib/libc_entry.a target/staticlib/libc_questions.a
+STATIC_LIBRARY = $(OUT)/libhocsimbur.a
+SHARED_LIBRARY = $(OUT)/$(SHARED)
+HARNESS = $(addprefix host/, harness.c random.c sheets.c serve.c times.c stack.c edges.c cases.c doubles.c)
+HEADERS = host/cases.h host/harness.h include/hocsimbur.h
 LIBS = -lm -pthread
-WRONG = 1 2 3 4 5 6 7 8 9
+# the one list of wrong entries: the cases of host/wrong.c
+WRONG := $(shell sed -n 's/^    case WRONG_\([a-z_]*\):.*/\1/p' host/wrong.c)
+WRAP = -Wl,--wrap=hocsimbur_rows,--wrap=hocsimbur_rows_at
 
-.PHONY: all install panel harness sanitized wrong check
+# what a customer gets beside the libraries
+PROGRAMS = verdict rows margins summary fewest carry carry_back
+MANUAL = $(firstword $(wildcard docs/manual.md) README.md)
+DIST = hocsimbur-$(VERSION)
 
-all: panel harness
+.NOTPARALLEL:
+.PHONY: all libraries install uninstall clean dist panel harness sanitized wrong wrong-names check
 
-$(ARCHIVE): crates.txt $(shell find crates -name '*.rt' -o -name '*.antt')
-	rt staticlib panel
+all: libraries panel
 
-$(OUT)/panel: examples/panel.c include/hocsimbur.h $(ARCHIVE)
+libraries: $(STATIC_LIBRARY) $(SHARED_LIBRARY)
+
+target/staticlib/lib%.a: crates.txt $(shell find crates -name '*.rt' -o -name '*.antt')
+	rt staticlib $*
+
+$(STATIC_LIBRARY): $(ARCHIVES)
+	rm -rf $(OUT)/objects
+	mkdir -p $(OUT)/objects
+	for archive in $(abspath $(ARCHIVES)); do (cd $(OUT)/objects && ar x $$archive) || exit 1; done
+	rm -f $@
+	ar rcsD $@ $(OUT)/objects/*.o
+
+$(SHARED_LIBRARY): $(STATIC_LIBRARY) host/hocsimbur.map
+	$(CC) $(LDFLAGS) -shared -Wl,-soname,$(SONAME) -Wl,--version-script=host/hocsimbur.map -Wl,-z,defs,-z,text,-z,now \
+	    -Wl,--whole-archive $(STATIC_LIBRARY) -Wl,--no-whole-archive -o $@
+	ln -sf $(SHARED) $(OUT)/$(SONAME)
+	ln -sf $(SONAME) $(OUT)/libhocsimbur.so
+
+$(OUT)/panel: examples/panel.c include/hocsimbur.h $(STATIC_LIBRARY)
+	$(CC) $(STRICT) $(CFLAGS) $(LDFLAGS) examples/panel.c $(STATIC_LIBRARY) -o $@
+
+$(OUT)/harness: $(HARNESS) $(HEADERS) $(STATIC_LIBRARY)
+	$(CC) $(STRICT) $(CFLAGS) $(LDFLAGS) $(HARNESS) $(STATIC_LIBRARY) $(LIBS) -o $@
+
+$(OUT)/sanitized: $(HARNESS) $(HEADERS) $(STATIC_LIBRARY)
+	$(CC) $(STRICT) $(SANITIZED) $(LDFLAGS) $(HARNESS) $(STATIC_LIBRARY) $(LIBS) -o $@
+
+$(OUT)/wrong-%: host/wrong.c $(OUT)/harness.o $(STATIC_LIBRARY)
+	$(CC) $(STRICT) $(CFLAGS) $(LDFLAGS) -DWRONG=WRONG_$* $(WRAP) host/wrong.c $(OUT)/harness.o $(STATIC_LIBRARY) $(LIBS) -o $@
+
+# the harness once, for every wrong entry
+$(OUT)/harness.o: $(HARNESS) $(HEADERS)
 	mkdir -p $(OUT)
-	$(CC) $(STRICT) $(CFLAGS) examples/panel.c $(ARCHIVE) -o $@
-
-$(OUT)/harness: $(HARNESS) host/cases.h host/harness.h include/hocsimbur.h $(ARCHIVE)
-	mkdir -p $(OUT)
-	$(CC) $(STRICT) $(CFLAGS) $(HARNESS) $(ARCHIVE) $(LIBS) -o $@
-
-$(OUT)/sanitized: $(HARNESS) host/cases.h host/harness.h include/hocsimbur.h $(ARCHIVE)
-	mkdir -p $(OUT)
-	$(CC) $(STRICT) $(SANITIZED) $(HARNESS) $(ARCHIVE) $(LIBS) -o $@
-
-$(OUT)/wrong%: host/wrong.c $(HARNESS) host/cases.h host/harness.h include/hocsimbur.h $(ARCHIVE)
-	mkdir -p $(OUT)
-	$(CC) $(STRICT) $(CFLAGS) -DWRONG=$* -Wl,--wrap=hocsimbur_rows,--wrap=hocsimbur_rows_at host/wrong.c $(HARNESS) $(ARCHIVE) $(LIBS) -o $@
+	$(CC) $(STRICT) $(CFLAGS) -r -nostdlib $(HARNESS) -o $@
 
 panel: $(OUT)/panel
 harness: $(OUT)/harness
 sanitized: $(OUT)/sanitized
-wrong: $(WRONG:%=$(OUT)/wrong%)
+wrong: $(WRONG:%=$(OUT)/wrong-%)
+wrong-names:
+	@echo $(WRONG)
 
-install: $(ARCHIVE)
-	mkdir -p $(DESTDIR)$(PREFIX)/include $(DESTDIR)$(PREFIX)/lib/pkgconfig
-	cp include/hocsimbur.h $(DESTDIR)$(PREFIX)/include/hocsimbur.h
-	cp $(ARCHIVE) $(DESTDIR)$(PREFIX)/lib/libhocsimbur.a
-	sed 's|@PREFIX@|$(PREFIX)|' host/hocsimbur.pc.in > $(DESTDIR)$(PREFIX)/lib/pkgconfig/hocsimbur.pc
+install: libraries
+	install -d $(DESTDIR)$(INCLUDEDIR) $(DESTDIR)$(LIBDIR)/pkgconfig $(DESTDIR)$(MANDIR)/man3
+	install -m 644 include/hocsimbur.h $(DESTDIR)$(INCLUDEDIR)/hocsimbur.h
+	install -m 644 $(STATIC_LIBRARY) $(DESTDIR)$(LIBDIR)/libhocsimbur.a
+	install -m 755 $(SHARED_LIBRARY) $(DESTDIR)$(LIBDIR)/$(SHARED)
+	ln -sf $(SHARED) $(DESTDIR)$(LIBDIR)/$(SONAME)
+	ln -sf $(SONAME) $(DESTDIR)$(LIBDIR)/libhocsimbur.so
+	install -m 644 host/hocsimbur.3 $(DESTDIR)$(MANDIR)/man3/hocsimbur.3
+	for name in hocsimbur hocsimbur-static; do \
+	    sed 's|@PREFIX@|$(PREFIX)|; s|@LIBDIR@|$(LIBDIR)|; s|@INCLUDEDIR@|$(INCLUDEDIR)|; s|@VERSION@|$(VERSION)|' host/$$name.pc.in \
+	        > $(DESTDIR)$(LIBDIR)/pkgconfig/$$name.pc || exit 1; \
+	done
 
-check: panel harness sanitized wrong
+uninstall:
+	rm -f $(DESTDIR)$(INCLUDEDIR)/hocsimbur.h $(DESTDIR)$(LIBDIR)/libhocsimbur.a $(DESTDIR)$(LIBDIR)/$(SHARED) $(DESTDIR)$(LIBDIR)/$(SONAME) \
+	    $(DESTDIR)$(LIBDIR)/libhocsimbur.so $(DESTDIR)$(MANDIR)/man3/hocsimbur.3 $(DESTDIR)$(LIBDIR)/pkgconfig/hocsimbur.pc \
+	    $(DESTDIR)$(LIBDIR)/pkgconfig/hocsimbur-static.pc
+
+clean:
+	rm -rf $(OUT) target/dist $(ARCHIVES)
+
+target/bin/%:
+	rt check $*
+
+dist: libraries $(PROGRAMS:%=target/bin/%)
+	rm -rf target/dist
+	bash host/dist.sh target/dist/$(DIST) $(VERSION) $(MANUAL) $(PROGRAMS)
+	tar -C target/dist --sort=name --owner=0 --group=0 --numeric-owner --mtime=@0 -czf target/dist/$(DIST).tar.gz $(DIST)
+
+check: libraries panel harness sanitized wrong
 	bash host/check.sh

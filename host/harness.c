@@ -3,7 +3,8 @@
  *     harness random SEED COUNT    random sheets, sound and damaged: what must hold of every answer
  *     harness serve                sheets in and answers out, with their lengths, for a judge
  *     harness time SHEET           nanoseconds a row, beside the same rows in doubles
- *     harness stack                the stack that a call takes on the longest sheet
+ *     harness stack                the stack that a call of each entry takes on the longest sheet
+ *     harness edges                null pointers with length 0, and numbers read from bytes made by hand
  *
  * Exit status 1 and a line on standard error for what is wrong. */
 #define _DEFAULT_SOURCE
@@ -14,7 +15,7 @@
 #include <sys/mman.h>
 #include <unistd.h>
 
-_Noreturn void stop(const char *why) {
+__attribute__((noreturn)) void stop(const char *why) {
     fprintf(stderr, "harness: %s\n", why);
     exit(1);
 }
@@ -36,7 +37,9 @@ int main(int count, char **words) {
         run_times(words[2]);
     else if (count == 2 && strcmp(words[1], "stack") == 0)
         run_stack();
+    else if (count == 2 && strcmp(words[1], "edges") == 0)
+        run_edges();
     else
-        stop("random SEED COUNT, serve, time SHEET, or stack");
+        stop("random SEED COUNT, serve, time SHEET, stack, or edges");
     return 0;
 }

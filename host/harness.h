@@ -17,7 +17,7 @@ struct trial {
 };
 
 /* what is wrong, and the end */
-_Noreturn void stop(const char *why);
+__attribute__((noreturn)) void stop(const char *why);
 
 /* the end of so much memory, past which no page may be touched: a byte read or written there stops the program */
 uint8_t *guarded(size_t bytes);
@@ -27,5 +27,6 @@ void run_random(uint64_t seed, long count);
 void serve(void);
 void run_times(const char *path);
 void run_stack(void);
+void run_edges(void);
 
 #endif

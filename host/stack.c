@@ -5,23 +5,49 @@
 #include <stdio.h>
 #include <string.h>
 
-enum { STACK = 1 << 20, FILL = 0xA5, MOST_STACK = 80000 };
+enum { STACK = 1 << 20, FILL = 0xA5, MOST_STACK = 80000, MOST_OTHER_STACK = 100000 };
 
 struct call {
     struct trial sheet;
     uint8_t buffer[MOST_BUFFER];
+    int64_t numbers[HOCSIMBUR_LINES * HOCSIMBUR_NUMBERS], beside[HOCSIMBUR_LINES * HOCSIMBUR_PAIR_NUMBERS];
+    int64_t (*entry)(struct call *, const uint8_t *, size_t *);
     int64_t answer;
     uintptr_t top;
 };
+
+static int64_t ask_rows(struct call *call, const uint8_t *text, size_t *place) {
+    return hocsimbur_rows_at(text, call->sheet.bytes, call->buffer, sizeof call->buffer, place, 2);
+}
+
+static int64_t ask_summary(struct call *call, const uint8_t *text, size_t *place) {
+    size_t most = sizeof call->numbers / sizeof *call->numbers, most_beside = sizeof call->beside / sizeof *call->beside;
+    return hocsimbur_summary(text, call->sheet.bytes, call->numbers, most, call->beside, most_beside, place, 2);
+}
+
+static int64_t ask_release(struct call *call, const uint8_t *text, size_t *place) {
+    static uint32_t licence[2 * HOCSIMBUR_LINES];
+    for (uint32_t i = 0; i < HOCSIMBUR_LINES; i++) {
+        licence[2 * i] = 1 + i;
+        licence[2 * i + 1] = 15;
+    }
+    size_t most = sizeof call->beside / sizeof *call->beside;
+    return hocsimbur_release(text, call->sheet.bytes, licence, 2 * HOCSIMBUR_LINES, call->beside, most, place, 2);
+}
+
+static int64_t ask_carry_back(struct call *call, const uint8_t *text, size_t *place) {
+    return hocsimbur_carry_back(text, call->sheet.bytes, call->buffer, sizeof call->buffer, place, 2);
+}
 
 static void *ask(void *at) {
     struct call *call = at;
     size_t place[2];
     call->top = (uintptr_t)place;
-    call->answer = hocsimbur_rows_at((const uint8_t *)call->sheet.text, call->sheet.bytes, call->buffer, sizeof call->buffer, place, 2);
+    call->answer = call->entry(call, (const uint8_t *)call->sheet.text, place);
     return NULL;
 }
 
+/* a sheet that can be carried back too */
 static void make_longest(struct trial *t) {
     struct chance c = {1};
     int order[NAMES];
@@ -30,15 +56,21 @@ static void make_longest(struct trial *t) {
     for (int i = 0; i < HOCSIMBUR_LINES; i++) {
         t->cases[i] = random_case(&c);
         t->cases[i].value[STATION] = 1 + i;
+        t->cases[i].value[CLEAR] = t->cases[i].value[WIRE] = t->cases[i].value[SHOCK];
+        t->cases[i].value[ALONG] = t->cases[i].value[ACROSS];
+        t->cases[i].value[HZ] = 60;
     }
     t->bytes = write_sheet(t->cases, HOCSIMBUR_LINES, order, t->text);
 }
 
-void run_stack(void) {
+static void take(const char *name, int64_t (*entry)(struct call *, const uint8_t *, size_t *), size_t most) {
     static struct call call;
-    uint8_t *stack = guarded(STACK) - STACK;
+    static uint8_t *stack;
+    if (stack == NULL)
+        stack = guarded(STACK) - STACK;
     pthread_attr_t how;
     pthread_t thread;
+    call.entry = entry;
     make_longest(&call.sheet);
     memset(stack, FILL, STACK);
     if (pthread_attr_init(&how) != 0 || pthread_attr_setstack(&how, stack, STACK) != 0 || pthread_create(&thread, &how, ask, &call) != 0 || pthread_join(thread, NULL) != 0)
@@ -47,9 +79,16 @@ void run_stack(void) {
     while (stack[left] == FILL)
         left++;
     size_t taken = call.top - (uintptr_t)(stack + left);
-    if (call.answer != HOCSIMBUR_LINES)
+    if (call.answer < HOCSIMBUR_LINES)
         stop("another answer to the longest sheet");
-    if (taken >= MOST_STACK)
+    if (taken >= most)
         stop("more stack than the header says");
-    printf("a sheet of %d lines: %zu bytes of stack\n", HOCSIMBUR_LINES, taken);
+    printf("%s, a sheet of %d lines: %zu bytes of stack\n", name, HOCSIMBUR_LINES, taken);
+}
+
+void run_stack(void) {
+    take("rows", ask_rows, MOST_STACK);
+    take("summary", ask_summary, MOST_OTHER_STACK);
+    take("release", ask_release, MOST_OTHER_STACK);
+    take("carry_back", ask_carry_back, MOST_OTHER_STACK);
 }

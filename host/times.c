@@ -51,6 +51,8 @@ void run_times(const char *path) {
         stop("no such sheet");
     size_t bytes = fread(text, 1, sizeof text, in), count = read_sheet(text, bytes, cases, HOCSIMBUR_LINES);
     fclose(in);
+    if (count == 0)
+        stop("no value line in the sheet to time");
     int order[NAMES];
     for (int i = 0; i < NAMES; i++)
         order[i] = i;

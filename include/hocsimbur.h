@@ -1,17 +1,52 @@
-/* Hocsimbur: the verdicts of a sheet of substation ground grids, for programs in C and C++.
+/* Hocsimbur: substation ground grids after IEEE Std 80, for programs in C (C99 and later) and C++ (C++98 and later).
  *
- * A sheet is text: a line of 22 names, then 1 to 256 lines of values; README.md has the names, units and ranges.
- * Each value line gets a row of 20 numbers, in the order of hocsimbur_number below.
+ * The sheet. Text: a line of the 22 names below, once each and in any order, parted by commas; then 1 to 256 lines of values in
+ * that order. A line ends with one byte 10; there are no spaces. A value is one to six decimal digits, and only 0 starts with 0. At
+ * most 65,536 bytes.
  *
- * Memory. The caller owns the sheet, the buffer and the place, and keeps them valid during the call. Nothing is allocated and nothing of
- * the caller's is kept. The buffer and the place do not overlap each other or the sheet. A pointer is never null, even with a length of 0.
- * No alignment is asked of the sheet or the buffer. A call takes less than 80 kB of stack.
+ *   station  number                                     1..65535
+ *   season   number                                     1..4
+ *   soil     resistivity, ohm metres                    10..5000
+ *   layer    resistivity of the surface layer, ohm m    0 or 100..10000
+ *   thick    thickness of the layer, mm                 0 or 20..300
+ *   shock    duration of the shock, ms                  9..3000
+ *   clear    clearing time of the fault, ms             9..3000
+ *   wire     back-up clearing time for the wire, ms     9..3000
+ *   body     kg                                         50 or 70
+ *   fault    symmetrical fault current, A               100..80000
+ *   split    part entering the grid, per mille          1..1000
+ *   xr       X/R of the system                          1..40
+ *   across   conductors side by side across the yard    2..25
+ *   along    conductors side by side along the yard     2..25
+ *   space    between conductors, both ways, mm          2500..30000
+ *   depth    of burial, mm                              250..2500
+ *   dia      conductor diameter, tenths of a mm         50..300
+ *   rods     count                                      0..200
+ *   rodlen   length of one rod, mm                      0 or 1000..10000
+ *   place    0 no rods, 1 perimeter or corners, 2 inside only
+ *   metal    as enum hocsimbur_metal                    1..11
+ *   hz       frequency                                  50 or 60
  *
- * Threads. There is no state: any number of calls may run at the same time on buffers of their own.
+ * layer and thick are both 0 (bare soil) or both not 0; rods, rodlen and place are all 0 or all not 0.
  *
- * Every sheet and every buffer is answered. Nothing is read or written past the given lengths. */
+ * One manner. Every entry answers a count of 0 or more, or a refusal's number made negative (enum hocsimbur_refusal). A refusal
+ * leaves every buffer and array as it was. Numbers and bytes past the last that is written keep what they held. Where a refusal
+ * points stands in the first two numbers of `place`: the line of the text, the first being 1, and the column, which counts the
+ * fields of the line from 1 and not its bytes; 0 where there is none. An answer of 0 or more leaves the place as it was, and so
+ * does a place of fewer than two numbers.
+ *
+ * Memory. The caller owns all buffers and keeps them valid during the call; nothing is allocated, and nothing of the caller's is
+ * kept. What is written overlaps nothing else that is handed over. A pointer may be null where its length is 0. Bytes need no
+ * alignment, numbers that of their type. Nothing is read or written past the given lengths. A call takes less than 100 kB of stack;
+ * hocsimbur_rows and hocsimbur_rows_at take less than 80 kB.
+ *
+ * Threads. There is no state: any number of calls may run at the same time on buffers of their own. */
 #ifndef HOCSIMBUR_H
 #define HOCSIMBUR_H
+
+#if !defined(__x86_64__) || !defined(__linux__)
+#error "hocsimbur: the library is built for x86-64 Linux only"
+#endif
 
 #include <stddef.h>
 #include <stdint.h>
@@ -20,10 +55,16 @@
 extern "C" {
 #endif
 
-#define HOCSIMBUR_LINES 256        /* most value lines of a sheet */
-#define HOCSIMBUR_SHEET_BYTES 65536 /* most bytes of a sheet */
-#define HOCSIMBUR_NUMBERS 20       /* numbers of a row */
-#define HOCSIMBUR_ROW_BYTES 160    /* bytes of a row: 20 numbers of eight */
+#define HOCSIMBUR_VERSION 10000      /* 10000, 100 and 1 times the three numbers of the version: 1.0.0 */
+#define HOCSIMBUR_LINES 256          /* most value lines of a sheet */
+#define HOCSIMBUR_SHEET_BYTES 65536  /* most bytes of a sheet */
+#define HOCSIMBUR_NUMBERS 20         /* numbers of a row */
+#define HOCSIMBUR_ROW_BYTES 160      /* bytes of a row: 20 numbers of eight */
+#define HOCSIMBUR_STATION_NUMBERS 6  /* numbers of a station in the summary */
+#define HOCSIMBUR_PAIR_NUMBERS 8     /* numbers of a pair of a licence */
+#define HOCSIMBUR_SOIL_NUMBERS 7     /* numbers of a soil report */
+#define HOCSIMBUR_SPLIT_NUMBERS 3    /* numbers of a staged test's answer */
+#define HOCSIMBUR_FEWEST_NUMBERS 3   /* numbers of a search for the fewest lines */
 
 /* The numbers of a row, by place. A pair is a lower and an upper end that enclose the exact value. */
 enum hocsimbur_number {
@@ -56,32 +97,109 @@ enum hocsimbur_verdict {
     HOCSIMBUR_UNDECIDED = 3
 };
 
-/* The rows of a sheet of sheet_bytes bytes.
- *
- * Answers the count of rows, 1 to 256. Row i stands at buffer + HOCSIMBUR_ROW_BYTES * i, each number as eight bytes, little-endian, two's
- * complement; bytes past the last row keep what they held. Or answers a refusal's number made negative, and the buffer is as it was:
- *   -1 sheet empty, over 65,536 bytes, or last byte not a line feed
- *   -2 a name unknown, repeated or missing
- *   -3 a value of a wrong form, missing, or one too many
- *   -4 no value line, or more than 256
- *   -5 a value out of its range
- *   -6 layer and thick disagree, or rods, rodlen and place
- *   -7 station and season of an earlier line
- *   -8 the buffer has fewer than 160 bytes a value line
- * The order is 1, 2, 4; then line by line 3, 5, 6, 7; then 8. */
+/* The column metal. */
+enum hocsimbur_metal {
+    HOCSIMBUR_COPPER_SOFT_DRAWN = 1,
+    HOCSIMBUR_COPPER_HARD_DRAWN = 2,
+    HOCSIMBUR_COPPER_HARD_DRAWN_250_C = 3, /* kept to 250 degrees Celsius */
+    HOCSIMBUR_COPPER_CLAD_WIRE_40 = 4,     /* per cent */
+    HOCSIMBUR_COPPER_CLAD_WIRE_30 = 5,
+    HOCSIMBUR_COPPER_CLAD_ROD = 6,
+    HOCSIMBUR_ALUMINUM_CLAD_WIRE = 7,
+    HOCSIMBUR_STEEL_1020 = 8,
+    HOCSIMBUR_STAINLESS_CLAD_ROD = 9,
+    HOCSIMBUR_ZINC_COATED_ROD = 10,
+    HOCSIMBUR_STAINLESS_304 = 11
+};
+
+/* Refusals; an entry answers their numbers made negative. The order of a sheet's is 1, 2, 4; then line by line 3, 5, 6, 7; then the
+ * others. */
+enum hocsimbur_refusal {
+    HOCSIMBUR_REFUSED_TEXT = 1,          /* sheet empty, over 65,536 bytes, or last byte not 10 */
+    HOCSIMBUR_REFUSED_NAME = 2,          /* a name unknown, repeated or missing */
+    HOCSIMBUR_REFUSED_FORM = 3,          /* a value of a wrong form, missing, or one too many */
+    HOCSIMBUR_REFUSED_LINES = 4,         /* no value line, or more than 256 */
+    HOCSIMBUR_REFUSED_RANGE = 5,         /* a value out of its range */
+    HOCSIMBUR_REFUSED_PARTS = 6,         /* layer and thick disagree, or rods, rodlen and place */
+    HOCSIMBUR_REFUSED_REPEATED = 7,      /* station and season of an earlier line */
+    HOCSIMBUR_REFUSED_SHORT = 8,         /* buffer or array too short */
+    HOCSIMBUR_REFUSED_TIMES = 9,         /* carry_back: the three times of a line are not equal */
+    HOCSIMBUR_REFUSED_COUNTS = 10,       /* carry_back: across and along differ */
+    HOCSIMBUR_REFUSED_HERTZ = 11,        /* carry_back: hz is not 60 */
+    HOCSIMBUR_REFUSED_READINGS = 12,     /* soil: count of numbers 0, odd or above 128 */
+    HOCSIMBUR_REFUSED_DISTANCE = 13,     /* soil: a distance not in 500..50000 mm; the pair as line, column 1 */
+    HOCSIMBUR_REFUSED_RESISTANCE = 14,   /* soil: a resistance not in 1..1000000 milliohms; the pair as line, column 2 */
+    HOCSIMBUR_REFUSED_SIDE = 15,         /* fewest: a side not in 2500..720000 mm */
+    HOCSIMBUR_REFUSED_NO_RODLEN = 16,    /* fewest: rodlen is 0 */
+    HOCSIMBUR_REFUSED_TEST = 17,         /* split: count of numbers odd, below 4 or above 34 */
+    HOCSIMBUR_REFUSED_PART = 18,         /* split: a part not in -1000000..1000000 mA */
+    HOCSIMBUR_REFUSED_NO_CURRENT = 19,   /* split: both injected parts are 0 */
+    HOCSIMBUR_REFUSED_SUMMARY = 20,      /* summary: array of stations shorter than six numbers a station */
+    HOCSIMBUR_REFUSED_LICENCE = 21,      /* release: count of numbers 0, odd or above 512 */
+    HOCSIMBUR_REFUSED_PAIR = 22,         /* release: a wrong pair; its place as line, column 1 for its station, 2 for its seasons */
+    HOCSIMBUR_REFUSED_RELEASE = 23       /* release: array shorter than eight numbers a pair */
+};
+
+/* The version of the library, as HOCSIMBUR_VERSION is that of the header. */
+uint32_t hocsimbur_version(void);
+
+/* The rows of a sheet. Answers the count of rows, 1 to 256. Row i stands at buffer + HOCSIMBUR_ROW_BYTES * i, each number as eight bytes,
+ * little-endian, two's complement. Refusals 1 to 8. */
 int64_t hocsimbur_rows(const uint8_t *sheet, size_t sheet_bytes, uint8_t *buffer, size_t buffer_bytes);
 
-/* The same answer and the same rows; and where it is a refusal, its line and column, counted from 1, in place[0] and place[1] (0 where there is
- * none). A count of rows leaves the place as it was, and so does a place of fewer than two numbers; numbers past the second are never written. */
-int64_t hocsimbur_rows_at(const uint8_t *sheet, size_t sheet_bytes, uint8_t *buffer, size_t buffer_bytes, size_t *place, size_t place_numbers);
+/* The same, with a place. */
+int64_t hocsimbur_rows_at(const uint8_t *sheet, size_t sheet_bytes, uint8_t *buffer, size_t buffer_bytes, size_t *place,
+                          size_t place_numbers);
 
-/* The number at a place of a row of the buffer. */
+/* The rows of a sheet, 20 numbers a value line, and its stations by first appearance, 6 numbers each: station, lines, lines safe,
+ * unsafe and undecided, and the season of the line with the highest upper mesh end. Answers the count of stations. Refusals 1 to 8,
+ * then 20. */
+int64_t hocsimbur_summary(const uint8_t *sheet, size_t sheet_bytes, int64_t *rows, size_t rows_numbers, int64_t *stations,
+                          size_t stations_numbers, size_t *place, size_t place_numbers);
+
+/* Which stations of a licence may be released on a sheet. The licence is pairs of a station and its seasons, in which seasons 1 to
+ * 4 count 1, 2, 4 and 8. Eight numbers a pair: station; 1 released, 2 held; licensed seasons without a line; lines unsafe; lines
+ * undecided; lines of another yard than the station's first; lines whose conductor is too small; the greatest fault current in A at
+ * which every line is safe, or 0. Answers the count of pairs. Refusals 1 to 7, then 21, 22, 23. */
+int64_t hocsimbur_release(const uint8_t *sheet, size_t sheet_bytes, const uint32_t *licence, size_t licence_numbers, int64_t *table,
+                          size_t table_numbers, size_t *place, size_t place_numbers);
+
+/* The fewest lines each way, then rods, with which a square yard of a side in mm is safe, all else as in the one value line of a
+ * sheet. Answers 1 and three numbers, the lines, the rods and how many yards were tried; or 0 and 0, 0 and how many were tried,
+ * none of them safe. The line passes all checks of a sheet first, so that it has some rods for their length to be read. Refusals 1
+ * to 7, and 4 at line 3 where there are more value lines; then 15, 16, 8. */
+int64_t hocsimbur_fewest(const uint8_t *sheet, size_t sheet_bytes, uint32_t side, int64_t *numbers, size_t numbers_numbers, size_t *place,
+                         size_t place_numbers);
+
+/* A sheet of the former 18 names, with ms and lines, as one of the 22 names above. Answers the count of bytes, at most
+ * HOCSIMBUR_SHEET_BYTES. Refusals 1 to 8. */
+int64_t hocsimbur_carry(const uint8_t *sheet, size_t sheet_bytes, uint8_t *buffer, size_t buffer_bytes, size_t *place,
+                        size_t place_numbers);
+
+/* A sheet of the 22 names as one of the former 18. Refusals 1 to 7, then line by line 9, 10, 11, then 8. */
+int64_t hocsimbur_carry_back(const uint8_t *sheet, size_t sheet_bytes, uint8_t *buffer, size_t buffer_bytes, size_t *place,
+                             size_t place_numbers);
+
+/* The soil from four-pin readings: a distance in mm and a resistance in milliohms in turn. Answers 7, the count of numbers: lower
+ * and upper end of the least, the greatest and the mean apparent resistivity in micro-ohm metres, and the value for the column
+ * soil. Refusals 12, 13, 14, then 8. */
+int64_t hocsimbur_soil(const uint32_t *readings, size_t readings_numbers, int64_t *numbers, size_t numbers_numbers, size_t *place,
+                       size_t place_numbers);
+
+/* The split from a staged test: in-phase and quadrature part in milliamperes of the injected current, then of 1 to 16 branches.
+ * Answers 3, the count of numbers: the grid's in-phase and quadrature part in milliamperes, and the split in per mille. Refusals
+ * 17, 18, 19, then 8. */
+int64_t hocsimbur_split(const int64_t *parts, size_t parts_numbers, int64_t *numbers, size_t numbers_numbers, size_t *place,
+                        size_t place_numbers);
+
+/* The number at a place of a row of the buffer that hocsimbur_rows filled. */
 static inline int64_t hocsimbur_read(const uint8_t *buffer, size_t row, enum hocsimbur_number number) {
     const uint8_t *at = buffer + HOCSIMBUR_ROW_BYTES * row + 8 * (size_t)number;
     uint64_t word = 0;
-    for (int i = 7; i >= 0; i--)
+    int i;
+    for (i = 7; i >= 0; i--)
         word = word << 8 | at[i];
-    return word <= INT64_MAX ? (int64_t)word : -(int64_t)(UINT64_MAX - word) - 1;
+    return word >> 63 == 0 ? (int64_t)word : -(int64_t)~word - 1;
 }
 
 #ifdef __cplusplus

@@ -7,8 +7,11 @@ import unittest
 from pathlib import Path
 
 import calculator as calc
-import sheets
+import entries
 import host
+import release
+import sheets
+import summary
 from calculator import Refusal
 
 ROOT = Path(__file__).parents[1]
@@ -161,32 +164,59 @@ class Panel(unittest.TestCase):
 
 
 class Header(unittest.TestCase):
-    """include/hocsimbur.h says what the crate has: entries, limits, and the places of a row's numbers."""
+    """include/hocsimbur.h says what the crates have: entries, limits, version, refusals, and the places of a row's numbers."""
 
     text = (ROOT / "include/hocsimbur.h").read_text("ascii")
-    source = (ROOT / "crates/panel/src/lib.rt").read_text("utf-8")
-    forms = {"&[u8]": ["const uint8_t *", "size_t "], "&mut [u8]": ["uint8_t *", "size_t "], "&mut [usize]": ["size_t *", "size_t "]}
+    source = "".join((ROOT / f"crates/{crate}/src/lib.rt").read_text("utf-8") for crate in ("c_entry", "c_questions"))
+    forms = {
+        "&[u8]": ["const uint8_t *", "size_t "], "&[u32]": ["const uint32_t *", "size_t "], "&[i64]": ["const int64_t *", "size_t "],
+        "&mut [u8]": ["uint8_t *", "size_t "], "&mut [i64]": ["int64_t *", "size_t "], "&mut [usize]": ["size_t *", "size_t "],
+        "u32": ["uint32_t "]}
+    answers = {"i64": "int64_t", "u32": "uint32_t"}
 
     def test_entries(self):
-        exported = {
-            name: [form for field in fields.split(", ") for form in self.forms[field.split(": ")[1]]]
-            for name, fields in re.findall(r'extern "C" fn (\w+)\(([^)]*)\) -> i64', self.source)}
-        declared = {
-            name: [re.fullmatch(r"(.*[ *])\w+", field)[1] for field in fields.split(", ")]
-            for name, fields in re.findall(r"^int64_t (\w+)\(([^)]*)\);", self.text, re.M)}
+        exported = {}
+        for name, fields, answer in re.findall(r'extern "C" fn (\w+)(?:<\'a>)?\(([^)]*)\) -> (\w+)', self.source):
+            kinds = re.findall(r"\w+: ([^,]+)", fields.replace("'a ", ""))
+            exported[name] = self.answers[answer], [form for kind in kinds for form in self.forms[kind]]
+        declared = {}
+        for answer, name, fields in re.findall(r"^(u?int\d+_t) (\w+)\(([^)]*)\);", self.text, re.M):
+            fields = [] if fields == "void" else re.split(r",\s+", fields)
+            declared[name] = answer, [re.fullmatch(r"(.*[ *])\w+", field)[1] for field in fields]
         self.assertEqual(self.source.count('extern "C"'), len(exported))
         self.assertEqual(exported, declared)
-        self.assertEqual(set(exported), {"hocsimbur_rows", "hocsimbur_rows_at"})
+        self.assertEqual(sorted(exported), (ROOT / "host/symbols.txt").read_text("ascii").split())
+        manual = (ROOT / "host/hocsimbur.3").read_text("ascii")
+        for name in exported:
+            self.assertIn(f"{name}(", manual)
 
     def test_limits(self):
         said = dict(re.findall(r"#define HOCSIMBUR_(\w+) +(\d+)", self.text))
-        wanted = {"LINES": calc.MAX_VALUE_LINES, "SHEET_BYTES": calc.MAX_BYTES, "NUMBERS": calc.ROW_LENGTH, "ROW_BYTES": host.LINE_BYTES}
+        wanted = {"VERSION": entries.VERSION, "LINES": calc.MAX_VALUE_LINES, "SHEET_BYTES": calc.MAX_BYTES, "NUMBERS": calc.ROW_LENGTH,
+                  "ROW_BYTES": host.LINE_BYTES, "STATION_NUMBERS": summary.STATION_LENGTH, "PAIR_NUMBERS": release.PAIR_LENGTH,
+                  "SOIL_NUMBERS": 7, "SPLIT_NUMBERS": 3, "FEWEST_NUMBERS": 3}
         self.assertEqual({name: int(number) for name, number in said.items()}, wanted)
+        self.assertEqual(re.search(r"VERSION: u32 = (\d+)", self.source)[1], said["VERSION"])
+        self.assertIn('"hocsimbur 1.0.0"', (ROOT / "host/hocsimbur.3").read_text("ascii"))
 
     def test_stack(self):
-        said = re.search(r"less than (\d+) kB of stack", self.text)[1]
-        held = re.search(r"MOST_STACK = (\d+)", (ROOT / "host/stack.c").read_text("ascii"))[1]
-        self.assertEqual(1000 * int(said), int(held))
+        said = re.findall(r"less than (\d+) kB", self.text)
+        held = re.findall(r"MOST_(?:OTHER_)?STACK = (\d+)", (ROOT / "host/stack.c").read_text("ascii"))
+        self.assertEqual(sorted(1000 * int(number) for number in said), sorted(map(int, held)))
+
+    def test_refusals(self):
+        numbers = [int(number) for number in re.findall(r"HOCSIMBUR_REFUSED_\w+ = (\d+)", self.text)]
+        self.assertEqual(numbers, list(range(1, 24)))
+
+    def test_sheet(self):
+        """Names and ranges stand in the header as the calculator has them."""
+        lines = dict(re.findall(r"^ \*   (\w+) .*?((?:0 or )?\d+(?:\.\.\d+| or \d+))$", self.text, re.M))
+        self.assertEqual(list(lines), [name for name in calc.NAMES if name != "place"])
+        for name, said in lines.items():
+            numbers = list(map(int, re.findall(r"\d+", said)))
+            column = calc.RANGES[calc.NAMES.index(name)]
+            for number in numbers:
+                self.assertTrue(any(number in (part[0], part[-1]) for part in column), (name, said, column))
 
     def test_places(self):
         listed = re.search(r"enum hocsimbur_number \{(.*?)\}", self.text, re.S)[1]

@@ -6,7 +6,7 @@ use Rattle.text.specs.Text.{same}
 use Rattle.case.specs.declared.Finding.{Finding}
 use Rattle.case.specs.declared.Finding.the-variants.{Sound, OutOfRange, Disagreement}
 use Rattle.case.specs.Columns.{columns, inRange, nameIndex, named}
-use Rattle.case.specs.Case.{values, caseOf}
+use Rattle.case.specs.Case.{caseOf}
 use Rattle.case.specs.Check.{leftOf, outOfRange, agree, disagreement, finding, caseFinding, countFrom, ownPlaces, recordFinding}
 
 -- the finding of the record of some values

@@ -100,7 +100,8 @@ into Present s text i e =
       along = rw e;
       hz = rw e;
       others = rw e
-          (refl then refl then refl then refl then refl then refl then refl then refl then refl then refl then refl then refl then refl then refl
+          (refl then refl then refl then refl then refl then refl then refl then refl then refl then refl then refl then refl then refl then
+          refl
           then refl then refl then tt);
     }
 into Former s text i e =
@@ -108,7 +109,8 @@ into Former s text i e =
       ms = rw e;
       lines = rw e;
       others = rw e
-          (refl then refl then refl then refl then refl then refl then refl then refl then refl then refl then refl then refl then refl then refl
+          (refl then refl then refl then refl then refl then refl then refl then refl then refl then refl then refl then refl then refl then
+          refl
           then refl then refl then tt);
     }
 
@@ -176,7 +178,8 @@ not-back : Present ≡ Former → ⊥
 not-back e = clash cc
 
 way : (form : Form) {s before after : List ℕ} {n : ℕ} → AcceptedIn (other form) s n
-    → after ≡ bufferAfter form s before (refusedOr (changes form (casesIn (formOf (other form)) s)) (roomAnswer (carriedText form s) (length before)))
+    → after
+    ≡ bufferAfter form s before (refusedOr (changes form (casesIn (formOf (other form)) s)) (roomAnswer (carriedText form s) (length before)))
     → CarryOutcome form s before after (refusedOr (changes form (casesIn (formOf (other form)) s)) (roomAnswer (carriedText form s) (length before)))
 unfolding changes refusedOr formOf other
 way Present a b = roomed (record { accepted = a; returns = λ e. absurd (not-back e) }) b
@@ -219,7 +222,8 @@ module _ {form : Form} {s before after : List ℕ} {k : ℕ} (h : Answered form 
   unfolding answer
   source = passed (judgement (formOf (other form)) s) _ (h .answer-is)
 
-  changed-none : (n : ℕ) × (changes form (casesIn (formOf (other form)) s) ≡ judged.Lines n) × (Bytes k ≡ roomAnswer (carriedText form s) (length before))
+  changed-none : (n : ℕ) × (changes form (casesIn (formOf (other form)) s) ≡ judged.Lines n)
+      × (Bytes k ≡ roomAnswer (carriedText form s) (length before))
   changed-none = passed (changes form (casesIn (formOf (other form)) s)) _ (source .2)
 
   -- the way back of the text is answered by its room alone

@@ -75,7 +75,8 @@ module _ {s before after : List ℕ} {r : ℕ} where
       let k : n ≡ length (cases s) = cases-count s n e in
       rows n (map line (sheetRows s)) room e (length-map (sheetRows s) line ∙ length-map (cases s) rowOf ∙ sym k)
       (λ i h. line-at s i (omega arith))
-      (at-start _ q w (ap (λ (ls : List (List ℕ)). textOf (parted verdictNames ∷ ls)) (lines-of (sheetRows s)) ∙ ap (λ (l : List ℕ). textOf (l ∷ map line (sheetRows s))) names-line))
+      (at-start _ q w (ap (λ (ls : List (List ℕ)). textOf (parted verdictNames ∷ ls)) (lines-of (sheetRows s))
+      ∙ ap (λ (l : List ℕ). textOf (l ∷ map line (sheetRows s))) names-line))
   shown room (Refused number line column) e q w = refused number line column room e (at-start _ q w (refusal-line number line column))
 
   pub verdict-outcome : Told textRoom (programText Verdict s) before after r → VerdictOutcome s before after r

@@ -259,7 +259,8 @@ module _ {s licence : List ℕ} {before after : List ℤ} where
   numbered {n} {r} b h e = go (badCount (length licence)) refl e
     where
       go : (t : Bool) → badCount (length licence) ≡ t
-          → r ≡ cond t (Refused 21 0 0) (afterPairs (roomAnswer (length before) (length (pairsOf licence))) (firstWrong [] 1 (pairsOf licence)))
+          → r
+          ≡ cond t (Refused 21 0 0) (afterPairs (roomAnswer (length before) (length (pairsOf licence))) (firstWrong [] 1 (pairsOf licence)))
           → ReleaseOutcome s licence before after r
       go true q e = rw e (claim.count b (not-in-pairs licence q) (kept e h))
       go false q e = paired b (in-pairs licence q) h _ (searched licence) e

@@ -140,7 +140,8 @@ module _ (s : List ℤ) where
     pub in-phase-whole : total (branches (inPhase s)) +ℤ inPhasePart ≡ injected (inPhase s)
     pub quadrature-whole : total (branches (quadrature s)) +ℤ quadraturePart ≡ injected (quadrature s)
     -- "the smallest whole per mille whose square times the injected square is not below a million times the grid's square"
-    pub enough : 1000000 * squareOf inPhasePart quadraturePart ≤ perMille * perMille * squareOf (injected (inPhase s)) (injected (quadrature s))
+    pub enough : 1000000 * squareOf inPhasePart quadraturePart
+        ≤ perMille * perMille * squareOf (injected (inPhase s)) (injected (quadrature s))
     pub smallest : (m : ℕ) → m < perMille
         → m * m * squareOf (injected (inPhase s)) (injected (quadrature s)) < 1000000 * squareOf inPhasePart quadraturePart
 

@@ -151,7 +151,9 @@ carried-sound Present v s =
     let at = in-range-at formerColumns v (s .count) (s .ranges) in
     record {
       count = refl;
-      ranges = picked-in-range formerColumns v at (take 21 columns) (drop 21 columns) (placesIn Present) (60 ∷ []) refl (tt, tt);
+      ranges =
+          picked-in-range formerColumns v at (take 21 columns) (drop 21 columns) (placesIn Present) (drop 21 (carried Present v)) refl
+          (tt, tt);
       agrees = s .agrees;
     }
 carried-sound Former v s =

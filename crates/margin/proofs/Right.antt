@@ -44,7 +44,8 @@ module _ {c : Case} (b : Bounds c) where
   step = marginOf (step-voltages b)
 
   -- the ends that are compared
-  row-compared : marginsOf (numbers (rowOf c)) ≡ fourMargins (meshEnds c .upper) (touchEnds c .lower) (stepVoltageEnds c .upper) (stepEnds c .lower)
+  row-compared : marginsOf (numbers (rowOf c))
+      ≡ fourMargins (meshEnds c .upper) (touchEnds c .lower) (stepVoltageEnds c .upper) (stepEnds c .lower)
   unfolding marginsOf numbers rowOf
   row-compared = refl
 

@@ -8,7 +8,8 @@ use Rattle.margin.specs.Margin.{margin, inRange, comparable, fourMargins
 
 -- document 01's sample, seasons 1 and 2: 22.3 percent above and 68.2 below; then at the limit, one mV above it, one below, nothing, twice
 -- as much
-pub worked : margin 1027841 840547 ∷ margin 256960 809960 ∷ margin 840547 840547 ∷ margin 840548 840547 ∷ margin 840546 840547 ∷ margin 0 840547 ∷ margin 2000 1000 ∷ []
+pub worked : margin 1027841 840547 ∷ margin 256960 809960 ∷ margin 840547 840547 ∷ margin 840548 840547 ∷ margin 840546 840547
+    ∷ margin 0 840547 ∷ margin 2000 1000 ∷ []
     ≡ pos 223 ∷ negsuc 681 ∷ pos 0 ∷ pos 1 ∷ pos 0 ∷ negsuc 999 ∷ pos 1000 ∷ []
 unfolding margin ceilDiv
 worked = refl
@@ -21,7 +22,8 @@ sample =
     ∷ []
 
 -- its margins; none of numbers that are not twenty, of a tolerable voltage of 0, of a voltage below 0
-pub of-a-row : marginsOf sample ∷ marginsOf (pos 7 ∷ sample) ∷ fourMargins (pos 1) (pos 0) (pos 1) (pos 1) ∷ fourMargins (pos 1) (pos 1) (negsuc 0) (pos 1) ∷ []
+pub of-a-row : marginsOf sample ∷ marginsOf (pos 7 ∷ sample) ∷ fourMargins (pos 1) (pos 0) (pos 1) (pos 1)
+    ∷ fourMargins (pos 1) (pos 1) (negsuc 0) (pos 1) ∷ []
     ≡ Margins (pos 223) (negsuc 766) ∷ None ∷ None ∷ None ∷ []
 unfolding marginsOf fourMargins comparable inRange margin ceilDiv
 of-a-row = refl

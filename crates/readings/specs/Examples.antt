@@ -56,7 +56,8 @@ unfolding width fractions
 width-is = record { to = record { le = lit≤ tt }; fro = record { le = lit≤ tt } }
 
 -- 39.793508 Ω·m is 40 Ω·m, 40 Ω·m is itself
-soils : soilOf (natural 39793506 39793508) ∷ soilOf (natural 39999999 40000000) ∷ soilOf (natural 40000000 40000001) ∷ [] ≡ 40 ∷ 40 ∷ 41 ∷ []
+soils : soilOf (natural 39793506 39793508) ∷ soilOf (natural 39999999 40000000) ∷ soilOf (natural 40000000 40000001) ∷ [] ≡ 40 ∷ 40 ∷ 41
+    ∷ []
 unfolding soilOf ceilDiv μΩm ten natural
 soils = refl
 

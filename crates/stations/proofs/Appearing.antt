@@ -108,7 +108,8 @@ module _ {table : List ℤ} {n i : ℕ} {known : List ℤ} {places : List ℕ} {
       l : p < count
       l = ⊎-elim (λ e. absurd (other e)) (λ g. g) (eq-or-lt-of-le (q .most))
 
-      skipped : byAppearance (take count known) (stationColumn table i (n - i)) ≡ byAppearance (take count known) (stationColumn table (suc i) (n - suc i))
+      skipped : byAppearance (take count known) (stationColumn table i (n - i))
+          ≡ byAppearance (take count known) (stationColumn table (suc i) (n - suc i))
       skipped =
           ap (byAppearance (take count known)) next-row
           ∙ from-known (take count known) _ _ (placed-among (omega (arith, a .fewer, a .known-size)) q l)

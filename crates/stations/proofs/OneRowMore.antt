@@ -34,7 +34,8 @@ rows-more station [] r = go (sameZ station (r .station))
 rows-more station (x ∷ rows) r = go (sameZ station (x .station)) (sameZ station (r .station)) (rows-more station rows r)
   where
     go : {more : List Row} (a b : Bool) → more ≡ cond b (rowsOf station rows ++ (r ∷ [])) (rowsOf station rows)
-        → cond a (x ∷ more) more ≡ cond b (cond a (x ∷ rowsOf station rows) (rowsOf station rows) ++ (r ∷ [])) (cond a (x ∷ rowsOf station rows) (rowsOf station rows))
+        → cond a (x ∷ more) more ≡ cond b (cond a (x ∷ rowsOf station rows) (rowsOf station rows) ++ (r ∷ [])) (cond a (x
+        ∷ rowsOf station rows) (rowsOf station rows))
     go true true e = ap (λ (l : List Row). x ∷ l) e
     go true false e = ap (λ (l : List Row). x ∷ l) e
     go false true e = e

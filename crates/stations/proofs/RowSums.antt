@@ -74,7 +74,8 @@ module _ {table : List ℤ} {places : List ℕ} {n i : ℕ} {sums : List Sums} (
       }
     where
       go : (j : ℕ) → j < mostLines → (b : Bool) → eqb (getD places i 0) j ≡ b
-          → getD (set sums (getD places i 0) s) j none ≡ cond b (addTo (sumsAt table places j i) (entryAt table i)) (sumsAt table places j i)
+          → getD (set sums (getD places i 0) s) j none
+          ≡ cond b (addTo (sumsAt table places j i) (entryAt table i)) (sumsAt table places j i)
       go j l true q =
           let same : getD places i 0 ≡ j = eqb-true (getD places i 0) j q in
           rw (← same) (getD-set-same sums (getD places i 0) s none (omega (arith, a .size)) ∙ e

@@ -65,7 +65,8 @@ left stations sums count i = sixes stations sums i (count - i)
 pub record Putting (stations : List ℤ) (sums : List Sums) (count : ℕ) (before : List ℤ) (i : ℕ) (table : List ℤ) : Type 0 where
   pub most : i ≤ count
   pub size : length table ≡ length before
-  pub rest : filled (sixes stations sums 0 count) before ≡ take (stationLength * i) table ++ filled (left stations sums count i) (drop (stationLength * i) table)
+  pub rest : filled (sixes stations sums 0 count) before
+      ≡ take (stationLength * i) table ++ filled (left stations sums count i) (drop (stationLength * i) table)
 
 pub putting-start : (stations : List ℤ) (sums : List Sums) (count : ℕ) (t : List ℤ) → Putting stations sums count t 0 t
 putting-start stations sums count t =

@@ -58,7 +58,8 @@ seasons-more [] r rows = refl
 seasons-more (x ∷ l) r rows = go (sameZ x (r .station)) (seasons-more l r rows)
   where
     go : (b : Bool) → allSeasons l (r ∷ rows) ≡ times (r .station) l + allSeasons l rows
-        → length (cond b (r ∷ rowsOf x rows) (rowsOf x rows)) + allSeasons l (r ∷ rows) ≡ one b + times (r .station) l + (length (rowsOf x rows) + allSeasons l rows)
+        → length (cond b (r ∷ rowsOf x rows) (rowsOf x rows)) + allSeasons l (r ∷ rows)
+        ≡ one b + times (r .station) l + (length (rowsOf x rows) + allSeasons l rows)
     go true e = omega arith
     go false e = omega arith
 

@@ -66,7 +66,8 @@ grows share n m h e = trans≤ (mul≤ m (mono+ (refl≤ (whole 1000)) (mul-left
 
 module _ {c : Case} (b : Bounds c) where
   top-is : (weight : ℕ)
-      → topEnds c weight ≡ natural ((2000000 + layer-span b .a * weight) * bodyFactor c) ((2000000 + layer-span b .b * weight) * bodyFactor c)
+      → topEnds c weight
+      ≡ natural ((2000000 + layer-span b .a * weight) * bodyFactor c) ((2000000 + layer-span b .b * weight) * bodyFactor c)
   unfolding topEnds
   top-is weight =
       let s = layer-span b in

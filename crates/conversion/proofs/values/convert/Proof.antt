@@ -33,11 +33,13 @@ from-count : (c : tie.In-loop Inv-loop μ-loop) → c .before .before .name-coun
 from-count c = c .before .before .name-count2 .ensures ∙ ap (λ f. length (formOf f)) (c .before .before .before .other-form .ensures)
 
 read-room : (c : tie.In-loop Inv-loop μ-loop)
-    → c .before .before .name-count2 .result * c .before .loop .i + c .before .before .name-count2 .result ≤ length (start c .args .values .now)
+    → c .before .before .name-count2 .result * c .before .loop .i + c .before .before .name-count2 .result
+    ≤ length (start c .args .values .now)
 read-room c = part-room (start c .args .n) (c .before .loop .i) _ (from-count c) (start c .pre .0) (c .loop-test .taken)
 
 write-room : (c : tie.In-loop Inv-loop μ-loop)
-    → c .before .before .before .before .name-count .result * c .before .loop .i + c .before .before .before .before .name-count .result ≤ length (c .before .loop .carried)
+    → c .before .before .before .before .name-count .result * c .before .loop .i + c .before .before .before .before .name-count .result
+    ≤ length (c .before .loop .carried)
 write-room c =
     part-room (start c .args .n) (c .before .loop .i) _ (to-count c) (omega (arith, start c .pre .1, c .before .loop .inv .size))
     (c .loop-test .taken)

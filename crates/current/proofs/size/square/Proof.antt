@@ -25,7 +25,8 @@ unfolding middle
 middle-is c = rw (c .carried3 .ensures, c .before .part4 .ensures, c .before .before .part3 .ensures, low-is (c .before .before .before))
 
 high-is : (c : tie.After-carried4)
-    → let a = c .before .before .before .before .before .before .before .before .before .before .args in c .carried4 .result ≡ high (a .u) (a .v) (a .w) (a .ms)
+    → let a = c .before .before .before .before .before .before .before .before .before .before .args in c .carried4 .result
+    ≡ high (a .u) (a .v) (a .w) (a .ms)
 unfolding high
 high-is c = rw (c .carried4 .ensures, c .before .part6 .ensures, middle-is (c .before .before .before))
 

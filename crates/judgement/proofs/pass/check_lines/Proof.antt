@@ -70,7 +70,8 @@ turn c = c .before .before .before .before .before .before .before .before .befo
 
 -- its values are within the store
 within : (c : tie.After-enum-told Inv-loop μ-loop)
-    → length (start (turn c) .args .at .now) * turn c .before .loop .n + length (start (turn c) .args .at .now) ≤ length (c .before .before .before .before .before .store-line .last .1 .1 .1 .1 .1 .1 .0)
+    → length (start (turn c) .args .at .now) * turn c .before .loop .n + length (start (turn c) .args .at .now)
+    ≤ length (c .before .before .before .before .before .store-line .last .1 .1 .1 .1 .1 .1 .0)
 within c =
     let i = turn c in
     omega (

@@ -15,7 +15,8 @@ module _ (c : tie.After-struct-told) where
   numbers-held : let r = c .before .before .args .r in SFits w64 (r .station) × SFits w64 (r .season) × SFits w64 (r .size)
   numbers-held = search needs
 
-  first-held : let r = c .before .before .args .r in Held (r .current) × Held (r .factor) × Held (r .«tolerable_touch») × Held (r .«tolerable_step»)
+  first-held : let r = c .before .before .args .r in Held (r .current) × Held (r .factor) × Held (r .«tolerable_touch»)
+      × Held (r .«tolerable_step»)
   first-held = search needs
 
   last-held : let r = c .before .before .args .r in Held (r .mesh) × Held (r .step) × Held (r .resistance) × Held (r .rise)

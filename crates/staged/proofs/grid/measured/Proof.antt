@@ -27,7 +27,8 @@ grid-square c =
     rw (back (p .grid-part .result) (p .grid-part .ok), back (q .grid-part2 .result) (q .grid-part2 .ok)) at (c .square .ensures)
 
 injected-square : (c : tie.After-square2)
-    → let s = c .before .before .before .before .before .before .before .args .parts .now in c .square2 .result ≡ squareOf (getD s 0 (pos 0)) (getD s 1 (pos 0))
+    → let s = c .before .before .before .before .before .before .before .args .parts .now in c .square2 .result
+    ≡ squareOf (getD s 0 (pos 0)) (getD s 1 (pos 0))
 injected-square c =
     let a = c .before in
     let s = a .before .before .before .before .before .before .args .parts .now in

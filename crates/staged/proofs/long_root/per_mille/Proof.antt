@@ -22,7 +22,8 @@ two-digits : (c : tie.After-append2)
 two-digits c = omega (arith, c .append2 .ensures .more, one-digit (c .before))
 
 three-digits : (c : tie.After-append3)
-    → radicand (c .before .before .before .before .args .injected) (c .append3 .result) ≡ 1000000 * c .before .before .before .before .args .grid
+    → radicand (c .before .before .before .before .args .injected) (c .append3 .result)
+    ≡ 1000000 * c .before .before .before .before .args .grid
 three-digits c = omega (arith, c .append3 .ensures .more, two-digits (c .before))
 
 append-requires : tie.Need-append-requires

@@ -1,0 +1,59 @@
+-- The buffer after a sheet: one claim over every sheet, every buffer and every row. Document 02 (i): "The host hands over the sheet's bytes
+-- and a byte buffer; rows come back as eight-byte little-endian signed numbers. The answer is a signed number, the count of rows, or the
+-- refusal's number made negative with the buffer untouched; bytes past the last row keep what they held. A buffer short of 160 bytes a line
+-- is refused with 8."
+use Prim.Native.Nat.{ℕ, _/_}
+use mathlib.Core.Path.{_≡_}
+use mathlib.Core.List.{List, []}
+use lib.IntN.{ℤ}
+use lib.ListN.{length, getD}
+use Rattle.tables.specs.Parts.{partAt}
+use Rattle.tables.specs.Parts as parts
+use Rattle.case.specs.declared.Case.{Case}
+use Rattle.case.specs.Case.{caseOf}
+use Rattle.row.specs.Row.{numbers, rowLength}
+use Rattle.row.specs.Ends.{rowOf}
+use Rattle.sheet.specs.declared.Answer.{Answer}
+use Rattle.sheet.specs.declared.Answer.the-variants.{Rows, Refused}
+use Rattle.sheet.specs.Answer.{answer, cases}
+use Rattle.sheet.specs.Table.{RowOf}
+use Rattle.c_entry.specs.Bytes.{numberBytes, bytesOfAll, numbersOf}
+use Rattle.c_entry.specs.Answer.{signedAnswer}
+
+-- "160 bytes a line"
+abbrev pub rowBytes : ℕ
+rowBytes = 160
+
+-- the bytes of row i
+abbrev pub rowBytesAt : List ℕ → ℕ → List ℕ
+rowBytesAt buffer i = partAt rowBytes buffer i
+
+-- some bytes are the row of a case: those of its numbers; and what is read from them is the row of the case that the sheet's own question
+-- puts in its table, which is right
+pub record RowBytes (c : Case) (part : List ℕ) : Type 0 where
+  pub is : part ≡ bytesOfAll (numbers (rowOf c))
+  pub read : RowOf c (numbersOf rowLength part)
+
+-- every case has its own row, in order; "bytes past the last row keep what they held"
+abbrev pub Filled : List Case → List ℕ → List ℕ → Type 0
+Filled cs before after = parts.Filled rowBytes (λ i part. RowBytes (getD cs i (caseOf [])) part) (length cs) before after
+
+-- "with the buffer untouched"
+unfoldable pub BufferAfter : List ℕ → List ℕ → List ℕ → Answer → Type 0
+BufferAfter s before after (Rows count) = Filled (cases s) before after
+BufferAfter s before after (Refused number line column) = after ≡ before
+
+-- the answer of the sheet's own question for as many numbers as the buffer has room for
+unfoldable pub answerFor : List ℕ → List ℕ → Answer
+answerFor s buffer = answer s (length buffer / numberBytes)
+
+-- the answer to a sheet and what it leaves in the buffer
+pub record InBytes (s before after : List ℕ) (r : Answer) : Type 0 where
+  pub answer-is : r ≡ answerFor s before
+  pub buffer-is : BufferAfter s before after r
+
+-- the same with the answer as one number. Two wrong programs: one that writes the most significant byte first breaks `buffer-is`; one that
+-- answers the refusal's number as it is breaks `answer-is`.
+pub record Answered (s before after : List ℕ) (r : ℤ) : Type 0 where
+  pub answer-is : r ≡ signedAnswer (answerFor s before)
+  pub buffer-is : BufferAfter s before after (answerFor s before)

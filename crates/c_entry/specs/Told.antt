@@ -1,0 +1,13 @@
+-- An answer told to a program in C: one signed number, and a place of two numbers.
+use Prim.Native.Nat.{ℕ}
+use mathlib.Core.Path.{_≡_}
+use mathlib.Core.List.{List}
+use lib.IntN.{ℤ}
+use Rattle.sheet.specs.declared.Answer.{Answer}
+use Rattle.c_entry.specs.Answer.{signedAnswer}
+use Rattle.c_entry.specs.Place.{placeAfter}
+
+-- the count of 0 or more, or the refusal's number made negative, and where it points
+pub record Told (a : Answer) (place told : List ℕ) (r : ℤ) : Type 0 where
+  pub answer-is : r ≡ signedAnswer a
+  pub place-is : told ≡ placeAfter a place

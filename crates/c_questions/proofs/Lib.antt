@@ -1,0 +1,5 @@
+pub mod Counts
+pub mod Telling
+pub mod Replies
+pub mod SplitSize
+pub mod FewestLine

@@ -1,0 +1,45 @@
+-- The fewest lines for the one value line of a sheet and a side, as numbers in an array that the caller lends.
+use Prim.Native.Nat.{ℕ}
+use mathlib.Core.Path.{_≡_}
+use mathlib.Core.List.{List, [], _∷_}
+use lib.IntN.{ℤ, pos}
+use Rattle.case.specs.declared.Case.{Case}
+use Rattle.case.specs.Columns.{columns}
+use Rattle.judgement.specs.declared.Judgement.{Judgement}
+use Rattle.judgement.specs.declared.Judgement.the-variants as judged
+use Rattle.judgement.specs.Sheet.{judgement}
+use Rattle.sheet.specs.declared.Answer.{Answer}
+use Rattle.sheet.specs.Answer.{cases}
+use Rattle.yards.specs.declared.FewestLines.{FewestLines}
+use Rattle.yards.specs.declared.FewestLines.the-variants.{Found, None, Refused}
+use Rattle.yards.specs.Fewest.{FewestAnswered}
+use Rattle.c_entry.specs.Told.{Told}
+use Rattle.c_questions.specs.Reply as replies
+
+-- one case has the answer of its own question; of more the second is refused with 4, at line 3
+unfoldable pub CasesFewest : ℕ → List Case → FewestLines → Type 0
+CasesFewest side [] r = r ≡ Refused 4 3 0
+CasesFewest side (c ∷ []) r = FewestAnswered c side r
+CasesFewest side (c ∷ d ∷ cs) r = r ≡ Refused 4 3 0
+
+-- the sheet's own refusals come first
+unfoldable pub FewestBy : ℕ → List Case → Judgement → FewestLines → Type 0
+FewestBy side cs (judged.Refused number line column) r = r ≡ Refused number line column
+FewestBy side cs (judged.Lines count) r = CasesFewest side cs r
+
+unfoldable pub SheetFewest : List ℕ → ℕ → FewestLines → Type 0
+SheetFewest s side r = FewestBy side (cases s) (judgement columns s) r
+
+-- 1 with the lines each way, the rods and how many yards were tried; 0 with 0, 0 and how many were tried, none of them safe
+unfoldable pub fewestReply : FewestLines → replies.Reply
+fewestReply (Found lines rods tried) = replies.Numbers 1 (pos lines ∷ pos rods ∷ pos tried ∷ [])
+fewestReply (None tried) = replies.Numbers 0 (pos 0 ∷ pos 0 ∷ pos tried ∷ [])
+fewestReply (Refused number line column) = replies.Refused number line column
+
+-- Two wrong programs: one that puts the rods first breaks `numbers`; one that answers 1 where none is safe breaks `told`.
+pub record FewestTold (s : List ℕ) (side : ℕ) (before after : List ℤ) (place pointed : List ℕ) (r : ℤ) : Type 0 where
+  pub answer : FewestLines
+  pub count : Answer
+  pub asked : SheetFewest s side answer
+  pub numbers : replies.Replied (fewestReply answer) before after count
+  pub told : Told count place pointed r

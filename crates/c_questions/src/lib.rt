@@ -1,0 +1,110 @@
+// The questions beside a sheet's rows, asked by a program in C. One manner for all: the answer is a count of 0 or more, or a refusal's
+// number made
+// negative, with line and column in a lent place of two numbers and every other buffer as it was.
+mod operations;
+mod reply;
+mod search;
+
+use c_entry::tell;
+ghost use mathlib.Core.Path.{_≡_};
+ghost use Rattle.case.specs.declared.Form.the-variants.{Present, Former};
+ghost use Rattle.c_questions.specs.Operations.{SummaryTold, ReleaseTold, CarryTold};
+ghost use Rattle.c_questions.specs.OneLine.{FewestTold};
+ghost use Rattle.c_questions.specs.Reply.{SoilTold, SplitTold};
+use operations::byte_count;
+use operations::pair_count;
+use operations::station_count;
+use reply::put_fewest;
+use reply::put_soil;
+use reply::put_split;
+use search::search_sheet;
+
+// Ten thousand times the first number of the version, a hundred times the second, and the third: 1.0.0.
+const VERSION: u32 = 10000;
+
+// The count of stations. The rows and the summary of the stations are in their tables, as `summary` puts them.
+#[no_mangle]
+pub extern "C" fn hocsimbur_summary(
+    s: &[u8],
+    rows: &mut [i64],
+    beside: &mut [i64],
+    place: &mut [usize],
+) -> i64
+    ensures { λ r. ⌜ SummaryTold (now (s .entry)) (now (rows .entry)) (now (rows .exit)) (now (beside .entry)) (now (beside .exit)) (now (place .entry)) (now (place .exit)) r ⌝ }
+{
+    let answer = station_count(stations::summary(s, rows, beside));
+    tell(answer, place)
+}
+
+// The count of pairs of the licence, a station and its seasons in turn. Eight numbers a pair are in the table, as `release` puts them.
+#[no_mangle]
+pub extern "C" fn hocsimbur_release<'a>(
+    s: &'a [u8],
+    licence: &'a [u32],
+    table: &mut [i64],
+    place: &mut [usize],
+) -> i64
+    ensures { λ r. ⌜ ReleaseTold (now (s .entry)) (now (licence .entry)) (now (table .entry)) (now (table .exit)) (now (place .entry)) (now (place .exit)) r ⌝ }
+{
+    let answer = pair_count(release::release(s, licence, table));
+    tell(answer, place)
+}
+
+// The count of bytes of a sheet of document 01's own names that is carried over to today's.
+#[no_mangle]
+pub extern "C" fn hocsimbur_carry(s: &[u8], buffer: &mut [u8], place: &mut [usize]) -> i64
+    ensures { λ r. ⌜ CarryTold Present (now (s .entry)) (now (buffer .entry)) (now (buffer .exit)) (now (place .entry)) (now (place .exit)) r ⌝ }
+{
+    let answer = byte_count(conversion::carry(s, buffer));
+    tell(answer, place)
+}
+
+// The count of bytes of a sheet of today's names that is carried back to document 01's own.
+#[no_mangle]
+pub extern "C" fn hocsimbur_carry_back(s: &[u8], buffer: &mut [u8], place: &mut [usize]) -> i64
+    ensures { λ r. ⌜ CarryTold Former (now (s .entry)) (now (buffer .entry)) (now (buffer .exit)) (now (place .entry)) (now (place .exit)) r ⌝ }
+{
+    let answer = byte_count(conversion::carry_back(s, buffer));
+    tell(answer, place)
+}
+
+// The seven numbers of a soil report, from readings of a distance and a resistance in turn.
+#[no_mangle]
+pub extern "C" fn hocsimbur_soil(readings: &[u32], numbers: &mut [i64], place: &mut [usize]) -> i64
+    ensures { λ r. ⌜ SoilTold (now (readings .entry)) (now (numbers .entry)) (now (numbers .exit)) (now (place .entry)) (now (place .exit)) r ⌝ }
+{
+    let answer = put_soil(readings::soil(readings), numbers);
+    tell(answer, place)
+}
+
+// The grid current's two parts and the split, from the numbers of a staged test.
+#[no_mangle]
+pub extern "C" fn hocsimbur_split(parts: &[i64], numbers: &mut [i64], place: &mut [usize]) -> i64
+    ensures { λ r. ⌜ SplitTold (now (parts .entry)) (now (numbers .entry)) (now (numbers .exit)) (now (place .entry)) (now (place .exit)) r ⌝ }
+{
+    let answer = put_split(staged::split(parts), numbers);
+    tell(answer, place)
+}
+
+// The version of the library.
+#[no_mangle]
+pub extern "C" fn hocsimbur_version() -> u32
+    ensures { λ r. ⌜ r ≡ 10000 ⌝ }
+{
+    VERSION
+}
+
+// 1 with the fewest lines, then rods, with which a square yard of this side in mm is answered safe, all else as in the one value line
+// of a sheet; or 0.
+#[no_mangle]
+pub extern "C" fn hocsimbur_fewest(
+    s: &[u8],
+    side: u32,
+    numbers: &mut [i64],
+    place: &mut [usize],
+) -> i64
+    ensures { λ r. ⌜ FewestTold (now (s .entry)) side (now (numbers .entry)) (now (numbers .exit)) (now (place .entry)) (now (place .exit)) r ⌝ }
+{
+    let answer = put_fewest(search_sheet(s, side), numbers);
+    tell(answer, place)
+}

@@ -1,0 +1,24 @@
+#!/usr/bin/env bash
+# The folder of a release, for a customer without the Rattle kit: dist.sh FOLDER VERSION MANUAL PROGRAM..
+set -euo pipefail
+cd "$(dirname "$0")/.."
+folder=$1 version=$2 manual=$3
+shift 3
+shared=libhocsimbur.so.$version
+mkdir -p "$folder"/{include,lib,man/man3,bin,examples/panel}
+install -m 644 include/hocsimbur.h "$folder/include/"
+install -m 644 target/host/libhocsimbur.a "$folder/lib/"
+install -m 755 "target/host/$shared" "$folder/lib/"
+install -m 644 host/hocsimbur.pc.in host/hocsimbur-static.pc.in "$folder/lib/"
+install -m 644 host/hocsimbur.3 "$folder/man/man3/"
+install -m 644 "$manual" "$folder/manual.md"
+install -m 644 examples/*.csv examples/panel.c "$folder/examples/"
+install -m 644 tests/sample.csv "$folder/examples/"
+install -m 644 examples/panel/sample.out examples/panel/refused.csv examples/panel/refused.out "$folder/examples/panel/"
+for program in "$@"; do
+    install -m 755 "target/bin/$program" "$folder/bin/"
+done
+sed "/^VERSION = /s|@VERSION@|$version|" host/dist.mk >"$folder/Makefile"
+# what the program of verdicts prints of the sample, for the release's own check
+target/bin/verdict <tests/sample.csv >"$folder/examples/sample.verdicts"
+(cd "$folder" && find . -type f ! -name SHA256SUMS | sort | xargs sha256sum >SHA256SUMS)

@@ -1,0 +1,196 @@
+"""Asks the entries of the shared library by ctypes and compares each answer with the separate calculators.
+
+    python3 tests/entries.py [--library target/host/libhocsimbur.so] [--count N]
+
+Every list, test, sheet and licence that is stored for an operation's own program is asked, of the sheets the first
+N. Any disagreement is printed, and the exit status is then 1. `make libraries` builds the library.
+"""
+
+import argparse
+import ctypes
+import random
+import sys
+
+import calculator as calc
+import carry
+import fewest
+import readings
+import release
+import sheets
+import staged
+import summary
+from calculator import Refusal
+
+LIBRARY = "target/host/libhocsimbur.so"
+VERSION = 10000
+FILL = -7777  # what stands in an array beforehand
+SPARE = 5  # numbers of an array past those that are needed
+DEPTHS = (8, 12)
+SEED = 11
+
+KINDS = {"u8": ctypes.c_uint8, "u32": ctypes.c_uint32, "i64": ctypes.c_int64, "usize": ctypes.c_size_t}
+
+
+class Library:
+    """The entries, each with its arrays in order: what is read, then what is written, then the place."""
+
+    def __init__(self, path):
+        self.loaded = ctypes.CDLL(path)
+        self.loaded.hocsimbur_version.restype = ctypes.c_uint32
+
+    def version(self):
+        return self.loaded.hocsimbur_version()
+
+    def ask(self, name, read, written):
+        """The answer, a count or a refusal, and the arrays written. An array is its kind and its numbers, an empty one is handed over as null; a
+        number alone stands for itself."""
+        held = [number if kind == "one" else (KINDS[kind] * len(number))(*number) for kind, number in [*read, *written]]
+        place = (ctypes.c_size_t * 2)(9999, 9999)
+        words = []
+        for array in [*held, place]:
+            if isinstance(array, int):
+                words.append(ctypes.c_uint32(array))
+            else:
+                words += [ctypes.cast(array, ctypes.c_void_p) if len(array) else None, ctypes.c_size_t(len(array))]
+        entry = getattr(self.loaded, "hocsimbur_" + name)
+        entry.restype = ctypes.c_int64
+        answer = entry(*words)
+        after = [list(array) for array in held[len(read):]]
+        if answer >= 0:
+            return (answer, after) if list(place) == [9999, 9999] else ("a place with a count", after)
+        return Refusal(-answer, *place), after
+
+
+def filled(numbers, length):
+    return [*numbers, *[FILL] * (length - len(numbers))]
+
+
+def with_numbers(library, name, kind, asked, count):
+    """The answer of an entry that reports some numbers: a refusal or those numbers; with an array too short it must be 8, and untouched."""
+    answer, (after,) = library.ask(name, [(kind, asked)], [("i64", [FILL] * (count + SPARE))])
+    short, (kept,) = library.ask(name, [(kind, asked)], [("i64", [FILL] * (count - 1))])
+    wanted = answer if isinstance(answer, Refusal) else Refusal(8, 0, 0)
+    wrong = [] if (short, kept) == (wanted, [FILL] * (count - 1)) else [f"{short} in a short array, not {wanted}"]
+    if isinstance(answer, Refusal):
+        return answer, wrong + ([] if after == [FILL] * len(after) else ["a refusal that writes"])
+    wrong += [] if answer == count and after[count:] == [FILL] * SPARE else [f"answer {answer} and {after}"]
+    return after[:count], wrong
+
+
+def soil(library):
+    for line in readings.lines():
+        try:
+            numbers = [int(field) for field in line.split(",")]
+        except ValueError:
+            continue
+        if max(numbers) <= readings.MOST_NUMBER:
+            answer, wrong = with_numbers(library, "soil", "u32", numbers, 7)
+            given = answer if isinstance(answer, Refusal) else tuple(answer)
+            yield line, wrong + readings.judge(numbers, given, DEPTHS)
+
+
+def split(library):
+    for line in staged.all_lines():
+        try:
+            numbers = [int(field) for field in line.split(",")]
+        except ValueError:
+            continue
+        if max(map(abs, numbers)) < 2**63:
+            answer, wrong = with_numbers(library, "split", "i64", numbers, 3)
+            yield line, wrong + staged.judge(tuple(numbers), answer)
+
+
+def rows_of(library, sheet, count):
+    """The rows of a sound sheet by the entry that `tests/host.py` judges."""
+    _, (after,) = library.ask("rows_at", [("u8", sheet)], [("u8", bytes(160 * count))])
+    numbers = [int.from_bytes(bytes(after[i:i + 8]), "little", signed=True) for i in range(0, len(after), 8)]
+    return [numbers[i:i + calc.ROW_LENGTH] for i in range(0, len(numbers), calc.ROW_LENGTH)]
+
+
+def summaries(library):
+    for sheet, rows_room, room in summary.blocks():
+        wanted = summary.answer(sheet, rows_room, room)
+        answer, (rows, beside) = library.ask("summary", [("u8", sheet)], [("i64", [FILL] * rows_room), ("i64", [FILL] * room)])
+        if isinstance(wanted, Refusal):
+            right = (wanted, [FILL] * rows_room, [FILL] * room)
+        else:
+            worked = rows_of(library, sheet, len(wanted))
+            stations = summary.summary_of(worked)
+            right = (len(stations), filled(sum(worked, []), rows_room), filled(sum(map(list, stations), []), room))
+        yield f"{sheet!r}", [] if (answer, rows, beside) == right else [f"{answer}, not {right[0]}, or other numbers"]
+
+
+def released(licence, cases, rows, numbers):
+    """Whether the numbers of each pair are right, the fault current aside: test_release.py judges that of the operation."""
+    wanted = [list(pair) for pair in release.release_of(licence, cases, rows)]
+    pairs = [numbers[i:i + 8] for i in range(0, len(numbers), 8)]
+    return [pair[:7] for pair in pairs] == [pair[:7] for pair in wanted]
+
+
+def releases(library):
+    for sheet, licence, room in release.blocks():
+        wanted = release.answer(sheet, licence, room)
+        answer, (table,) = library.ask("release", [("u8", sheet), ("u32", licence)], [("i64", [FILL] * room)])
+        if isinstance(wanted, Refusal):
+            right = answer == wanted and table == [FILL] * room
+        else:
+            count = len(licence) // 2
+            rows = rows_of(library, sheet, len(wanted))
+            right = answer == count and table[8 * count:] == [FILL] * (room - 8 * count) and released(licence, wanted, rows, table[:8 * count])
+        yield f"{licence} {sheet!r}", [] if right else [f"{answer}, not {wanted if isinstance(wanted, Refusal) else 'its numbers'}"]
+
+
+def searches(library):
+    """Yards whose answer every right program gives, each as a sheet of one line, or of two, which is refused with 4."""
+    for case, side in [*fewest.stored(8), (fewest.stored(1)[0][0], 2499)]:
+        case = case._replace(across=5, along=5, space=5000, rods=4, place=1)
+        some = [sheets.sheet_of([case]), sheets.sheet_of([case, case._replace(season=case.season % 4 + 1)])]
+        told = fewest.answer(case, side, fewest.sure)
+        right = told if isinstance(told, Refusal) else (1, [*told[1:]]) if told[0] == "found" else (0, [0, 0, told[1]])
+        for sheet, wanted in zip(some, (right, Refusal(4, 3, 0))):
+            answer, (numbers,) = library.ask("fewest", [("u8", sheet), ("one", side)], [("i64", [FILL] * 4)])
+            if isinstance(wanted, Refusal):
+                same = (answer, numbers) == (wanted, [FILL] * 4)
+            else:
+                same = (answer, numbers) == (wanted[0], [*wanted[1], FILL])
+            yield f"{side} {sheet!r}", [] if same else [f"{answer} and {numbers}, not {wanted}"]
+
+
+def carried(library):
+    rng = random.Random(SEED)
+    for number in range(400):
+        sheet = sheets.numbered_sheet(SEED, number)[1]
+        on_form = carry.answer(carry.BACK, sheet, calc.MAX_BYTES)
+        for way, entry, text in ((carry.BACK, "carry_back", sheet), (carry.ON, "carry", sheet if isinstance(on_form, Refusal) else on_form)):
+            room = rng.choice((0, 100, 400, calc.MAX_BYTES, len(text), len(text) + 40))
+            wanted = carry.answer(way, text, room)
+            answer, (buffer,) = library.ask(entry, [("u8", text)], [("u8", [9] * room)])
+            right = (wanted, []) if isinstance(wanted, Refusal) else (len(wanted), list(wanted))
+            same = (answer, buffer) == (right[0], [*right[1], *[9] * (room - len(right[1]))])
+            yield f"{entry} {text!r}", [] if same else [f"{answer}, not {right[0]}, or other bytes"]
+
+
+QUESTIONS = {"soil": soil, "split": split, "summary": summaries, "release": releases, "fewest": searches, "carry and carry_back": carried}
+
+
+def main():
+    parser = argparse.ArgumentParser(description=__doc__.split("\n")[0])
+    parser.add_argument("--library", default=LIBRARY)
+    parser.add_argument("--count", type=int, default=40)
+    asked = parser.parse_args()
+    library = Library(asked.library)
+    failed = library.version() != VERSION
+    for name, question in QUESTIONS.items():
+        told = 0
+        for told, (text, wrong) in enumerate(question(library), start=1):
+            if wrong:
+                failed = True
+                print(f"{name}: {text[:300]}", *wrong, sep="\n  ")
+            if told == asked.count and name in ("summary", "release"):
+                break
+        print(f"{name}: {told} asked")
+    return 1 if failed else 0
+
+
+if __name__ == "__main__":
+    sys.exit(main())
