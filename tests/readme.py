@@ -1,5 +1,5 @@
-"""Runs every command that README.md shows after a `$` and holds it to printing exactly the lines below it, and its lines
-of Rattle to those of the crate `caller`.
+"""Runs every command that README.md and docs/manual.md show after a `$` and holds it to printing exactly the lines below it, and
+the lines of Rattle of docs/api.md to those of the crate `caller`.
 
     python3 tests/readme.py
 
@@ -12,7 +12,8 @@ import sys
 from pathlib import Path
 
 ROOT = Path(__file__).parents[1]
-README = ROOT / "README.md"
+PAPERS = (ROOT / "README.md", ROOT / "docs" / "manual.md")
+API = ROOT / "docs" / "api.md"
 CALLER = ROOT / "crates" / "caller" / "src" / "lib.rt"
 BLOCK = "    "
 RUN_SECONDS = 60
@@ -40,24 +41,29 @@ def rattle_lines(text):
     return re.findall(r"^```rust\n(.*?)^```$", text, flags=re.MULTILINE | re.DOTALL)
 
 
-def judge(text, caller, run):
-    """What is wrong with a README, where the crate `caller` has this text and commands are run so."""
+def judge(text, run):
+    """What is wrong with a paper, where commands are run so."""
     shown = commands(text)
     wrong = [] if shown else ["no command is shown"]
-    wrong += [f"another text is printed: {command}" for command, lines in shown if run(command) != lines]
+    return wrong + [f"another text is printed: {command}" for command, lines in shown if run(command) != lines]
+
+
+def judge_rattle(text, caller):
+    """What is wrong with the lines of Rattle, where the crate `caller` has this text."""
     rattle = rattle_lines(text)
-    if len(rattle) != 1 or rattle[0] not in caller:
-        wrong.append("the lines of Rattle are not those of the crate caller")
-    return wrong
+    return [] if len(rattle) == 1 and rattle[0] in caller else ["the lines of Rattle are not those of the crate caller"]
 
 
 def main():
-    text = README.read_text(encoding="utf-8")
-    wrong = judge(text, CALLER.read_text(encoding="utf-8"), printed)
+    count, wrong = 0, judge_rattle(API.read_text(encoding="utf-8"), CALLER.read_text(encoding="utf-8"))
+    for paper in PAPERS:
+        text = paper.read_text(encoding="utf-8")
+        count += len(commands(text))
+        wrong += [f"{paper.name}: {complaint}" for complaint in judge(text, printed)]
     for complaint in wrong:
-        print(f"README: {complaint}")
+        print(f"papers: {complaint}")
     if not wrong:
-        print(f"README: {len(commands(text))} commands print what is shown")
+        print(f"papers: {count} commands print what is shown")
     return 1 if wrong else 0
 
 

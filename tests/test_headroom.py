@@ -90,7 +90,7 @@ class Headrooms(unittest.TestCase):
                     self.assertIn(case._replace(fault=fault), self.verdicts)
 
     def test_the_sample(self):
-        """Season 1 is unsafe at 3,180 A, season 2 safe; README tells both."""
+        """Season 1 is unsafe at 3,180 A, season 2 safe; the manual tells both."""
         self.assertEqual([self.answers[case] for case in headroom.sample()], [2600, 10023])
 
     def test_edges(self):

@@ -1,5 +1,6 @@
-"""Holds the judge of README.md to telling a README that shows something else than is printed."""
+"""Holds the judge of the papers to telling one that shows something else than is printed."""
 
+import re
 import unittest
 
 import readme
@@ -32,29 +33,39 @@ class Commands(unittest.TestCase):
         self.assertEqual(readme.commands(TEXT), list(PRINTED.items()))
 
     def test_all_right(self):
-        self.assertEqual(readme.judge(TEXT, CALLER, PRINTED.get), [])
+        self.assertEqual(readme.judge(TEXT, PRINTED.get), [])
 
     def test_another_text_printed(self):
         for command in PRINTED:
             with self.subTest(command=command):
-                wrong = readme.judge(TEXT, CALLER, lambda asked: PRINTED[asked] + ("x" if asked == command else ""))
+                wrong = readme.judge(TEXT, lambda asked: PRINTED[asked] + ("x" if asked == command else ""))
                 self.assertEqual(wrong, [f"another text is printed: {command}"])
 
     def test_no_command(self):
-        self.assertIn("no command is shown", readme.judge(TEXT.replace("    $", "    "), CALLER, PRINTED.get))
+        self.assertIn("no command is shown", readme.judge(TEXT.replace("    $", "    "), PRINTED.get))
 
     def test_other_lines_of_rattle(self):
+        self.assertEqual(readme.judge_rattle(TEXT, CALLER), [])
         for text in (TEXT.replace("may", "must"), TEXT.replace("```rust", "```c")):
-            self.assertEqual(readme.judge(text, CALLER, PRINTED.get), ["the lines of Rattle are not those of the crate caller"])
+            self.assertEqual(readme.judge_rattle(text, CALLER), ["the lines of Rattle are not those of the crate caller"])
 
 
 class Stored(unittest.TestCase):
     """What needs no built program."""
 
     def test_lines_of_rattle(self):
-        text, caller = (path.read_text(encoding="utf-8") for path in (readme.README, readme.CALLER))
-        printed = dict(readme.commands(text)).get
-        self.assertEqual(readme.judge(text, caller, printed), [])
+        text, caller = (path.read_text(encoding="utf-8") for path in (readme.API, readme.CALLER))
+        self.assertEqual(readme.judge_rattle(text, caller), [])
+
+    def test_each_paper_shows_commands(self):
+        for paper in readme.PAPERS:
+            self.assertTrue(readme.commands(paper.read_text(encoding="utf-8")), paper.name)
+
+    def test_links(self):
+        """Every file that a link of these papers names is there."""
+        for paper in (*readme.PAPERS, readme.API, readme.ROOT / "docs" / "proofs.md"):
+            for name in re.findall(r"\]\(([^)#:]+)\)", paper.read_text(encoding="utf-8")):
+                self.assertTrue((paper.parent / name).exists(), f"{paper.name}: {name}")
 
 
 if __name__ == "__main__":
