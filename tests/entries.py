@@ -121,10 +121,12 @@ def summaries(library):
 
 
 def released(licence, cases, rows, numbers):
-    """Whether the numbers of each pair are right, the fault current aside: test_release.py judges that of the operation."""
+    """Whether the numbers of each pair are right, and its fault current one that a right program may report."""
     wanted = [list(pair) for pair in release.release_of(licence, cases, rows)]
     pairs = [numbers[i:i + 8] for i in range(0, len(numbers), 8)]
-    return [pair[:7] for pair in pairs] == [pair[:7] for pair in wanted]
+    of_station = [[case for case in cases if case.station == pair[0]] for pair in pairs]
+    return [pair[:7] for pair in pairs] == [pair[:7] for pair in wanted] and all(
+        release.fault_is_right(own, pair[7]) for own, pair in zip(of_station, pairs))
 
 
 def releases(library):

@@ -12,7 +12,7 @@ import host
 import release
 import sheets
 import summary
-from calculator import Refusal
+from calculator import Case, Refusal
 
 ROOT = Path(__file__).parents[1]
 DEPTH = 12
@@ -224,6 +224,33 @@ class Header(unittest.TestCase):
         wanted = ["STATION", "SEASON", "VERDICT", "KCMIL"]
         wanted += [f"{name.upper()}_{end}" for name in calc.Ends._fields for end in ("LOWER", "UPPER")]
         self.assertEqual(places, wanted)
+
+
+class Released(unittest.TestCase):
+    """The judge of a release asked from C tells wrong numbers, on a station of two safe lines."""
+
+    CASE = Case(7, 1, 100, 2500, 102, 500, 500, 500, 70, 3180, 600, 10, 11, 11, 7000, 500, 100, 0, 0, 0, 1, 60)
+
+    @classmethod
+    def setUpClass(cls):
+        cls.cases = [cls.CASE, cls.CASE._replace(season=2, soil=60)]
+        cls.rows = [calc.row_at(case, DEPTH) for case in cls.cases]
+        cls.fault = next(fault for fault in range(9000, 11000) if release.fault_is_right(cls.cases, fault))
+
+    def told(self, *numbers):
+        return not entries.released([7, 3], self.cases, self.rows, list(numbers))
+
+    def test_right(self):
+        self.assertFalse(self.told(7, 1, 0, 0, 0, 0, 0, self.fault))
+
+    def test_wrong(self):
+        right = [7, 1, 0, 0, 0, 0, 0, self.fault]
+        for place in range(8):
+            for by in (1, 1000) if place == 7 else (1,):
+                numbers = [*right[:place], right[place] + (by if place < 7 else by + 99), *right[place + 1:]]
+                self.assertTrue(self.told(*numbers), numbers)
+        self.assertTrue(self.told(*right[:7], 0))
+        self.assertTrue(self.told(*right[:7], self.fault - 100))
 
 
 if __name__ == "__main__":
