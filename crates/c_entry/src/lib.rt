@@ -1,6 +1,5 @@
-// The operations asked by a program in C. One manner for all: the answer is a count of 0 or more, or a refusal's number made negative,
-// with line and
-// column in a lent place of two numbers and every other buffer as it was.
+// The sheet asked by a program in C, and the manner of all that C asks: the answer is a count of 0 or more, or a refusal's number made
+// negative, with line and column in a lent place of two numbers and every other buffer as it was.
 mod little_endian;
 mod telling;
 

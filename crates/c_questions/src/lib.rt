@@ -1,6 +1,5 @@
-// The questions beside a sheet's rows, asked by a program in C. One manner for all: the answer is a count of 0 or more, or a refusal's
-// number made
-// negative, with line and column in a lent place of two numbers and every other buffer as it was.
+// The questions beside a sheet's rows, asked by a program in C. One manner for all: the answer is a count of 0 or more, or a
+// refusal's number made negative, with line and column in a lent place of two numbers and every other buffer as it was.
 mod operations;
 mod reply;
 mod search;
