@@ -1,6 +1,7 @@
 pub mod Accepted
 pub mod RowParts
 pub mod StoredCases
+pub mod ReadLines
 pub mod Answers
 pub mod Lines
 pub mod NoWorse

@@ -1,0 +1,42 @@
+-- What the values of a sheet are after `read`: those of its value lines, each within its bounds, with room for them all.
+use Prim.Native.Nat.{ℕ, _*_, _≤_}
+use mathlib.Core.Path.{_≡_, sym, _∙_}
+use mathlib.Core.List.{List}
+use native.Mathlib.Omega.{arith}
+use lib.ListN.{length}
+use Rattle.case.specs.declared.Form.the-variants.{Present}
+use Rattle.case.specs.Columns.{columns, nameCount}
+use Rattle.case.specs.Parts.{formOf}
+use Rattle.judgement.specs.declared.Judgement.{Judgement}
+use Rattle.judgement.specs.declared.Judgement.the-variants.{Lines}
+use Rattle.judgement.specs.Limits.{mostLines}
+use Rattle.judgement.specs.Sheet.{judgement}
+use Rattle.judgement.specs.Read.{Read}
+use Rattle.judgement.proofs.Accepted.{accepted}
+use Rattle.sheet.specs.Answer.{cases}
+use Rattle.sheet.specs.Rows.{storedCases, StoredBounds}
+use Rattle.sheet.proofs.StoredCases.{stored-cases, stored-bounds}
+
+-- n value lines of a sheet stand in a store
+pub record StoredLines (s : List ℕ) (n : ℕ) (values : List ℕ) : Type 0 where
+  pub most : n ≤ mostLines
+  pub room : nameCount * n ≤ length values
+  pub bounds : StoredBounds values n
+  pub cases-are : storedCases values n ≡ cases s
+
+module _ {s before after : List ℕ} {r : Judgement} (read : Read (formOf Present) s before after r) where
+  pub judged-is : r ≡ judgement columns s
+  unfolding formOf
+  judged-is = read .answer-is
+
+  -- in a store for the most value lines
+  pub stored-lines : {n : ℕ} → length before ≡ nameCount * mostLines → r ≡ Lines n → StoredLines s n after
+  unfolding formOf
+  stored-lines {n} h e =
+      let a = accepted columns s n (sym judged-is ∙ e) in
+      record {
+        most = a .most;
+        room = omega (arith, read .size, h, a .most);
+        bounds = stored-bounds after a (read .stored n e);
+        cases-are = stored-cases after a (read .stored n e);
+      }
