@@ -21,11 +21,12 @@ use Rattle.row.specs.Ends.{rowOf}
 use Rattle.sheet.specs.Answer.{cases}
 use Rattle.stations.specs.Answer.{sheetRows}
 use Rattle.listing.specs.declared.Program.the-variants.{Verdict}
-use Rattle.listing.specs.Refusal.{numbered, refusedText, unlessRefused}
-use Rattle.listing.specs.Listed.{listed}
-use Rattle.listing.specs.Verdict.{verdictNames, verdictFields, verdictText}
+use Rattle.fields.specs.Refusal.{numbered, refusedText, unlessRefused}
+use Rattle.fields.specs.Listed.{listed}
+use Rattle.row_text.specs.Verdict.{verdictNames, verdictFields}
+use Rattle.sheet_text.specs.Texts.{verdictText}
 use Rattle.listing.specs.Programs.{programText}
-use Rattle.listing.specs.Room.{textRoom}
+use Rattle.row_text.specs.Room.{textRoom}
 use Rattle.listing.specs.Told.{Told}
 use Rattle.claims.specs.Printed.{Printed, rowLine, VerdictOutcome, rows, refused, short}
 use Rattle.claims.proofs.Lines.{map-at}

@@ -9,8 +9,8 @@ use Rattle.text.specs.Text.{bytes}
 use Rattle.writing.specs.Decimal.{decimal, signed}
 use Rattle.writing.specs.Text.{parted, textOf}
 use Rattle.row.specs.Ends.{rowOf}
-use Rattle.listing.specs.Verdict.{word}
-use Rattle.listing.specs.Room.{textRoom}
+use Rattle.row_text.specs.Verdict.{word}
+use Rattle.row_text.specs.Room.{textRoom}
 use Rattle.claims.specs.Words.{BreaksNone, Breaks, caseAt}
 
 -- the lines stand in the first r bytes of a buffer, each with its byte 10, and its other bytes are as they were

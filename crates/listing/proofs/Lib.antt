@@ -1,15 +1,2 @@
-pub mod Words
-pub mod LineFields
-pub mod ShownLines
-pub mod Refusals
-pub mod Judged
-pub mod TableRows
-pub mod Fits
-pub mod SheetTexts
-pub mod Texts
-pub mod StationTexts
-pub mod CarriedTexts
-pub mod OneLines
-pub mod SearchTexts
 pub mod Programs
 pub mod Telling

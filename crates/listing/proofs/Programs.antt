@@ -6,14 +6,15 @@ use lib.ListN.{length}
 use Rattle.case.specs.declared.Form.the-variants.{Present, Former}
 use Rattle.listing.specs.declared.Program.{Program}
 use Rattle.listing.specs.declared.Program.the-variants.{Verdict, Rows, Margins, Summary, Fewest, Carry, CarryBack}
-use Rattle.listing.specs.declared.Shown.the-variants as shown
+use Rattle.row_text.specs.declared.Shown.the-variants as shown
 use Rattle.listing.specs.Programs.{programText}
-use Rattle.listing.specs.Room.{textRoom}
-use Rattle.listing.proofs.SheetTexts.{shown-fits}
-use Rattle.listing.proofs.StationTexts.{summary-fits}
-use Rattle.listing.proofs.SearchTexts.{fewest-fits}
-use Rattle.listing.proofs.CarriedTexts.{carried-fits}
-use Rattle.listing.proofs.Texts.{verdictLine, rowLine, marginLine, verdict-shown, rows-shown, margins-shown}
+use Rattle.row_text.specs.Room.{textRoom}
+use Rattle.sheet_text.proofs.SheetTexts.{shown-fits}
+use Rattle.sheet_text.proofs.StationTexts.{summary-fits}
+use Rattle.search_text.proofs.SearchTexts.{fewest-fits}
+use Rattle.carry_text.proofs.CarriedTexts.{carried-fits}
+use Rattle.row_text.proofs.Texts.{verdictLine, rowLine, marginLine}
+use Rattle.sheet_text.proofs.Texts.{verdict-shown, rows-shown, margins-shown}
 
 pub program-fits : (program : Program) (s : List ℕ) → length (programText program s) ≤ textRoom
 unfolding programText
@@ -21,6 +22,6 @@ program-fits Verdict s = rw (verdict-shown s) (shown-fits verdictLine shown.Verd
 program-fits Rows s = rw (rows-shown s) (shown-fits rowLine shown.Numbers s (omega arith))
 program-fits Margins s = rw (margins-shown s) (shown-fits marginLine shown.Margins s (omega arith))
 program-fits Summary s = summary-fits s
-program-fits Fewest s = fewest-fits s
-program-fits Carry s = carried-fits Present s
-program-fits CarryBack s = carried-fits Former s
+program-fits Fewest s = omega (arith, fewest-fits s)
+program-fits Carry s = omega (arith, carried-fits Present s)
+program-fits CarryBack s = omega (arith, carried-fits Former s)

@@ -1,14 +1,2 @@
-pub mod Refusal
-pub mod Listed
-pub mod Verdict
-pub mod Rows
-pub mod Margins
-pub mod Summary
-pub mod Fewest
-pub mod Carried
 pub mod Programs
-pub mod Shown
-pub mod OneLine
-pub mod Room
 pub mod Told
-pub mod Examples

@@ -4,12 +4,12 @@ use mathlib.Core.List.{List}
 use Rattle.case.specs.declared.Form.the-variants.{Present, Former}
 use Rattle.listing.specs.declared.Program.{Program}
 use Rattle.listing.specs.declared.Program.the-variants.{Verdict, Rows, Margins, Summary, Fewest, Carry, CarryBack}
-use Rattle.listing.specs.Verdict.{verdictText}
-use Rattle.listing.specs.Rows.{rowsText}
-use Rattle.listing.specs.Margins.{marginsText}
-use Rattle.listing.specs.Summary.{summaryText}
-use Rattle.listing.specs.Fewest.{fewestText}
-use Rattle.listing.specs.Carried.{carryText}
+use Rattle.sheet_text.specs.Texts.{verdictText}
+use Rattle.sheet_text.specs.Texts.{rowsText}
+use Rattle.sheet_text.specs.Texts.{marginsText}
+use Rattle.sheet_text.specs.Texts.{summaryText}
+use Rattle.search_text.specs.Fewest.{fewestText}
+use Rattle.carry_text.specs.Carried.{carryText}
 
 unfoldable pub programText : Program → List ℕ → List ℕ
 programText Verdict s = verdictText s

@@ -1,26 +1,18 @@
 // What the programs print, as text in a buffer that the caller lends.
-mod carried;
-mod fields;
-mod lines;
-mod one_line;
-mod refusal;
-mod search;
-mod sheets;
-mod summary;
-
 ghost use Prim.Native.Nat.{_≤_};
 ghost use lib.ListN.{length};
 ghost use Rattle.writing.specs.Put.{Put};
 ghost use Rattle.listing.specs.Programs.{programText};
-ghost use Rattle.listing.specs.Room.{textRoom};
+ghost use Rattle.row_text.specs.Room.{textRoom};
 ghost use Rattle.listing.specs.Told.{Told};
-use carried::put_carried;
+use carry_text::put_carried;
 use case::Form;
 use judgement::LINES;
 use row::ROW_LENGTH;
-use search::put_fewest;
-use sheets::put_sheet;
-use summary::put_summary;
+use row_text::Shown;
+use search_text::put_fewest;
+use sheet_text::put_sheet;
+use sheet_text::put_summary;
 
 // The programs, each by what it prints.
 pub enum Program {
@@ -31,13 +23,6 @@ pub enum Program {
     Fewest,
     Carry,
     CarryBack,
-}
-
-// What is shown of a row: station, season, verdict by its word and size; all its numbers; or station, season, verdict and the two margins.
-enum Shown {
-    Verdict,
-    Numbers,
-    Margins,
 }
 
 // The most bytes of a field with the comma or the byte 10 after it: a sign, twenty digits, and that byte.

@@ -1,7 +1,7 @@
 -- `put_text` calls what writes the program's text: proofs/Texts.antt has the rows of a sheet after the names of the program.
 use borrow.Author.Needs.{needs}
 use Rattle.listing.specs.Programs.{programText}
-use Rattle.listing.proofs.Texts.{verdict-shown, rows-shown, margins-shown}
+use Rattle.sheet_text.proofs.Texts.{verdict-shown, rows-shown, margins-shown}
 use Rattle.listing.proofs.put_text.Statement.{statement}
 use Rattle.listing.proofs.put_text.Tie as tie
 

@@ -1,0 +1,71 @@
+-- The text of a sheet that is carried over: it fits, and it is what the conversion leaves in a buffer with room for the longest text.
+use Prim.Native.Nat.{ℕ, _≤_}
+use mathlib.Core.Path.{_≡_, refl, sym, _∙_}
+use mathlib.Core.List.{List, _++_}
+use native.Mathlib.Omega.{arith}
+use lib.ListN.{length, drop}
+use borrow.Author.Tests.{le-ltb}
+use Rattle.case.specs.declared.Form.{Form}
+use Rattle.case.specs.Parts.{formOf}
+use Rattle.judgement.specs.declared.Judgement.{Judgement}
+use Rattle.judgement.specs.declared.Judgement.the-variants.{Lines, Refused}
+use Rattle.judgement.specs.Limits.{mostBytes}
+use Rattle.judgement.specs.Sheet.{judgement}
+use Rattle.writing.specs.Put.{Put}
+use Rattle.conversion.specs.declared.Carried.{Carried}
+use Rattle.conversion.specs.declared.Carried.the-variants as carried
+use Rattle.conversion.specs.Values.{other}
+use Rattle.conversion.specs.Sheet.{casesIn}
+use Rattle.conversion.specs.Answer.{changes, carriedText, roomAnswer, refusedOr, answer, bufferAfter, Answered}
+use Rattle.conversion.proofs.RoundTrip.{carried-short}
+use Rattle.fields.specs.Refusal.{refusedText, unlessRefused}
+use Rattle.carry_text.specs.Carried.{carryText}
+use Rattle.fields.proofs.Refusals.{answer-fits}
+
+module _ (form : Form) (s : List ℕ) where
+  abbrev source : Judgement
+  source = judgement (formOf (other form)) s
+
+  abbrev change : Judgement
+  change = changes form (casesIn (formOf (other form)) s)
+
+  pub carried-fits : length (carryText form s) ≤ mostBytes
+  unfolding carryText
+  carried-fits =
+      answer-fits mostBytes source _ (omega arith)
+      (λ n e. answer-fits mostBytes change (carriedText form s) (omega arith) (λ m q. carried-short form s n e))
+
+  -- the sheet's own bytes, or a refusal other than 8
+  abbrev tells : Carried → List ℕ → Type 0
+  tells (carried.Bytes count) t = (t ≡ carriedText form s) × (count ≡ length t)
+  tells (carried.Refused number line column) t = t ≡ refusedText number line column
+
+  carried-told : (room : ℕ) → mostBytes ≤ room → tells (answer form s room) (carryText form s)
+  unfolding answer refusedOr roomAnswer unlessRefused carryText
+  carried-told room h = go source refl change
+    where
+      go : (j : Judgement) → source ≡ j → (k : Judgement)
+          → tells (refusedOr j (refusedOr k (roomAnswer (carriedText form s) room)))
+          (unlessRefused j (unlessRefused k (carriedText form s)))
+      go (Refused number line column) e k = refl
+      go (Lines n) e (Refused number line column) = refl
+      go (Lines n) e (Lines m) = rw (le-ltb room (length (carriedText form s)) (omega (arith, carried-short form s n e))) (refl, refl)
+
+  module _ {before after : List ℕ} {a : Carried} (h : Answered form s before after a) (enough : mostBytes ≤ length before) where
+    told-by : {b : Carried} → a ≡ b → tells b (carryText form s)
+    told-by e = rw (← (sym (h .answer-is) ∙ e)) (carried-told (length before) enough)
+
+    pub carried-put : {count : ℕ} → a ≡ carried.Bytes count → Put before 0 (carryText form s) after count
+    unfolding bufferAfter
+    carried-put {count} e =
+        let t = told-by e in
+        let b : after ≡ carriedText form s ++ drop count before = rw e at (h .buffer-is) in
+        record { next = omega (arith, t .1); holds = b ∙ rw (t .0) }
+
+    -- a refusal leaves the buffer, and its line is put into it
+    pub carried-refused : {number line column r : ℕ} {now : List ℕ} → a ≡ carried.Refused number line column
+        → Put after 0 (refusedText number line column) now r → Put before 0 (carryText form s) now r
+    unfolding bufferAfter
+    carried-refused e p =
+        let b : after ≡ before = rw e at (h .buffer-is) in
+        rw (told-by e, ← b) p

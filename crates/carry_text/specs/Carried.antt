@@ -1,0 +1,16 @@
+-- What the programs print that carry a sheet over to another form: the sheet of its cases in that form, or the refusal. Document 02 (e):
+-- "The source sheet passes all checks of its own form first, save 8", and "on the way back a line is then refused, with its line and
+-- column 0".
+use Prim.Native.Nat.{ℕ}
+use mathlib.Core.List.{List}
+use Rattle.case.specs.declared.Form.{Form}
+use Rattle.case.specs.Parts.{formOf}
+use Rattle.judgement.specs.Sheet.{judgement}
+use Rattle.conversion.specs.Values.{other}
+use Rattle.conversion.specs.Sheet.{casesIn}
+use Rattle.conversion.specs.Answer.{changes, carriedText}
+use Rattle.fields.specs.Refusal.{unlessRefused}
+
+unfoldable pub carryText : Form → List ℕ → List ℕ
+carryText form s =
+    unlessRefused (judgement (formOf (other form)) s) (unlessRefused (changes form (casesIn (formOf (other form)) s)) (carriedText form s))

@@ -1,0 +1,3 @@
+pub mod ShownLines
+pub mod Fits
+pub mod Texts

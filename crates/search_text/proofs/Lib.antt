@@ -1,0 +1,2 @@
+pub mod OneLines
+pub mod SearchTexts

@@ -1,0 +1,71 @@
+// The search for the fewest lines as text in a lent buffer.
+mod one_line;
+
+ghost use Prim.Native.Nat.{_≤_};
+ghost use mathlib.Core.Path.{_≡_};
+ghost use lib.ListN.{length};
+ghost use Rattle.text.specs.Value.{fieldValue};
+ghost use Rattle.writing.specs.Put.{Put};
+ghost use Rattle.search_text.specs.Fewest.{sideOf, searchText, fewestText};
+ghost use Rattle.fields.specs.Refusal.{refusalBytes};
+use case::NAMES;
+use case::case_of;
+use fields::put_numbered;
+use fields::put_refusal;
+use judgement::BYTES;
+use judgement::Judgement;
+use one_line::read_one;
+use text::Field;
+use text::find;
+use text::skip;
+use text::value;
+use yards::FewestLines;
+use yards::fewest_lines;
+
+// The side that a line says, or 0, which is out of range.
+fn side_of(line: &[u8]) -> u32
+    ensures { λ r. ⌜ r ≡ sideOf (fieldValue (now (line .entry))) ⌝ }
+{
+    let side = value(line);
+    match side {
+        Field::Value(x) => x,
+        Field::Wrong => 0,
+    }
+}
+
+// Lines, rods and yards tried; how many yards were tried, none of them safe; or the refusal.
+fn put_search(out: &mut [u8], answer: FewestLines) -> usize
+    requires { ⌜ refusalBytes ≤ length (now out) ⌝ }
+    ensures { λ r. ⌜ Put (now (out .entry)) 0 (searchText answer) (now (out .exit)) r ⌝ }
+{
+    match answer {
+        FewestLines::Found(lines, rods, tried) => {
+            let numbers = [lines as u64, rods as u64, tried as u64];
+            put_numbered(out, b"found", &numbers)
+        }
+        FewestLines::None(tried) => {
+            let numbers = [tried as u64];
+            put_numbered(out, b"none", &numbers)
+        }
+        FewestLines::Refused(why, line, column) => put_refusal(out, why, line, column),
+    }
+}
+
+// The answer to an input: a line with the side, then a sheet of one value line.
+pub fn put_fewest(s: &[u8], out: &mut [u8]) -> usize
+    requires { ⌜ refusalBytes ≤ length (now out) ⌝ }
+    ensures { λ r. ⌜ Put (now (out .entry)) 0 (fewestText (now (s .entry))) (now (out .exit)) r ⌝ }
+{
+    if BYTES < s.len() {
+        return put_refusal(out, 1, 0, 0);
+    }
+    let e = find(s, 10);
+    let side = side_of(&s[..e]);
+    let next = skip(e, s.len());
+    let mut values = [0u32; NAMES];
+    let read = read_one(&s[next..], &mut values);
+    match read {
+        Judgement::Lines(_) => put_search(out, fewest_lines(case_of(&values), side)),
+        Judgement::Refused(why, line, column) => put_refusal(out, why, line, column),
+    }
+}

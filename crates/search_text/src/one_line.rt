@@ -1,0 +1,50 @@
+// A sheet of one value line: its values, or why it is refused.
+ghost use mathlib.Core.Path.{_≡_};
+ghost use lib.ListN.{length};
+ghost use Rattle.text.specs.Text.{linesOf};
+ghost use Rattle.case.specs.Columns.{nameCount};
+ghost use Rattle.case.specs.Order.{Distinct};
+ghost use Rattle.search_text.specs.OneLine.{ValuesRead, SheetRead};
+use case::Form;
+use case::NAMES;
+use header::read_header;
+use judgement::Judgement;
+use line::read_values;
+use text::find;
+use text::skip;
+
+// Refusals 4 and 3; s holds what follows the line of names.
+fn read_value_line<'a>(s: &'a [u8], order: &'a [usize], values: &mut [u32]) -> Judgement
+    requires { ⌜ Distinct nameCount (now order) ⌝ }
+    requires { ⌜ length (now values) ≡ nameCount ⌝ }
+    ensures { λ r. ⌜ ValuesRead (linesOf (now (s .entry))) (now (order .entry)) (now (values .exit)) r ⌝ }
+{
+    if s.len() == 0 {
+        return Judgement::Refused(4, 2, 0);
+    }
+    let e = find(s, 10);
+    if skip(e, s.len()) < s.len() {
+        return Judgement::Refused(4, 3, 0);
+    }
+    let wrong = read_values(&s[..e], order, values);
+    if wrong != 0 {
+        return Judgement::Refused(3, 2, wrong);
+    }
+    Judgement::Lines(1)
+}
+
+// Refusals 2, 4 and 3 of a sheet.
+pub fn read_one(s: &[u8], values: &mut [u32]) -> Judgement
+    requires { ⌜ length (now values) ≡ nameCount ⌝ }
+    ensures { λ r. ⌜ SheetRead (linesOf (now (s .entry))) (now (values .exit)) r ⌝ }
+{
+    let e = find(s, 10);
+    let mut at = [0usize; NAMES];
+    let mut order = [0usize; NAMES];
+    let wrong = read_header(Form::Present, &s[..e], &mut at, &mut order);
+    if wrong != 0 {
+        return Judgement::Refused(2, 1, wrong);
+    }
+    let next = skip(e, s.len());
+    read_value_line(&s[next..], &order, values)
+}
