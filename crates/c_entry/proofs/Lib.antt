@@ -1,5 +1,5 @@
 pub mod Reading
 pub mod Putting
-pub mod Enough
-pub mod Rows
+pub mod RowBytes
+pub mod Answers
 pub mod Range

@@ -1,16 +1,22 @@
--- Numbers put into a buffer one after the other.
-use Prim.Native.Nat.{ℕ, _*_, _<_}
+-- Numbers put as bytes, and a row put into the buffer.
+use Prim.Native.Nat.{ℕ}
 use mathlib.Core.Path.{_≡_}
 use mathlib.Core.List.{List}
-use lib.IntN.{ℤ, pos}
-use lib.ListN.{length, getD, take, drop}
-use mir.Syntax.{w64}
-use mir.Val.{SFits}
-use Rattle.c_entry.specs.Bytes.{numberBytes, bytesOfAll}
+use lib.IntN.{ℤ}
+use lib.ListN.{length}
+use Rattle.tables.specs.Parts.{Written}
+use Rattle.case.specs.declared.Case.{Case}
+use Rattle.row.specs.Row.{numbers, rowLength}
+use Rattle.row.specs.Ends.{rowOf}
+use Rattle.c_entry.specs.Bytes.{bytesOfAll, numbersOf}
+use Rattle.c_entry.specs.Buffer.{rowBytes}
 
--- the bytes of the first n numbers of a table, each of which fits 64 signed bits, and past them what the buffer held
-pub record Put (table : List ℤ) (n : ℕ) (before after : List ℕ) : Type 0 where
-  pub size : length after ≡ length before
-  pub front : take (numberBytes * n) after ≡ bytesOfAll (take n table)
-  pub rest : drop (numberBytes * n) after ≡ drop (numberBytes * n) before
-  pub fit : (k : ℕ) → k < n → SFits w64 (getD table k (pos 0))
+-- some bytes are those of some numbers, and what is read from them is those numbers
+pub record Put (zs : List ℤ) (part : List ℕ) : Type 0 where
+  pub bytes : part ≡ bytesOfAll zs
+  pub read : numbersOf (length zs) part ≡ zs
+
+-- the bytes of the row of a case are row i of the buffer, and nothing else of it is changed; what is read from them is the row's numbers
+pub record RowPut (c : Case) (i : ℕ) (before after : List ℕ) : Type 0 where
+  pub written : Written rowBytes i (bytesOfAll (numbers (rowOf c))) before after
+  pub read : numbersOf rowLength (bytesOfAll (numbers (rowOf c))) ≡ numbers (rowOf c)

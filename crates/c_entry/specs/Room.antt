@@ -1,14 +1,7 @@
--- The room of a buffer, in numbers.
-use Prim.Native.Nat.{ℕ, _*_, _/_, _<_, _^_, min}
-use Rattle.judgement.specs.Limits.{mostLines}
-use Rattle.row.specs.Row.{rowLength}
+-- The room of a signed number of 64 bits, for a count.
+use Prim.Native.Nat.{_<_, _^_}
 use Rattle.sheet.specs.declared.Answer.{Answer}
 use Rattle.sheet.specs.declared.Answer.the-variants.{Rows, Refused}
-use Rattle.c_entry.specs.Bytes.{numberBytes}
-
--- as many numbers as the buffer has room for, and no more than the most rows have
-unfoldable pub roomOf : ℕ → ℕ
-roomOf bytes = min (bytes / numberBytes) (mostLines * rowLength)
 
 -- a count that a signed number of 64 bits has; of a refusal nothing
 unfoldable pub Few : Answer → Type 0

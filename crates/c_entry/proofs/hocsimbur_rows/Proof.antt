@@ -2,7 +2,7 @@
 use mathlib.Core.Path.{_∙_}
 use borrow.Author.Needs.{needs}
 use Rattle.interval.proofs.Bits.{back}
-use Rattle.c_entry.proofs.Rows.{told-few, told-signed}
+use Rattle.c_entry.proofs.Answers.{told-few, told-signed}
 use Rattle.c_entry.proofs.hocsimbur_rows.Statement.{statement}
 use Rattle.c_entry.proofs.hocsimbur_rows.Tie as tie
 

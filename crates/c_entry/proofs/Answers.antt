@@ -1,0 +1,56 @@
+-- The claim about a sheet and its buffer, from the judgement and the rows.
+use Prim.Native.Nat.{ℕ, _*_, _/_, _≤_, _<_}
+use mathlib.Core.Path.{_≡_, refl, sym, ap, _∙_}
+use mathlib.Core.List.{List}
+use native.Mathlib.Omega.{arith}
+use lib.IntN.{ℤ, pos}
+use lib.ListN.{length}
+use borrow.Author.Tests.{lt-ltb, le-ltb}
+use Rattle.case.specs.Columns.{columns}
+use Rattle.row.specs.Row.{rowLength}
+use Rattle.judgement.specs.declared.Judgement.{Judgement}
+use Rattle.judgement.specs.declared.Judgement.the-variants as judged
+use Rattle.judgement.specs.Sheet.{judgement}
+use Rattle.sheet.specs.declared.Answer.{Answer}
+use Rattle.sheet.specs.declared.Answer.the-variants.{Rows, Refused}
+use Rattle.sheet.specs.Answer.{tableRefused, answerBy, answer, cases}
+use Rattle.sheet.proofs.Accepted.{accepted}
+use Rattle.c_entry.specs.Bytes.{numberBytes}
+use Rattle.c_entry.specs.Room.{Few}
+use Rattle.c_entry.specs.Answer.{signedAnswer}
+use Rattle.c_entry.specs.Buffer.{rowBytes, Filled, BufferAfter, answerFor, InBytes, Answered}
+
+module _ {j : Judgement} (s t : List ℕ) (judged-is : j ≡ judgement columns s) where
+  abbrev room : ℕ
+  room = length t / numberBytes
+
+  -- refused by its judgement
+  pub in-bytes-refused : {k l c : ℕ} → j ≡ judged.Refused k l c → InBytes s t t (Refused k l c)
+  unfolding BufferAfter answerFor answer answerBy
+  in-bytes-refused e = record { answer-is = rw (← judged-is, e); buffer-is = refl }
+
+  -- a buffer short of 160 bytes a line
+  pub in-bytes-short : {n : ℕ} → j ≡ judged.Lines n → length t < rowBytes * n → InBytes s t t (Refused 8 0 0)
+  unfolding BufferAfter answerFor answer answerBy tableRefused
+  in-bytes-short {n} e h =
+      record { answer-is = rw (← judged-is, e, lt-ltb room (rowLength * n) (omega arith)); buffer-is = refl }
+
+  pub in-bytes-rows : {n : ℕ} {u : List ℕ} → j ≡ judged.Lines n → rowBytes * n ≤ length t → Filled (cases s) t u → InBytes s t u (Rows n)
+  unfolding BufferAfter answerFor answer answerBy
+  in-bytes-rows {n} e h f =
+      record { answer-is = rw (← judged-is, e, le-ltb room (rowLength * n) (omega arith)); buffer-is = f }
+
+-- ---- the answer as one number
+
+few : (s : List ℕ) (room : ℕ) (a : Answer) → a ≡ answer s room → Few a
+unfolding Few
+few s room (Rows n) e = omega (arith, accepted s room n (sym e) .sheet .most)
+few s room (Refused k l c) e = tt
+
+pub told-few : {s before after : List ℕ} {a : Answer} → InBytes s before after a → Few a
+unfolding answerFor
+told-few {s} {before} {after} {a} h = few s (length before / numberBytes) a (h .answer-is)
+
+pub told-signed : {s before after : List ℕ} {a : Answer} {r : ℤ} → InBytes s before after a → r ≡ signedAnswer a → Answered s before after r
+told-signed {s} {before} {after} h e =
+    record { answer-is = e ∙ ap signedAnswer (h .answer-is); buffer-is = rw (h .answer-is) at (h .buffer-is) }
