@@ -22,8 +22,8 @@ SONAME = libhocsimbur.so.$(firstword $(subst ., ,$(VERSION)))
 SHARED = libhocsimbur.so.$(VERSION)
 
 OUT = target/host
-# two archives, so that the rows are compiled by themselves: what the compiler inlines for them does not hang on the other entries
-ARCHIVES = target/staticlib/libc_entry.a target/staticlib/libc_questions.a
+# three archives, so that the rows are compiled by themselves: what the compiler inlines for them does not hang on the other entries
+ARCHIVES = target/staticlib/libc_entry.a target/staticlib/libc_questions.a target/staticlib/libc_lines.a
 STATIC_LIBRARY = $(OUT)/libhocsimbur.a
 SHARED_LIBRARY = $(OUT)/$(SHARED)
 HARNESS = $(addprefix host/, harness.c random.c sheets.c serve.c times.c stack.c edges.c cases.c doubles.c)

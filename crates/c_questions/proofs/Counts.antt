@@ -36,7 +36,7 @@ use Rattle.conversion.specs.Sheet.{casesIn}
 use Rattle.conversion.specs.Answer as conversion
 use Rattle.conversion.proofs.RoundTrip.{carried-short}
 use Rattle.c_entry.specs.Room.{Few}
-use Rattle.c_questions.specs.Operations.{stationCount, pairCount, byteCount}
+use Rattle.c_counts.specs.Counts.{stationCount, pairCount, byteCount}
 
 -- ---- stations
 

@@ -1,5 +1,5 @@
 pub mod Counts
 pub mod Telling
-pub mod Replies
+pub mod ReportCounts
 pub mod SplitSize
 pub mod FewestLine

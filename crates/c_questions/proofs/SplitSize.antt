@@ -19,7 +19,7 @@ use Rattle.staged.specs.Answer.{gridSquare, injectedSquare, gridAnswer, answer}
 use Rattle.staged.proofs.GridCurrent.{Left, left-start, left-step, left-end, left-small}
 use Rattle.staged.proofs.SoundTest.{parts, parts-after-first, injected-some}
 use Rattle.staged.proofs.Smallest.{split-least}
-use Rattle.c_questions.specs.Reply.{SmallSplit}
+use Rattle.c_reply.specs.Reply.{SmallSplit}
 
 grid-part-small : {s : List ℤ} → Parts s → natAbs (gridPart (everyOther s)) ≤ largestGridPart
 grid-part-small {s} p = go (length s) (left-start p) (omega arith)

@@ -1,3 +1,3 @@
 pub mod Operations
-pub mod Reply
+pub mod Reports
 pub mod OneLine

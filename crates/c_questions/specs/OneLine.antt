@@ -2,7 +2,7 @@
 use Prim.Native.Nat.{ℕ}
 use mathlib.Core.Path.{_≡_}
 use mathlib.Core.List.{List, [], _∷_}
-use lib.IntN.{ℤ, pos}
+use lib.IntN.{ℤ}
 use Rattle.case.specs.declared.Case.{Case}
 use Rattle.case.specs.Columns.{columns}
 use Rattle.judgement.specs.declared.Judgement.{Judgement}
@@ -11,10 +11,10 @@ use Rattle.judgement.specs.Sheet.{judgement}
 use Rattle.sheet.specs.declared.Answer.{Answer}
 use Rattle.sheet.specs.Answer.{cases}
 use Rattle.yards.specs.declared.FewestLines.{FewestLines}
-use Rattle.yards.specs.declared.FewestLines.the-variants.{Found, None, Refused}
+use Rattle.yards.specs.declared.FewestLines.the-variants.{Refused}
 use Rattle.yards.specs.Fewest.{FewestAnswered}
 use Rattle.c_entry.specs.Told.{Told}
-use Rattle.c_questions.specs.Reply as replies
+use Rattle.c_reply.specs.Reply.{Replied, fewestReply}
 
 -- one case has the answer of its own question; of more the second is refused with 4, at line 3
 unfoldable pub CasesFewest : ℕ → List Case → FewestLines → Type 0
@@ -30,16 +30,10 @@ FewestBy side cs (judged.Lines count) r = CasesFewest side cs r
 unfoldable pub SheetFewest : List ℕ → ℕ → FewestLines → Type 0
 SheetFewest s side r = FewestBy side (cases s) (judgement columns s) r
 
--- 1 with the lines each way, the rods and how many yards were tried; 0 with 0, 0 and how many were tried, none of them safe
-unfoldable pub fewestReply : FewestLines → replies.Reply
-fewestReply (Found lines rods tried) = replies.Numbers 1 (pos lines ∷ pos rods ∷ pos tried ∷ [])
-fewestReply (None tried) = replies.Numbers 0 (pos 0 ∷ pos 0 ∷ pos tried ∷ [])
-fewestReply (Refused number line column) = replies.Refused number line column
-
 -- Two wrong programs: one that puts the rods first breaks `numbers`; one that answers 1 where none is safe breaks `told`.
 pub record FewestTold (s : List ℕ) (side : ℕ) (before after : List ℤ) (place pointed : List ℕ) (r : ℤ) : Type 0 where
   pub answer : FewestLines
   pub count : Answer
   pub asked : SheetFewest s side answer
-  pub numbers : replies.Replied (fewestReply answer) before after count
+  pub numbers : Replied (fewestReply answer) before after count
   pub told : Told count place pointed r

@@ -1,37 +1,17 @@
 -- The operations that take arrays of the caller's, asked by a program in C. What each leaves in the arrays is the operation's own
--- promise, in the
--- words of its crate; its answer is told as one number with a place.
+-- promise, in the words of its crate; its answer is told as one number with a place.
 use Prim.Native.Nat.{ℕ}
 use mathlib.Core.List.{List}
 use lib.IntN.{ℤ}
-use Rattle.sheet.specs.declared.Answer.{Answer}
-use Rattle.sheet.specs.declared.Answer.the-variants.{Rows, Refused}
 use Rattle.case.specs.declared.Form.{Form}
 use Rattle.stations.specs.declared.Summed.{Summed}
-use Rattle.stations.specs.declared.Summed.the-variants as summed
 use Rattle.stations.specs.Answer.{SummaryAnswered}
 use Rattle.release.specs.declared.Released.{Released}
-use Rattle.release.specs.declared.Released.the-variants as released
 use Rattle.release.specs.Answer.{ReleaseAnswered}
 use Rattle.conversion.specs.declared.Carried.{Carried}
-use Rattle.conversion.specs.declared.Carried.the-variants as carried
 use Rattle.conversion.specs.Answer as conversion
 use Rattle.c_entry.specs.Told.{Told}
-
--- the count of stations
-unfoldable pub stationCount : Summed → Answer
-stationCount (summed.Summary rows stations) = Rows stations
-stationCount (summed.Refused number line column) = Refused number line column
-
--- the count of pairs
-unfoldable pub pairCount : Released → Answer
-pairCount (released.Pairs count) = Rows count
-pairCount (released.Refused number line column) = Refused number line column
-
--- the count of bytes
-unfoldable pub byteCount : Carried → Answer
-byteCount (carried.Bytes count) = Rows count
-byteCount (carried.Refused number line column) = Refused number line column
+use Rattle.c_counts.specs.Counts.{stationCount, pairCount, byteCount}
 
 -- Two wrong programs: one that answers the count of rows breaks `told`; one that writes a row before a refusal breaks `asked`.
 pub record SummaryTold (s : List ℕ) (rowsBefore rowsAfter before after : List ℤ) (place pointed : List ℕ) (r : ℤ) : Type 0 where
@@ -40,16 +20,14 @@ pub record SummaryTold (s : List ℕ) (rowsBefore rowsAfter before after : List 
   pub told : Told (stationCount answer) place pointed r
 
 -- Two wrong programs: one that answers the count of the licence's numbers breaks `told`; one that takes the licence for the sheet's
--- stations breaks
--- `asked`.
+-- stations breaks `asked`.
 pub record ReleaseTold (s licence : List ℕ) (before after : List ℤ) (place pointed : List ℕ) (r : ℤ) : Type 0 where
   pub answer : Released
   pub asked : ReleaseAnswered s licence before after answer
   pub told : Told (pairCount answer) place pointed r
 
 -- a sheet carried over to a form. Two wrong programs: one that carries to the other form breaks `asked`; one that answers the buffer's
--- length
--- breaks `told`.
+-- length breaks `told`.
 pub record CarryTold (form : Form) (s before after place pointed : List ℕ) (r : ℤ) : Type 0 where
   pub answer : Carried
   pub asked : conversion.Answered form s before after answer

@@ -1,7 +1,5 @@
 // The questions beside a sheet's rows, asked by a program in C. One manner for all: the answer is a count of 0 or more, or a
 // refusal's number made negative, with line and column in a lent place of two numbers and every other buffer as it was.
-mod operations;
-mod reply;
 mod search;
 
 use c_entry::tell;
@@ -9,13 +7,13 @@ ghost use mathlib.Core.Path.{_≡_};
 ghost use Rattle.case.specs.declared.Form.the-variants.{Present, Former};
 ghost use Rattle.c_questions.specs.Operations.{SummaryTold, ReleaseTold, CarryTold};
 ghost use Rattle.c_questions.specs.OneLine.{FewestTold};
-ghost use Rattle.c_questions.specs.Reply.{SoilTold, SplitTold};
-use operations::byte_count;
-use operations::pair_count;
-use operations::station_count;
-use reply::put_fewest;
-use reply::put_soil;
-use reply::put_split;
+ghost use Rattle.c_questions.specs.Reports.{SoilTold, SplitTold};
+use c_counts::byte_count;
+use c_counts::pair_count;
+use c_counts::station_count;
+use c_reply::put_fewest;
+use c_reply::put_soil;
+use c_reply::put_split;
 use search::search_sheet;
 
 // Ten thousand times the first number of the version, a hundred times the second, and the third: 1.0.0.

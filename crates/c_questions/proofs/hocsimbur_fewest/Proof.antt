@@ -1,6 +1,6 @@
 -- `hocsimbur_fewest` tells the answer of the sheet's one line.
 use borrow.Author.Needs.{needs}
-use Rattle.c_questions.proofs.Replies.{fewest-few}
+use Rattle.c_questions.proofs.ReportCounts.{fewest-few}
 use Rattle.c_questions.proofs.hocsimbur_fewest.Statement.{statement}
 use Rattle.c_questions.proofs.hocsimbur_fewest.Tie as tie
 

@@ -1,6 +1,6 @@
 -- `hocsimbur_soil` tells the operation's own answer.
 use borrow.Author.Needs.{needs}
-use Rattle.c_questions.proofs.Replies.{soil-few}
+use Rattle.c_questions.proofs.ReportCounts.{soil-few}
 use Rattle.c_questions.proofs.hocsimbur_soil.Statement.{statement}
 use Rattle.c_questions.proofs.hocsimbur_soil.Tie as tie
 

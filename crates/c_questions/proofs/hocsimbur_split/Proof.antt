@@ -2,9 +2,10 @@
 use mathlib.Core.Path.{refl, ap}
 use borrow.Author.Needs.{needs}
 use Rattle.interval.proofs.Bits.{back}
-use Rattle.c_questions.specs.Reply.{splitReply}
+use Rattle.c_reply.specs.Reply.{splitReply}
 use Rattle.c_questions.proofs.Telling.{told-as}
-use Rattle.c_questions.proofs.Replies.{replied-as, split-few}
+use Rattle.c_reply.proofs.Replies.{replied-as}
+use Rattle.c_questions.proofs.ReportCounts.{split-few}
 use Rattle.c_questions.proofs.SplitSize.{every-split-small}
 use Rattle.c_questions.proofs.hocsimbur_split.Statement.{statement}
 use Rattle.c_questions.proofs.hocsimbur_split.Tie as tie

@@ -1,0 +1,37 @@
+// The answers of operations as a count or a refusal.
+ghost use mathlib.Core.Path.{_≡_};
+ghost use Rattle.c_counts.specs.Counts.{stationCount, pairCount, byteCount};
+use conversion::Carried;
+use release::Released;
+use sheet::Answer;
+use stations::Summed;
+
+// The count of stations.
+pub fn station_count(summed: Summed) -> Answer
+    ensures { λ r. ⌜ r ≡ stationCount summed ⌝ }
+{
+    match summed {
+        Summed::Summary(_, stations) => Answer::Rows(stations),
+        Summed::Refused(number, line, column) => Answer::Refused(number, line, column),
+    }
+}
+
+// The count of pairs.
+pub fn pair_count(released: Released) -> Answer
+    ensures { λ r. ⌜ r ≡ pairCount released ⌝ }
+{
+    match released {
+        Released::Pairs(count) => Answer::Rows(count),
+        Released::Refused(number, line, column) => Answer::Refused(number, line, column),
+    }
+}
+
+// The count of bytes.
+pub fn byte_count(carried: Carried) -> Answer
+    ensures { λ r. ⌜ r ≡ byteCount carried ⌝ }
+{
+    match carried {
+        Carried::Bytes(count) => Answer::Rows(count),
+        Carried::Refused(number, line, column) => Answer::Refused(number, line, column),
+    }
+}

@@ -1,0 +1,107 @@
+-- What the three questions put in a part of their own, of a case within its bounds.
+use Prim.Native.Nat.{ℕ, zero, suc, _≤_}
+use mathlib.Core.Path.{_≡_, refl, sym, ap, _∙_}
+use mathlib.Core.List.{List, [], _∷_, _++_, append-nil}
+use native.Mathlib.Omega.{arith}
+use lib.IntN.{ℤ, pos}
+use lib.ListN.{length, drop, set}
+use lib.Seq.{drop-length}
+use mir.Syntax.{w64}
+use mir.Val.{SFits}
+use mir.Facts.{toZ-ofZ}
+use Rattle.interval.proofs.Bits.{read}
+use Rattle.text.proofs.Clash.{clash}
+use Rattle.case.specs.declared.Case.{Case}
+use Rattle.case.specs.Check.{recordJudged, recordAnswer}
+use Rattle.case.specs.Bounds.{Bounds}
+use Rattle.case.proofs.BoundsSound.{bounds-sound}
+use Rattle.row.specs.Row.{numbers}
+use Rattle.row.specs.Ends.{rowOf}
+use Rattle.margin.specs.declared.Compared.{Compared}
+use Rattle.margin.specs.declared.Compared.the-variants as compared
+use Rattle.margin.specs.Margin.{marginsOf}
+use Rattle.margin.specs.Meaning.{Right}
+use Rattle.margin.proofs.Right.{right-margins}
+use Rattle.working.specs.declared.Quantities.{Quantities}
+use Rattle.working.specs.declared.Worked.{Worked}
+use Rattle.working.specs.declared.Worked.the-variants as worked
+use Rattle.working.specs.Ends.{workingOf}
+use Rattle.working.specs.Working.{workingAnswer, RightWorked, WorkingAnswered}
+use Rattle.headroom.specs.declared.Room.{Room}
+use Rattle.headroom.specs.declared.Room.the-variants as room
+use Rattle.headroom.specs.Headroom as headroom
+use Rattle.c_line.specs.declared.Question.{Question}
+use Rattle.c_line.specs.declared.Question.the-variants.{Margins, Working, Headroom}
+use Rattle.c_line.specs.Line.{widthOf, workingNumbers, MarginsLine, WorkingLine, RightFault, LineOf}
+
+-- as many numbers as a part has take the place of all of it
+pub put-whole : (zs part : List ℤ) → length part ≡ length zs → zs ++ drop (length zs) part ≡ zs
+put-whole zs part e =
+    ap (λ (k : ℕ). zs ++ drop k part) (sym e) ∙ ap (λ (l : List ℤ). zs ++ l) (drop-length part) ∙ append-nil zs
+
+-- two numbers that code holds as bits
+pub read-both : {x y : ℤ} → SFits w64 x → SFits w64 y → _≡_ {A = List ℤ} (read x ∷ read y ∷ []) (x ∷ y ∷ [])
+read-both f g = rw (toZ-ofZ f, toZ-ofZ g)
+
+-- the one number of a part
+pub set-one : (part : List ℤ) (z : ℤ) → length part ≡ 1 → set part 0 z ≡ z ∷ []
+set-one [] z e = clash e
+set-one (a ∷ []) z e = refl
+set-one (a ∷ b ∷ part) z e = absurd (omega arith)
+
+module _ {c : Case} (b : Bounds c) where
+  -- a row has margins
+  pub margins-some : marginsOf (numbers (rowOf c)) ≡ compared.None → ⊥
+  unfolding Right
+  margins-some e = rw e at (right-margins b)
+
+  pub margins-line : {r : Compared} {mesh step : ℤ} {part : List ℤ} → r ≡ marginsOf (numbers (rowOf c)) → r ≡ compared.Margins mesh step
+      → part ≡ mesh ∷ step ∷ [] → MarginsLine c part
+  margins-line e f p = record { mesh = _; step = _; is = p; margins = sym e ∙ f }
+
+  -- a case within its bounds is worked
+  is-worked : workingAnswer c ≡ worked.Is (workingOf c)
+  unfolding workingAnswer recordAnswer
+  is-worked = rw (bounds-sound b)
+
+  pub working-some : {r : Worked} {number line column : ℕ} → WorkingAnswered c r → r ≡ worked.Refused number line column → ⊥
+  working-some w e = let z = sym e ∙ w .answer ∙ is-worked in clash cc
+
+  pub working-line : {r : Worked} {w : Quantities} {part : List ℤ} → WorkingAnswered c r → r ≡ worked.Is w → part ≡ workingNumbers w
+      → WorkingLine c part
+  unfolding RightWorked
+  working-line {r} {w} a e p =
+      let z : w ≡ workingOf c = let q = sym e ∙ a .answer ∙ is-worked in cc in
+      record { is = p ∙ ap workingNumbers z; right = rw (← z) (rw e at (a .right)) }
+
+  -- its headroom, which is above 0, or 0 for none
+  some-fault : (F : ℕ) → 1 ≤ F → headroom.Headroom c F → RightFault c F
+  unfolding RightFault
+  some-fault zero l h = absurd (omega arith)
+  some-fault (suc k) l h = h
+
+  pub up-to-fault : {r : Room} {F : ℕ} → headroom.HeadroomAnswered c r → r ≡ room.UpTo F → RightFault c F
+  unfolding headroom.RightRoom
+  up-to-fault {r} {F} a e = let h : headroom.Headroom c F = rw e at (a .right) in some-fault F (omega (arith, h .in-range .low)) h
+
+  pub no-fault : {r : Room} → headroom.HeadroomAnswered c r → r ≡ room.None → RightFault c 0
+  unfolding headroom.RightRoom RightFault
+  no-fault a e = rw e at (a .right)
+
+  pub headroom-some : {A : Type 0} {r : Room} {number line column : ℕ} → headroom.HeadroomAnswered c r → r ≡ room.Refused number line column → A
+  unfolding headroom.checked
+  headroom-some a e = let z = sym (bounds-sound b) ∙ a .checks ∙ ap headroom.checked e in clash cc
+
+-- ---- what is asked
+
+pub line-length : (question : Question) (c : Case) (part : List ℤ) → LineOf question c part → length part ≡ widthOf question
+unfolding LineOf widthOf workingNumbers
+line-length Margins c part l = ap length (l .is)
+line-length Working c part l = ap length (l .is)
+line-length Headroom c part l = ap length (l .is)
+
+pub width-most : (question : Question) → widthOf question ≤ 30
+unfolding widthOf
+width-most Margins = omega arith
+width-most Working = omega arith
+width-most Headroom = omega arith

@@ -1,0 +1,59 @@
+-- The numbers of one value line, by what is asked: margins, working, headroom.
+use Prim.Native.Nat.{ℕ, zero, suc}
+use mathlib.Core.Path.{_≡_}
+use mathlib.Core.List.{List, [], _∷_}
+use lib.IntN.{ℤ, pos}
+use Rattle.case.specs.declared.Case.{Case}
+use Rattle.row.specs.Row.{numbers}
+use Rattle.row.specs.Ends.{rowOf}
+use Rattle.margin.specs.declared.Compared.the-variants as compared
+use Rattle.margin.specs.Margin.{marginsOf}
+use Rattle.working.specs.declared.Quantities.{Quantities}
+use Rattle.working.specs.Ends.{workingOf}
+use Rattle.working.specs.Working.{RightWorking}
+use Rattle.headroom.specs.Headroom as room
+use Rattle.c_line.specs.declared.Question.{Question}
+use Rattle.c_line.specs.declared.Question.the-variants.{Margins, Working, Headroom}
+
+-- how many numbers a line has
+unfoldable pub widthOf : Question → ℕ
+widthOf Margins = 2
+widthOf Working = 30
+widthOf Headroom = 1
+
+-- the margins of the case's row: of the mesh voltage, then of the step voltage
+pub record MarginsLine (c : Case) (part : List ℤ) : Type 0 where
+  pub mesh : ℤ
+  pub step : ℤ
+  pub is : part ≡ mesh ∷ step ∷ []
+  pub margins : marginsOf (numbers (rowOf c)) ≡ compared.Margins mesh step
+
+-- the lower and the upper end of each quantity, in the order of the working
+unfoldable pub workingNumbers : Quantities → List ℤ
+workingNumbers w =
+    w .cs .lower ∷ w .cs .upper ∷ w .«root_time» .lower ∷ w .«root_time» .upper ∷ w .side .lower ∷ w .side .upper
+    ∷ w .lc .lower ∷ w .lc .upper ∷ w .lr .lower ∷ w .lr .upper ∷ w .lt .lower ∷ w .lt .upper
+    ∷ w .lm .lower ∷ w .lm .upper ∷ w .ls .lower ∷ w .ls .upper ∷ w .n .lower ∷ w .n .upper
+    ∷ w .ki .lower ∷ w .ki .upper ∷ w .kii .lower ∷ w .kii .upper ∷ w .kh .lower ∷ w .kh .upper
+    ∷ w .km .lower ∷ w .km .upper ∷ w .ks .lower ∷ w .ks .upper ∷ w .driven .lower ∷ w .driven .upper ∷ []
+
+-- the working of the case, which is right
+pub record WorkingLine (c : Case) (part : List ℤ) : Type 0 where
+  pub is : part ≡ workingNumbers (workingOf c)
+  pub right : RightWorking c (workingOf c)
+
+-- the greatest fault current at which the case, all else equal, is answered safe, or 0 where none is
+unfoldable pub RightFault : Case → ℕ → Type 0
+RightFault c zero = room.NoHeadroom c
+RightFault c (suc k) = room.Headroom c (suc k)
+
+pub record HeadroomLine (c : Case) (part : List ℤ) : Type 0 where
+  pub fault : ℕ
+  pub is : part ≡ pos fault ∷ []
+  pub right : RightFault c fault
+
+-- some numbers are those of a case
+unfoldable pub LineOf : Question → Case → List ℤ → Type 0
+LineOf Margins c part = MarginsLine c part
+LineOf Working c part = WorkingLine c part
+LineOf Headroom c part = HeadroomLine c part

@@ -1,0 +1,147 @@
+// The numbers of one value line, by what is asked.
+ghost use mathlib.Core.Path.{_≡_};
+ghost use lib.ListN.{length};
+ghost use Rattle.case.specs.Bounds.{Bounds};
+ghost use Rattle.c_line.specs.Line.{widthOf, workingNumbers, MarginsLine, WorkingLine, RightFault, HeadroomLine, LineOf};
+use c_reply::put_first;
+use case::Case;
+use headroom::Room;
+use headroom::headroom;
+use margin::Compared;
+use margin::margins;
+use row::ROW_LENGTH;
+use row::put_row;
+use row::work_row;
+use working::Quantities;
+use working::Worked;
+use working::working;
+
+pub enum Question {
+    Margins,
+    Working,
+    Headroom,
+}
+
+const MARGIN_NUMBERS: usize = 2;
+
+const WORKING_NUMBERS: usize = 30;
+
+const HEADROOM_NUMBERS: usize = 1;
+
+// How many numbers a value line has.
+pub fn width(question: Question) -> usize
+    ensures { λ r. ⌜ r ≡ widthOf question ⌝ }
+{
+    match question {
+        Question::Margins => MARGIN_NUMBERS,
+        Question::Working => WORKING_NUMBERS,
+        Question::Headroom => HEADROOM_NUMBERS,
+    }
+}
+
+// The margins of the case's row.
+fn put_margins(c: Case, part: &mut [i64])
+    requires { ⌜ Bounds c ⌝ }
+    requires { ⌜ length (now part) ≡ 2 ⌝ }
+    ensures { λ _. ⌜ MarginsLine c (now (part .exit)) ⌝ }
+{
+    let mut row = [0i64; ROW_LENGTH];
+    put_row(work_row(c), &mut row);
+    match margins(&row) {
+        Compared::Margins(mesh, step) => {
+            let zs = [mesh, step];
+            put_first(&zs, part);
+        }
+        // no row has none
+        Compared::None => {}
+    }
+}
+
+// The ends in the order of the quantities.
+fn working_numbers(w: Quantities) -> [i64; WORKING_NUMBERS]
+    ensures { λ r. ⌜ r ≡ workingNumbers w ⌝ }
+{
+    [
+        w.cs.lower,
+        w.cs.upper,
+        w.root_time.lower,
+        w.root_time.upper,
+        w.side.lower,
+        w.side.upper,
+        w.lc.lower,
+        w.lc.upper,
+        w.lr.lower,
+        w.lr.upper,
+        w.lt.lower,
+        w.lt.upper,
+        w.lm.lower,
+        w.lm.upper,
+        w.ls.lower,
+        w.ls.upper,
+        w.n.lower,
+        w.n.upper,
+        w.ki.lower,
+        w.ki.upper,
+        w.kii.lower,
+        w.kii.upper,
+        w.kh.lower,
+        w.kh.upper,
+        w.km.lower,
+        w.km.upper,
+        w.ks.lower,
+        w.ks.upper,
+        w.driven.lower,
+        w.driven.upper,
+    ]
+}
+
+// The working of the case.
+fn put_working(c: Case, part: &mut [i64])
+    requires { ⌜ Bounds c ⌝ }
+    requires { ⌜ length (now part) ≡ 30 ⌝ }
+    ensures { λ _. ⌜ WorkingLine c (now (part .exit)) ⌝ }
+{
+    match working(c) {
+        Worked::Is(w) => {
+            let zs = working_numbers(w);
+            put_first(&zs, part);
+        }
+        // a case within its bounds is not refused
+        Worked::Refused(_, _, _) => {}
+    }
+}
+
+// The greatest fault current at which a case within its bounds is answered safe, or 0.
+fn greatest_fault(c: Case) -> u32
+    requires { ⌜ Bounds c ⌝ }
+    ensures { λ r. ⌜ RightFault c r ⌝ }
+{
+    match headroom(c) {
+        Room::UpTo(fault) => fault,
+        Room::None => 0,
+        // a case within its bounds is not refused
+        Room::Refused(_, _, _) => 0,
+    }
+}
+
+fn put_headroom(c: Case, part: &mut [i64])
+    requires { ⌜ Bounds c ⌝ }
+    requires { ⌜ length (now part) ≡ 1 ⌝ }
+    ensures { λ _. ⌜ HeadroomLine c (now (part .exit)) ⌝ }
+{
+    let fault = greatest_fault(c);
+    part[0] = fault as i64;
+}
+
+// What is asked of a case, in its own part of the array.
+pub fn put_line(question: Question, c: Case, part: &mut [i64])
+    requires { ⌜ Bounds c ⌝ }
+    requires { ⌜ length (now part) ≡ widthOf question ⌝ }
+    ensures { λ _. ⌜ LineOf question c (now (part .exit)) ⌝ }
+{
+    match question {
+        Question::Margins => put_margins(c, part),
+        Question::Working => put_working(c, part),
+        Question::Headroom => put_headroom(c, part),
+    }
+}

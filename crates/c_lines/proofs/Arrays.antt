@@ -1,0 +1,90 @@
+-- The claim about a sheet and an array, from the answer and the numbers of each line; over the question, and so over width and numbers.
+use Prim.Native.Nat.{ℕ, _+_, _*_, _-_, _≤_, _<_, _^_}
+use mathlib.Core.Path.{_≡_, refl, sym, _∙_}
+use mathlib.Core.Bool.{Bool, true, false, cond}
+use mathlib.Core.List.{List, []}
+use native.Mathlib.Nat.{mul-le-mul}
+use native.Mathlib.Omega.{arith}
+use lib.Dec.{ltb}
+use lib.IntN.{ℤ}
+use lib.ListN.{length, getD}
+use borrow.Author.Tests.{lt-ltb, le-ltb}
+use borrow.Rule.Slice.PartMut.{putMid}
+use Rattle.tables.specs.Parts as parts
+use Rattle.tables.proofs.Writing.{put-written-as, part-before}
+use Rattle.tables.proofs.Filling.{filled-step}
+use Rattle.case.specs.declared.Case.{Case}
+use Rattle.case.specs.Case.{caseOf}
+use Rattle.case.specs.Columns.{columns}
+use Rattle.judgement.specs.declared.Judgement.{Judgement}
+use Rattle.judgement.specs.declared.Judgement.the-variants as judged
+use Rattle.judgement.specs.Limits.{mostLines}
+use Rattle.judgement.specs.Sheet.{judgement}
+use Rattle.judgement.proofs.Accepted.{accepted}
+use Rattle.sheet.specs.declared.Answer.{Answer}
+use Rattle.sheet.specs.declared.Answer.the-variants.{Rows, Refused}
+use Rattle.sheet.specs.Answer.{cases}
+use Rattle.c_entry.specs.Room.{Few}
+use Rattle.c_line.specs.declared.Question.{Question}
+use Rattle.c_line.specs.Line.{widthOf, LineOf}
+use Rattle.c_line.proofs.LineParts.{line-length, width-most}
+use Rattle.c_lines.specs.Lines.{linesBy, linesAnswer, Filled, ArrayAfter, LinesAnswered}
+
+-- ---- line after line
+
+-- the numbers of the first n lines are written, and nothing past them
+abbrev pub FilledTo : Question → List Case → ℕ → List ℤ → List ℤ → Type 0
+FilledTo question cs n before after =
+    parts.Filled (widthOf question) (λ i part. LineOf question (getD cs i (caseOf [])) part) n before after
+
+-- `wide` is the width as code has it
+module _ (question : Question) {wide : ℕ} (is : wide ≡ widthOf question) where
+  -- part i is within the array
+  pub part-within : {n i size : ℕ} → widthOf question * n ≤ size → i < n → wide * i + wide ≤ size
+  part-within {n} {i} h l = rw is (omega (arith, part-before (widthOf question) n i l))
+
+  -- one line more
+  pub line-filled : (cs : List Case) {i : ℕ} {before t : List ℤ} (part : List ℤ) → FilledTo question cs i before t → wide * i + wide ≤ length t
+      → LineOf question (getD cs i (caseOf [])) part
+      → FilledTo question cs (i + 1) before (putMid (wide * i) (wide * i + wide - wide * i) t part)
+  line-filled cs {i} {before} {t} part f h l =
+      filled-step f (put-written-as wide i t part is h (line-length question (getD cs i (caseOf [])) part l)) l
+
+  -- the numbers of the most lines are few
+  pub numbers-few : {n : ℕ} → n ≤ mostLines → wide * n < 2 ^ 64
+  numbers-few h = rw is (omega (arith, mul-le-mul (width-most question) h))
+
+-- ---- the answer
+
+module _ {j : Judgement} {question : Question} (s : List ℕ) (t : List ℤ) (judged-is : j ≡ judgement columns s) where
+  -- refused by its judgement
+  pub answered-refused : {k l c : ℕ} → j ≡ judged.Refused k l c → LinesAnswered question s t t (Refused k l c)
+  unfolding ArrayAfter linesAnswer linesBy
+  answered-refused e = record { answer-is = rw (← judged-is, e); array-is = refl }
+
+  -- an array too short
+  pub answered-short : {n wide : ℕ} → wide ≡ widthOf question → j ≡ judged.Lines n → length t < wide * n
+      → LinesAnswered question s t t (Refused 8 0 0)
+  unfolding ArrayAfter linesAnswer linesBy
+  answered-short {n} is e h =
+      record { answer-is = rw (← judged-is, e, ← is, lt-ltb _ _ h); array-is = refl }
+
+  pub answered-lines : {n wide : ℕ} {u : List ℤ} → wide ≡ widthOf question → j ≡ judged.Lines n → wide * n ≤ length t
+      → Filled question (cases s) t u → LinesAnswered question s t u (Rows n)
+  unfolding ArrayAfter linesAnswer linesBy
+  answered-lines {n} is e h f =
+      record { answer-is = rw (← judged-is, e, ← is, le-ltb _ _ h); array-is = f }
+
+-- ---- the count has 64 signed bits
+
+pub lines-few : {question : Question} {s : List ℕ} {before after : List ℤ} {a : Answer} → LinesAnswered question s before after a → Few a
+unfolding linesAnswer linesBy Few
+lines-few {question} {s} {before} h = rw (h .answer-is) (go (judgement columns s) refl)
+  where
+    go : (j : Judgement) → judgement columns s ≡ j → Few (linesBy (widthOf question) (length before) j)
+    go (judged.Refused k l c) e = tt
+    go (judged.Lines n) e = room (ltb (length before) (widthOf question * n))
+      where
+        room : (b : Bool) → Few (cond b (Refused 8 0 0) (Rows n))
+        room true = tt
+        room false = omega (arith, accepted columns s n e .most)

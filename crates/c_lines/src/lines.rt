@@ -1,0 +1,67 @@
+// The numbers of every value line of a sheet, one line after the other.
+ghost use mathlib.Core.Path.{_≡_};
+ghost use Prim.Native.Nat.{_≤_, _*_};
+ghost use lib.ListN.{length};
+ghost use Rattle.case.specs.Columns.{nameCount};
+ghost use Rattle.judgement.specs.Limits.{mostLines};
+ghost use Rattle.sheet.specs.Rows.{StoredBounds, storedCases};
+ghost use Rattle.c_line.specs.Line.{widthOf};
+ghost use Rattle.c_lines.specs.Lines.{Filled, LinesAnswered};
+use c_line::Question;
+use c_line::put_line;
+use c_line::width;
+use case::Form;
+use case::NAMES;
+use case::case_of;
+use judgement::Judgement;
+use judgement::VALUES;
+use judgement::read;
+use sheet::Answer;
+
+// The refusal of an array without room for the numbers.
+const ARRAY_SHORT: u32 = 8;
+
+// The numbers of n lines of values, which are sound.
+fn write_lines(question: Question, values: &[u32], n: usize, numbers: &mut [i64])
+    requires { ⌜ StoredBounds (now values) n ⌝ }
+    requires { ⌜ nameCount * n ≤ length (now values) ⌝ }
+    requires { ⌜ widthOf question * n ≤ length (now numbers) ⌝ }
+    ensures { λ _. ⌜ Filled question (storedCases (now (values .entry)) n) (now (numbers .entry)) (now (numbers .exit)) ⌝ }
+{
+    let wide = width(question);
+    let mut i: usize = 0;
+    while i < n {
+        let a = NAMES * i;
+        let b = a + NAMES;
+        let c = case_of(&values[a..b]);
+        let from = wide * i;
+        let to = from + wide;
+        put_line(question, c, &mut numbers[from..to]);
+        i += 1;
+    }
+}
+
+// The answer to a sheet, and the numbers of its lines in the array, by way of a store for the values of the most lines.
+fn fill_lines(question: Question, s: &[u8], values: &mut [u32], numbers: &mut [i64]) -> Answer
+    requires { ⌜ length (now values) ≡ nameCount * mostLines ⌝ }
+    ensures { λ r. ⌜ LinesAnswered question (now (s .entry)) (now (numbers .entry)) (now (numbers .exit)) r ⌝ }
+{
+    match read(Form::Present, s, values) {
+        Judgement::Refused(number, line, column) => Answer::Refused(number, line, column),
+        Judgement::Lines(n) => {
+            if numbers.len() < width(question) * n {
+                return Answer::Refused(ARRAY_SHORT, 0, 0);
+            }
+            write_lines(question, values, n, numbers);
+            Answer::Rows(n)
+        }
+    }
+}
+
+// The answer to a sheet, and the numbers of its lines in the array.
+pub fn answer_lines(question: Question, s: &[u8], numbers: &mut [i64]) -> Answer
+    ensures { λ r. ⌜ LinesAnswered question (now (s .entry)) (now (numbers .entry)) (now (numbers .exit)) r ⌝ }
+{
+    let mut values = [0u32; VALUES];
+    fill_lines(question, s, &mut values, numbers)
+}

@@ -1,0 +1,26 @@
+-- The operations that report numbers of their own, asked by a program in C: the numbers in an array that the caller lends, the count told
+-- as one number with a place.
+use Prim.Native.Nat.{ℕ}
+use mathlib.Core.List.{List}
+use lib.IntN.{ℤ}
+use Rattle.sheet.specs.declared.Answer.{Answer}
+use Rattle.readings.specs.declared.Sounding.{Sounding}
+use Rattle.readings.specs.Answer as readings
+use Rattle.staged.specs.Answer as staged
+use Rattle.c_entry.specs.Told.{Told}
+use Rattle.c_reply.specs.Reply.{Replied, soilReply, splitReply}
+
+-- Two wrong programs: one that puts the greatest before the least breaks `numbers`; one that answers 6 breaks `told`.
+pub record SoilTold (list : List ℕ) (before after : List ℤ) (place pointed : List ℕ) (r : ℤ) : Type 0 where
+  pub answer : Sounding
+  pub count : Answer
+  pub asked : readings.Answered list answer
+  pub numbers : Replied (soilReply answer) before after count
+  pub told : Told count place pointed r
+
+-- Two wrong programs: one that puts the quadrature part first breaks `numbers`; one that answers the count of the test's numbers breaks
+-- `told`.
+pub record SplitTold (parts before after : List ℤ) (place pointed : List ℕ) (r : ℤ) : Type 0 where
+  pub count : Answer
+  pub numbers : Replied (splitReply (staged.answer parts)) before after count
+  pub told : Told count place pointed r
