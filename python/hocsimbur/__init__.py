@@ -1,0 +1,1 @@
+"""Hocsimbur for people: reports, refusals in words and what to change next, over the proved library."""
