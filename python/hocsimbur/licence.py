@@ -1,0 +1,109 @@
+"""A licence: which stations in which seasons are to be released, from a text of three columns, station, name and seasons.
+
+The columns stand in any order; the seasons of a station are parted by spaces, as `1 2 4`.
+A name is any printable text on one line; one with a comma stands in double quotes."""
+from __future__ import annotations
+
+import csv
+import io
+from dataclasses import dataclass
+from typing import List, Optional, Tuple
+
+COLUMNS = ("station", "name", "seasons")
+ALL_SEASONS = (1, 2, 3, 4)
+MOST = 256  # pairs of a station and its seasons that the core takes
+
+
+class LicenceRefused(Exception):
+    """A licence that says something else than it must: the message tells where, what is there and what is allowed."""
+
+
+@dataclass(frozen=True)
+class Licensed:
+    """A station of the licence, its name or '', and its seasons, rising."""
+
+    station: int
+    name: str
+    seasons: Tuple[int, ...]
+
+    @property
+    def mask(self) -> int:
+        """The seasons as the core takes them: seasons 1 to 4 count 1, 2, 4 and 8."""
+        return sum(1 << (season - 1) for season in self.seasons)
+
+
+@dataclass(frozen=True)
+class Licence:
+    """The stations of a licence, in its order."""
+
+    stations: Tuple[Licensed, ...]
+
+
+def _refuse(line: Optional[int], said: str) -> LicenceRefused:
+    return LicenceRefused(f"licence line {line}{said}" if line else f"licence{said}")
+
+
+def _lines(text: bytes) -> List[Tuple[int, List[str]]]:
+    """The lines that are not blank, with their numbers and cells."""
+    try:
+        decoded = text.decode("utf-8-sig")
+    except UnicodeDecodeError as error:
+        raise _refuse(text[:error.start].count(b"\n") + 1, ": its bytes are no UTF-8; save the licence as UTF-8") from None
+    reader = csv.reader(io.StringIO(decoded, newline=""), strict=True)
+    found = []
+    try:
+        for cells in reader:
+            if any(cell.strip() for cell in cells):
+                found.append((reader.line_num, [cell.strip() for cell in cells]))
+    except csv.Error as error:
+        raise _refuse(reader.line_num, f": {error}") from None
+    return found
+
+
+def _order(head: Tuple[int, List[str]]) -> List[int]:
+    """The places of the three columns."""
+    line, names = head
+    if sorted(names) != sorted(COLUMNS):
+        raise _refuse(line, f": the names are {','.join(names)}, not station,name,seasons")
+    return [names.index(column) for column in COLUMNS]
+
+
+def _station(line: int, cell: str) -> int:
+    if not (cell.isascii() and cell.isdigit() and len(cell) <= 5 and 1 <= int(cell) <= 65535):
+        raise _refuse(line, f", station: '{cell}' is not a number in 1..65535")
+    return int(cell)
+
+
+def _seasons(line: int, cell: str) -> Tuple[int, ...]:
+    parts = cell.split()
+    if not parts:
+        raise _refuse(line, ", seasons: none is named; write for example 1 2 3 4")
+    for part in parts:
+        if part not in ("1", "2", "3", "4"):
+            raise _refuse(line, f", seasons: '{part}' is not 1, 2, 3 or 4; part seasons by spaces")
+    if len(set(parts)) < len(parts):
+        raise _refuse(line, f", seasons: '{cell}' names a season twice")
+    return tuple(sorted(int(part) for part in parts))
+
+
+def read(text: bytes) -> Licence:
+    """The licence that a text has, or `LicenceRefused`."""
+    lines = _lines(text)
+    if not lines:
+        raise _refuse(None, ": it is empty; its first line is station,name,seasons")
+    order, stations = _order(lines[0]), []
+    places = {}
+    for line, cells in lines[1:]:
+        if len(cells) != len(COLUMNS):
+            raise _refuse(line, f": {len(cells)} cells and not 3; a name with a comma stands in double quotes")
+        station, name, seasons = (cells[place] for place in order)
+        number = _station(line, station)
+        if not name.isprintable():
+            raise _refuse(line, ", name: it has a character that cannot be printed")
+        if number in places:
+            raise _refuse(line, f", station: {number} stands in line {places[number]} too")
+        places[number] = line
+        stations.append(Licensed(number, name, _seasons(line, seasons)))
+    if not 1 <= len(stations) <= MOST:
+        raise _refuse(None, f": it names {len(stations)} stations; 1 to {MOST} are allowed")
+    return Licence(tuple(stations))
