@@ -9,6 +9,7 @@ from typing import Dict, List, NamedTuple, Optional, Tuple, Union
 
 from . import asking, core, sheets
 from .licence import ALL_SEASONS, Licence, Licensed
+from .names import NAMES
 
 # the columns that describe the yard, on which the lines of a station must agree, as docs/manual.md lists them
 YARD = ("across", "along", "space", "depth", "dia", "rods", "rodlen", "place", "metal")
@@ -194,9 +195,8 @@ def kcmil(diameter: int) -> int:
 
 
 def differing(lines: Tuple[Line, ...]) -> Tuple[str, ...]:
-    """The columns, beside station and season, in which lines differ."""
-    names = [name for name in lines[0].case if name not in ("station", "season")] if lines else []
-    return tuple(name for name in names if len({line.case[name] for line in lines}) > 1)
+    """The columns, beside station and season, in which lines differ, in the order of the table of names."""
+    return tuple(name.name for name in NAMES[2:] if len({line.case[name.name] for line in lines}) > 1)
 
 
 def missing(licensed: Licensed, lines: Tuple[Line, ...]) -> Tuple[int, ...]:

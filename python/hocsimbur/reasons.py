@@ -1,0 +1,219 @@
+"""The sentences about a station: its decision, its reasons to hold, its nearest limit, its greatest fault current, its wire and cautions.
+
+Each stands here once, for the command line and the report alike; none is cut, and none decides anything.
+They are plain text: who writes a page escapes them."""
+from __future__ import annotations
+
+from typing import List, NamedTuple, Tuple
+
+from . import decimals, labels
+from .asking import FAULT_MOST
+from .core import Pair, Verdict
+from .decimals import NO_BREAK as NB
+from .decimals import grouped
+from .decision import BELOW, NOT_PARTED, Compared, Missing, OtherYard, Portfolio, Reason, SmallWire, Station, Undecided, Unsafe, kcmil
+from .labels import listed
+
+
+class Told(NamedTuple):
+    """A reason to hold in words: what it is, and its detail or ''."""
+
+    head: str
+    detail: str
+
+
+def share(per_mille: int) -> str:
+    """The size of a margin: tenths of a percent; from 1,000 % whole percent, rounded up."""
+    if per_mille >= 10000:
+        return f"{grouped(-(-per_mille // 10))}{NB}%"
+    return f"{decimals.percent(per_mille)}{NB}%"
+
+
+def margin(one: Compared) -> str:
+    """A margin in words: '18.0 % above', '7.5 % below', 'under 0.1 % below', 'not parted'."""
+    if one.side == NOT_PARTED:
+        return NOT_PARTED
+    if one.side == BELOW and one.margin == 0:
+        return f"under 0.1{NB}% below"
+    return f"{share(one.margin)} {one.side}"
+
+
+def _above(one: Compared) -> str:
+    return f"{one.kind} {share(one.margin)} above tolerable {one.limit}"
+
+
+def _not_parted(one: Compared) -> str:
+    return f"{one.kind} and tolerable {one.limit} not parted"
+
+
+def _size(reason: SmallWire) -> str:
+    return (f"{grouped(reason.needed)}{NB}kcmil needed, {labels.tenths(reason.diameter)}{NB}mm solid has "
+            f"{grouped(reason.own)}")
+
+
+def _no_line(reason: Missing) -> str:
+    if reason.no_line:
+        return "no season has a line"
+    if len(reason.seasons) == 1:
+        return f"season {reason.seasons[0]} has no line"
+    return f"seasons {listed(reason.seasons)} have no line"
+
+
+def told(reason: Reason) -> Told:
+    """A reason as the report tells it."""
+    if isinstance(reason, Unsafe):
+        return Told(f"season {reason.season} unsafe", listed([_above(one) for one in reason.above]))
+    if isinstance(reason, Undecided):
+        return Told(f"season {reason.season} undecided", listed([_not_parted(one) for one in reason.not_parted]))
+    if isinstance(reason, Missing):
+        return Told(_no_line(reason), "")
+    if isinstance(reason, OtherYard):
+        return Told("yard differs between lines", labels.columns(reason.columns))
+    return Told("wire too small", _size(reason))
+
+
+def _short(reason: Reason) -> str:
+    """A reason on a line of the command release."""
+    if isinstance(reason, Unsafe):
+        return f"season {reason.season}: " + listed([_above(one) for one in reason.above])
+    if isinstance(reason, Undecided):
+        return f"season {reason.season}: " + listed([_not_parted(one) for one in reason.not_parted])
+    if isinstance(reason, Missing):
+        if reason.no_line:
+            return "no line for any season"
+        return f"no line for season{'s' if len(reason.seasons) > 1 else ''} " + ", ".join(str(season) for season in reason.seasons)
+    if isinstance(reason, OtherYard):
+        return "yard differs between lines: " + labels.columns(reason.columns)
+    return "wire: " + _size(reason)
+
+
+def sentence(station: Station) -> str:
+    """What the command release says after the decision: all reasons to hold, or seasons, nearest limit and headroom of a released one."""
+    if not station.released:
+        return "; ".join(_short(reason) for reason in station.reasons).replace(NB, " ")
+    count, nearest = len(station.seasons), station.worst.nearest
+    said = (f"{count} season{'s' if count > 1 else ''}; nearest limit {margin(nearest)} ({nearest.limit}, season {station.worst.season}); "
+            f"safe up to {grouped(station.fault)}{NB}A")
+    return said.replace(NB, " ")
+
+
+def decision(station: Station) -> Tuple[str, str]:
+    """The decision in a sentence, as its first word and the rest."""
+    if not station.released:
+        parts = [one.head + (f" ({one.detail})" if one.detail else "") for one in map(told, station.reasons)]
+        return "Held:", "; ".join(parts) + "."
+    count = len(station.seasons)
+    every = {1: "the one season", 2: "both seasons"}.get(count, f"all {count} seasons")
+    line = station.worst
+    return "Released:", (f"{every} of the licence {'is' if count == 1 else 'are'} present and safe; nearest is {line.nearest.limit} in season "
+                         f"{line.season}, {margin(line.nearest)}.")
+
+
+def nearest(station: Station) -> Told:
+    """The nearest limit on the first page: what is told in bold, and the rest."""
+    if not station.lines:
+        return Told("", "no line, nothing to compare")
+    one = station.worst.nearest
+    between = "from " if one.side == NOT_PARTED else ""
+    return Told(margin(one), f"{between}{one.limit}, season {station.worst.season}")
+
+
+def now(station: Station) -> str:
+    """The fault current of the lines: 'now 4,100 A', 'now up to 14,100 A'."""
+    most = max(line.case["fault"] for line in station.lines)
+    return f"now {'up to ' if 'fault' in station.differs else ''}{grouped(most)}{NB}A"
+
+
+def greatest(station: Station) -> str:
+    """The greatest fault current that is still safe, in short."""
+    if station.fault == 0:
+        return "none"
+    return f"{'at most ' if station.missing else ''}{grouped(station.fault)}{NB}A{' or more' if station.fault == FAULT_MOST else ''}"
+
+
+def wire_to(station: Station) -> int:
+    """The greatest fault current in A at which the wire of every line is enough, or 0."""
+    return min(line.wire_to for line in station.lines)
+
+
+def _seasons(numbers: List[int]) -> str:
+    return ("season " if len(numbers) == 1 else "seasons ") + listed(numbers)
+
+
+def current(station: Station) -> str:
+    """The greatest fault current in a sentence."""
+    by = _seasons([line.season for line in station.lines if line.headroom == station.fault])
+    if station.fault == 0:
+        said = f"No fault current in range is safe in {by}"
+    elif station.fault == FAULT_MOST:
+        said = f"Safe up to {grouped(FAULT_MOST)}{NB}A, the end of the range{', where there is a line' if station.missing else ''}"
+    else:
+        said = f"Greatest fault current still safe: {greatest(station)}, set by {by}"
+    wire = wire_to(station)
+    tail = ""
+    if wire < station.fault:
+        tail = f"; the wire is enough to {grouped(wire)}{NB}A" if wire else "; the wire is enough at no fault current in range"
+    return f"{said} ({now(station)}){tail}."
+
+
+def differences(station: Station) -> str:
+    """What differs between the seasons; where it is only the soil, that the driest decides; '' for fewer than two lines."""
+    names = station.differs
+    if len(station.lines) < 2:
+        return ""
+    there = " that have a line" if station.missing else ""
+    if not names:
+        return f"Nothing differs between the seasons{there}."
+    if names == ("soil",):
+        driest = max(line.case["soil"] for line in station.lines)
+        by = _seasons([line.season for line in station.lines if line.case["soil"] == driest])
+        return f"Only the soil differs between the seasons{there}: the driest, {by} with {grouped(driest)}{NB}Ω·m, decides."
+    if "soil" in names:
+        return f"Not only the soil differs between the seasons{there}: {labels.columns(names)}."
+    return f"The soil is the same in the seasons{there}; what differs is {labels.columns(names)}."
+
+
+def _volts(pair: Pair) -> str:
+    return decimals.ends(pair, 3, 3) + f"{NB}V"
+
+
+def undecided(station: Station) -> List[str]:
+    """A sentence for each voltage that is not parted from its limit, with both pairs of ends."""
+    return [f"Season {line.season}: {one.kind} {_volts(one.voltage)} against tolerable {one.limit} {_volts(one.tolerable)}: neither safe nor "
+            f"unsafe may be said. A change that lowers the voltage, such as one rod more, can part them."
+            for line in station.lines for one in line.compared if one.side == NOT_PARTED]
+
+
+def wire(station: Station) -> str:
+    """What the wire needs and has, where it is enough: of the line that needs the largest."""
+    line = max(station.lines, key=lambda line: (line.row.kcmil, -line.case["dia"]))
+    return f"Wire: {_size(SmallWire(line.row.kcmil, line.case['dia'], kcmil(line.case['dia'])))}."
+
+
+def cautions(station: Station) -> List[str]:
+    """What a reader should know and what changes no decision."""
+    found = []
+    few = sorted({line.case["rods"] for line in station.lines if line.case["place"] == 1 and line.case["rods"] < 4})
+    if few:
+        rods = listed(few) + (" rod" if few == [1] else " rods")
+        found.append(f"{rods} at the perimeter cannot stand at all four corners, yet are counted as if rods stood all along it.")
+    if any(not line.small_wire and 4 * line.row.kcmil > 3 * kcmil(line.case["dia"]) for line in station.lines):
+        found.append("The wire is counted as a solid round: a stranded one of that diameter has about a quarter less, which may be too little here.")
+    return found
+
+
+def totals(portfolio: Portfolio) -> List[Told]:
+    """The counts of the first page: in bold, and after it."""
+    stations = portfolio.stations
+    lines = [line for station in stations for line in station.lines]
+    released = sum(station.released for station in stations)
+    counts = {verdict: sum(line.row.verdict == verdict for line in lines) for verdict in Verdict}
+    gone = sum(len(station.missing) for station in stations)
+    missing = f"{gone} season{'s' if gone > 1 else ''} of the licence without a line" if gone else "every season of the licence has a line"
+    return [
+        Told(f"{len(stations)} station{'s' if len(stations) > 1 else ''}:", " "),
+        Told(f"{released} released", ", "),
+        Told(f"{len(stations) - released} held", ". "),
+        Told("", f"{len(lines)} season line{'' if len(lines) == 1 else 's'}: {counts[Verdict.SAFE]} safe, {counts[Verdict.UNSAFE]} unsafe, "
+                 f"{counts[Verdict.UNDECIDED]} undecided; {missing}."),
+    ]
