@@ -1,0 +1,205 @@
+"""What is measured at a site: four-pin readings (wenner) and staged tests, read from a text or the command line, and their answers in words.
+
+Distances and resistances are in metres and ohms, currents in amperes; each is handed to the library in whole mm, milliohms and mA."""
+from __future__ import annotations
+
+import csv
+import io
+from typing import Dict, List, NamedTuple, Sequence, Tuple
+
+from . import core
+from .amounts import Unclear, decimal, parts, whole
+from .core import Pair, Soil, Split
+from .decimals import down, exact, grouped, up
+from .names import BY_NAME
+from .terminal import aligned, commas
+
+VARIED = 2  # how many times the least the greatest apparent resistivity may be before a warning; this package's own number
+
+
+class Part(NamedTuple):
+    """A current: its in-phase and quadrature part in mA, each between two whole numbers."""
+
+    in_phase: Pair
+    quadrature: Pair
+
+
+def _table(text: bytes, forms: Sequence[Tuple[str, ...]]) -> Tuple[Tuple[str, ...], List[Tuple[int, Dict[str, str]]]]:
+    """The form of a text and its lines by name, with their numbers; other columns, as a remark, are left alone."""
+    try:
+        lines = list(enumerate(csv.reader(io.StringIO(text.decode("utf-8-sig"), newline=""), strict=True), 1))
+    except (UnicodeDecodeError, csv.Error) as error:
+        raise Unclear(f"the text cannot be read: {error}") from None
+    filled = [(number, [cell.strip() for cell in cells]) for number, cells in lines if any(cell.strip() for cell in cells)]
+    allowed = " or ".join(",".join(form) for form in forms)
+    if not filled:
+        raise Unclear(f"the text is empty; its first line is {allowed}")
+    names = [name.lower() for name in filled[0][1]]
+    form = next((form for form in forms if all(names.count(name) == 1 for name in form)), None)
+    if form is None:
+        raise Unclear(f"line {filled[0][0]}: the names must be {allowed}; here they are {','.join(names)}")
+    for number, cells in filled[1:]:
+        if len(cells) != len(names):
+            raise Unclear(f"line {number}: there are {len(cells)} cells for {len(names)} names; write a decimal point, no comma")
+    return form, [(number, dict(zip(names, cells))) for number, cells in filled[1:]]
+
+
+def _at(where: str, made, *arguments):
+    """What is made of arguments; a place stands before what is unclear in them."""
+    try:
+        return made(*arguments)
+    except Unclear as error:
+        raise Unclear(f"{where}: {error}") from None
+
+
+# ---- four-pin readings
+
+def reading(metres: str, ohms: str) -> Tuple[int, int]:
+    """A reading of a distance in metres and a resistance in ohms, in mm and milliohms."""
+    distance = _at("distance", whole, metres, 1000, "m", "mm")
+    resistance = _at("resistance", whole, ohms, 1000, "Ω", "mΩ")
+    for called, number in (("distance", distance), ("resistance", resistance)):
+        if not 0 <= number < 2 ** 32:
+            raise Unclear(f"{called}: {exact(number, 3)} is far out of range")
+    return distance, resistance
+
+
+def pair(text: str) -> Tuple[str, str]:
+    """Two amounts parted by a comma."""
+    cells = text.split(",")
+    if len(cells) != 2:
+        raise Unclear(f"'{text}' is not two numbers parted by a comma; write a decimal point inside a number")
+    return cells[0], cells[1]
+
+
+def readings(text: bytes) -> List[Tuple[int, int]]:
+    """The readings of a text with the names metres and ohms."""
+    _, lines = _table(text, [("metres", "ohms")])
+    return [_at(f"line {number}", reading, line["metres"], line["ohms"]) for number, line in lines]
+
+
+def varied(soil: Soil) -> bool:
+    """Whether the greatest apparent resistivity is over VARIED times the least, for sure."""
+    return soil.greatest.lower > VARIED * soil.least.upper
+
+
+def soil_notes(soil: Soil) -> List[str]:
+    """What a reader of a soil must know: that it varies, or that no sheet takes it."""
+    notes = []
+    if varied(soil):
+        times = soil.greatest.lower * 10 // soil.least.upper
+        notes.append(
+            f"warning: the greatest apparent resistivity is over {down(times, 1, 1)} times the least. IEEE Std 80, 13.4: \"If there is a large "
+            "variation in measured apparent resistivity, the uniform soil model is unlikely to yield accurate results.\" "
+            f"The standard gives no number; this warning stands above {VARIED} times.")
+    own = BY_NAME["soil"]
+    if not own.low <= soil.soil <= own.high:
+        notes.append(f"note: {grouped(soil.soil)} Ω·m is not in {own.allowed}; a sheet refuses it")
+    return notes
+
+
+def soil_text(measured: Sequence[Tuple[int, int]], each: Sequence[Soil], soil: Soil) -> str:
+    """The readings with the apparent resistivity of each, then least, greatest and mean, and the value for the column soil."""
+    lines = [(f"{place}", exact(distance, 3) + " m", exact(resistance, 3) + " Ω", *_ohm_metres(one.mean))
+             for place, ((distance, resistance), one) in enumerate(zip(measured, each), 1)]
+    head = ("reading", "distance", "resistance", "lower Ω·m", "upper Ω·m")
+    lines += [(called, "", "", *_ohm_metres(ends)) for called, ends in
+              (("least", soil.least), ("greatest", soil.greatest), ("mean", soil.mean))]
+    return aligned(head, lines, left=(0,)) + f"column soil: {grouped(soil.soil)} Ω·m\n"
+
+
+def _ohm_metres(ends: Pair) -> Tuple[str, str]:
+    return down(ends.lower, 6, 3), up(ends.upper, 6, 3)
+
+
+def soil_csv(soil: Soil) -> str:
+    names = [f"{called}_{end}_uohm_m" for called in ("least", "greatest", "mean") for end in ("lower", "upper")]
+    return commas([*names, "soil_ohm_m"], [(*soil.least, *soil.greatest, *soil.mean, soil.soil)])
+
+
+# ---- staged tests
+
+def current(text: str) -> Part:
+    """A current in amperes: 1000,-50 (in-phase, quadrature) or 1000@-22.5 (size, angle in degrees)."""
+    if "@" in text:
+        size, _, angle = text.partition("@")
+        return polar(size, angle)
+    return rectangular(*pair(text))
+
+
+def rectangular(in_phase: str, quadrature: str) -> Part:
+    """A current of two parts in amperes, exactly."""
+    found = (whole(in_phase, 1000, "A", "mA"), whole(quadrature, 1000, "A", "mA"))
+    if any(abs(number) >= 2 ** 62 for number in found):
+        raise Unclear("a part is far out of range")
+    return Part(*(Pair(number, number) for number in found))
+
+
+def polar(size: str, angle: str) -> Part:
+    """A current of a size in amperes at an angle in degrees."""
+    turned = decimal(angle.rstrip("°"))
+    if abs(turned) > 360:
+        raise Unclear(f"angle: {angle} is not in −360..360 degrees")
+    amperes = decimal(size)
+    if abs(amperes) > 10 ** 9:
+        raise Unclear(f"size: {size} A is far out of range")
+    return Part(*parts(amperes * 1000, turned))
+
+
+def currents(text: bytes) -> List[Part]:
+    """The currents of a text, the injected one first, by the names in_phase and quadrature, or size and angle."""
+    form, lines = _table(text, [("in_phase", "quadrature"), ("size", "angle")])
+    made = rectangular if form[0] == "in_phase" else polar
+    return [_at(f"line {number}", made, line[form[0]], line[form[1]]) for number, line in lines]
+
+
+def rounded(measured: Sequence[Part]) -> Tuple[List[Tuple[int, int]], int]:
+    """Whole numbers of mA for which the split is not below that of the exact currents, and how far they move a part of the grid at most.
+
+    The injected parts are taken towards 0, so that the injected current is not greater.
+    The branches are taken so that each part of the grid lies as far from 0 as it can; what the injected part lost is
+    put on the first branch."""
+    injected, branches = measured[0], measured[1:]
+    chosen = [[0, 0] for _ in measured]
+    moved = 0
+    for axis in (0, 1):
+        ends = injected[axis]
+        chosen[0][axis] = taken = ends.lower if ends.lower >= 0 else ends.upper
+        least = ends.lower - sum(branch[axis].upper for branch in branches)
+        most = ends.upper - sum(branch[axis].lower for branch in branches)
+        far_above = abs(most) >= abs(least)
+        for place, branch in enumerate(branches, 1):
+            chosen[place][axis] = branch[axis].lower if far_above else branch[axis].upper
+        if branches:
+            chosen[1][axis] -= (ends.upper if far_above else ends.lower) - taken
+        moved = max(moved, most - least)
+    return [(one[0], one[1]) for one in chosen], moved
+
+
+def split_notes(split: Split, moved: int) -> List[str]:
+    """How sizes and angles were rounded, and whether a sheet takes the split."""
+    notes = []
+    if moved:
+        notes.append(f"note: parts of sizes at angles are no whole milliamperes; each was rounded so that the split is not too small, "
+                     f"by at most {grouped(moved)} mA in a part of the grid current")
+    own = BY_NAME["split"]
+    if not own.low <= split.split <= own.high:
+        notes.append(f"note: a split of {grouped(split.split)} per mille is not in {own.allowed}; a sheet refuses it")
+    return notes
+
+
+def split_text(handed: Sequence[Tuple[int, int]], split: Split) -> str:
+    """The currents handed over, the grid's and the split."""
+    names = ["injected"] + [f"branch {place}" for place in range(1, len(handed))]
+    lines = [(name, exact(one[0], 3), exact(one[1], 3)) for name, one in zip(names, handed)]
+    lines.append(("grid", exact(split.in_phase, 3), exact(split.quadrature, 3)))
+    return aligned(("", "in-phase A", "quadrature A"), lines, left=(0,)) + f"column split: {grouped(split.split)} per mille\n"
+
+
+def split_csv(split: Split) -> str:
+    return commas(("in_phase_mA", "quadrature_mA", "split_per_mille"), [(split.in_phase, split.quadrature, split.split)])
+
+
+def each_soil(measured: Sequence[Tuple[int, int]]) -> List[Soil]:
+    """The soil of each reading by itself."""
+    return [core.soil([one]) for one in measured]
