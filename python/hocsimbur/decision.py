@@ -99,13 +99,19 @@ class OtherYard:
     columns: Tuple[str, ...]
 
 
-@dataclass(frozen=True)
-class SmallWire:
-    """A conductor is too small: what is needed, and the diameter that is there, of the worst of its lines."""
+class Size(NamedTuple):
+    """What a conductor needs and has."""
 
     needed: int    # kcmil
     diameter: int  # tenths of a mm
     own: int       # kcmil of a solid round of that diameter, rounded down
+
+
+@dataclass(frozen=True)
+class SmallWire:
+    """A conductor is too small: of such lines the one that needs the largest."""
+
+    size: Size
 
 
 Reason = Union[Unsafe, Undecided, Missing, OtherYard, SmallWire]
@@ -175,6 +181,11 @@ class Station:
         """The columns, beside station and season, in which the lines differ."""
         return differing(self.lines)
 
+    @property
+    def size(self) -> Size:
+        """What the conductor needs and has in the line that needs the largest, of those in which it is too small where there are any."""
+        return size(self.lines)
+
     def line(self, season: int) -> Optional[Line]:
         """The line of a season."""
         return next((line for line in self.lines if line.season == season), None)
@@ -205,10 +216,11 @@ def missing(licensed: Licensed, lines: Tuple[Line, ...]) -> Tuple[int, ...]:
     return tuple(season for season in licensed.seasons if season not in there)
 
 
-def _small_wire(lines: Tuple[Line, ...]) -> SmallWire:
-    """Of the lines whose conductor is too small, the one with the least of what it needs."""
-    line = min((line for line in lines if line.small_wire), key=lambda line: line.wire_to)
-    return SmallWire(line.row.kcmil, line.case["dia"], kcmil(line.case["dia"]))
+def size(lines: Tuple[Line, ...]) -> Size:
+    """What the conductor needs and has in the line that needs the largest, of those in which it is too small where there are any."""
+    small = [line for line in lines if line.small_wire] or lines
+    line = max(small, key=lambda line: (line.row.kcmil, -line.case["dia"]))
+    return Size(line.row.kcmil, line.case["dia"], kcmil(line.case["dia"]))
 
 
 def _reasons(licensed: Licensed, answer: core.Release, lines: Tuple[Line, ...]) -> List[Reason]:
@@ -225,7 +237,7 @@ def _reasons(licensed: Licensed, answer: core.Release, lines: Tuple[Line, ...]) 
     if answer.other_yard:
         found.append(OtherYard(tuple(name for name in YARD if name in differing(lines))))
     if answer.small_wire:
-        found.append(_small_wire(lines))
+        found.append(SmallWire(size(lines)))
     return found
 
 

@@ -11,7 +11,7 @@ from .asking import FAULT_MOST
 from .core import Pair, Verdict
 from .decimals import NO_BREAK as NB
 from .decimals import grouped
-from .decision import BELOW, NOT_PARTED, Compared, Missing, OtherYard, Portfolio, Reason, SmallWire, Station, Undecided, Unsafe, kcmil
+from .decision import BELOW, NOT_PARTED, Compared, Missing, OtherYard, Portfolio, Reason, Size, Station, Undecided, Unsafe, kcmil
 from .labels import listed
 
 
@@ -46,9 +46,8 @@ def _not_parted(one: Compared) -> str:
     return f"{one.kind} and tolerable {one.limit} not parted"
 
 
-def _size(reason: SmallWire) -> str:
-    return (f"{grouped(reason.needed)}{NB}kcmil needed, {labels.tenths(reason.diameter)}{NB}mm solid has "
-            f"{grouped(reason.own)}")
+def _size(size: Size) -> str:
+    return f"{grouped(size.needed)}{NB}kcmil needed, {labels.tenths(size.diameter)}{NB}mm solid has {grouped(size.own)}"
 
 
 def _no_line(reason: Missing) -> str:
@@ -69,7 +68,7 @@ def told(reason: Reason) -> Told:
         return Told(_no_line(reason), "")
     if isinstance(reason, OtherYard):
         return Told("yard differs between lines", labels.columns(reason.columns))
-    return Told("wire too small", _size(reason))
+    return Told("wire too small", _size(reason.size))
 
 
 def _short(reason: Reason) -> str:
@@ -84,7 +83,7 @@ def _short(reason: Reason) -> str:
         return f"no line for season{'s' if len(reason.seasons) > 1 else ''} " + ", ".join(str(season) for season in reason.seasons)
     if isinstance(reason, OtherYard):
         return "yard differs between lines: " + labels.columns(reason.columns)
-    return "wire: " + _size(reason)
+    return "wire: " + _size(reason.size)
 
 
 def sentence(station: Station) -> str:
@@ -185,9 +184,8 @@ def undecided(station: Station) -> List[str]:
 
 
 def wire(station: Station) -> str:
-    """What the wire needs and has, where it is enough: of the line that needs the largest."""
-    line = max(station.lines, key=lambda line: (line.row.kcmil, -line.case["dia"]))
-    return f"Wire: {_size(SmallWire(line.row.kcmil, line.case['dia'], kcmil(line.case['dia'])))}."
+    """What the wire needs and has."""
+    return f"Wire: {_size(station.size)}."
 
 
 def cautions(station: Station) -> List[str]:
@@ -217,3 +215,15 @@ def totals(portfolio: Portfolio) -> List[Told]:
         Told("", f"{len(lines)} season line{'' if len(lines) == 1 else 's'}: {counts[Verdict.SAFE]} safe, {counts[Verdict.UNSAFE]} unsafe, "
                  f"{counts[Verdict.UNDECIDED]} undecided; {missing}."),
     ]
+
+
+def notes(portfolio: Portfolio) -> List[str]:
+    """What the first page says of the licence itself."""
+    found = []
+    if not portfolio.licensed:
+        found.append("No licence was handed over: every station of the sheet is asked for all four seasons.")
+    if portfolio.unlicensed:
+        several = len(portfolio.unlicensed) > 1
+        found.append(f"Station{'s' if several else ''} {listed(portfolio.unlicensed)} of the sheet {'are' if several else 'is'} not in the licence, "
+                     f"and nothing is said of {'them' if several else 'it'}.")
+    return found
