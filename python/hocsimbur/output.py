@@ -8,7 +8,7 @@ import pathlib
 import stat
 import sys
 import tempfile
-from typing import TextIO
+from typing import Iterable, Optional, TextIO
 
 WELL, REFUSED, HELD, FAILED = 0, 1, 2, 3  # exit statuses: all well; refused; unsafe, undecided or held; input or output failed
 
@@ -82,14 +82,14 @@ def _special(path: pathlib.Path) -> bool:
     return path.exists() and not stat.S_ISREG(path.stat().st_mode)
 
 
-def write(name: str, data: bytes, force: bool, source: str = "") -> None:
+def write(name: str, data: bytes, force: bool, sources: Iterable[Optional[str]] = ()) -> None:
     """A whole file under its name, or none: written under another name beside it and renamed.
 
-    What is there already is replaced only with `force`, and never the file that was read."""
+    What is there already is replaced only with `force`, and never one of the files that were read."""
     path = pathlib.Path(name)
     try:
-        if path.exists() and source not in ("", "-") and path.samefile(source):
-            raise Failed(f"{name}: this is the file that was read; it is not overwritten")
+        if path.exists() and any(source and source != "-" and path.samefile(source) for source in sources):
+            raise Failed(f"{name}: this file was read; it is not overwritten")
         if _special(path):
             with open(path, "wb", buffering=0) as file:
                 file.write(data)

@@ -72,6 +72,11 @@ def pair(text: str) -> Tuple[str, str]:
     return cells[0], cells[1]
 
 
+def reading_of(text: str) -> Tuple[int, int]:
+    """A reading as METRES,OHMS."""
+    return reading(*pair(text))
+
+
 def readings(text: bytes) -> List[Tuple[int, int]]:
     """The readings of a text with the names metres and ohms."""
     _, lines = _table(text, [("metres", "ohms")])
@@ -191,8 +196,8 @@ def split_notes(split: Split, moved: int) -> List[str]:
 def split_text(handed: Sequence[Tuple[int, int]], split: Split) -> str:
     """The currents handed over, the grid's and the split."""
     names = ["injected"] + [f"branch {place}" for place in range(1, len(handed))]
-    lines = [(name, exact(one[0], 3), exact(one[1], 3)) for name, one in zip(names, handed)]
-    lines.append(("grid", exact(split.in_phase, 3), exact(split.quadrature, 3)))
+    lines = [(name, down(one[0], 3, 3), down(one[1], 3, 3)) for name, one in zip(names, handed)]
+    lines.append(("grid", down(split.in_phase, 3, 3), down(split.quadrature, 3, 3)))
     return aligned(("", "in-phase A", "quadrature A"), lines, left=(0,)) + f"column split: {grouped(split.split)} per mille\n"
 
 

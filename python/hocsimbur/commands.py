@@ -1,0 +1,252 @@
+"""The commands: each asks the library, writes its answer and returns the exit status.
+
+0 all well, 1 refused, 2 something is unsafe, undecided or held, 3 input or output failed."""
+from __future__ import annotations
+
+import argparse
+import os
+from typing import Callable, List, Optional, TypeVar
+
+from . import __version__, checking, core, decision, licence, listing, reasons, sheets, site, spreadsheet
+from .amounts import Unclear, length
+from .decimals import exact
+from .output import HELD, REFUSED, WELL, read, show, tell, write
+from .terminal import commas, paint
+from .words import Asked, refusal
+
+Answer = TypeVar("Answer")
+RELEASE_NAMES = ("station", "decision", "missing", "unsafe", "undecided", "other_yard", "small_wire", "fault_A")
+
+
+class Stopped(Exception):
+    """A command that ends with a refusal: the sentences for people, the file of which they speak, what is said after them, and the
+    line for machines."""
+
+    def __init__(self, said: List[str], printed: str = "", of: str = "", after: str = "") -> None:
+        super().__init__("; ".join(said))
+        self.said = said
+        self.printed = printed
+        self.of = of
+        self.after = after
+
+
+def ask(question: Callable[[], Answer], asked: Asked) -> Answer:
+    """The answer to a question; a refusal ends the command, in words."""
+    try:
+        return question()
+    except core.Refused as refused:
+        raise Stopped([refusal(refused, asked)], f"refused,{refused.number},{refused.line},{refused.column}\n") from None
+
+
+def _clear(of: str, made: Callable[..., Answer], *arguments: object) -> Answer:
+    """What is made of what somebody wrote, in a file or an argument; what is unclear in it ends the command."""
+    try:
+        return made(*arguments)
+    except Unclear as error:
+        raise Stopped([str(error)], of=of) from None
+
+
+def _worked(arguments: argparse.Namespace, question: Callable[[bytes], Answer]) -> Answer:
+    """The answer to a question about the sheet of a command."""
+    sheet = read(arguments.file)
+    try:
+        return ask(lambda: question(sheet), Asked(sheet))
+    except Stopped as stopped:
+        stopped.of = arguments.file
+        hint = "" if arguments.file == "-" else f"; `hocsimbur check {arguments.file}` tells the refusal of every line"
+        stopped.after = f"nothing was worked{hint}"
+        raise
+
+
+# ---- questions about a sheet
+
+def check(arguments: argparse.Namespace) -> int:
+    sheet = read(arguments.file)
+    found = checking.check(sheet)
+    if arguments.csv:
+        show("".join(f"refused,{one.number},{one.line},{one.column}\n" for one in found))
+    elif found:
+        show("".join(one.said + "\n" for one in found) + checking.conclusion(found) + "\n")
+    else:
+        count = len(sheets.lines(sheet)) - 1
+        show(f"{count} line{'s' if count > 1 else ''}, no refusal\n")
+    return REFUSED if found else WELL
+
+
+def verdict(arguments: argparse.Namespace) -> int:
+    rows = _worked(arguments, core.rows)
+    show(listing.verdicts_csv(rows) if arguments.csv else listing.verdicts(rows))
+    return WELL if listing.safe(rows) else HELD
+
+
+def rows(arguments: argparse.Namespace) -> int:
+    found, margins = _worked(arguments, lambda sheet: (core.rows(sheet), core.margins(sheet)))
+    show(listing.rows_csv(found) if arguments.csv else listing.rows(found, margins))
+    return WELL if listing.safe(found) else HELD
+
+
+def margins(arguments: argparse.Namespace) -> int:
+    found, of_rows = _worked(arguments, lambda sheet: (core.rows(sheet), core.margins(sheet)))
+    show(listing.margins_csv(found, of_rows) if arguments.csv else listing.margins(found, of_rows))
+    return WELL if listing.safe(found) else HELD
+
+
+def summary(arguments: argparse.Namespace) -> int:
+    stations, found = _worked(arguments, core.summary_and_rows)
+    show(listing.summary_csv(stations) if arguments.csv else listing.summary(stations))
+    return WELL if listing.safe(found) else HELD
+
+
+# ---- release, report, what to change next
+
+def _licence(arguments: argparse.Namespace) -> Optional[licence.Licence]:
+    if not arguments.licence:
+        return None
+    try:
+        return licence.read(read(arguments.licence))
+    except licence.LicenceRefused as refused:
+        raise Stopped([str(refused)], of=arguments.licence) from None
+
+
+def _portfolio(arguments: argparse.Namespace) -> decision.Portfolio:
+    granted = _licence(arguments)
+    return _worked(arguments, lambda sheet: decision.portfolio(sheet, granted))
+
+
+def _decided(stations: List[decision.Station]) -> str:
+    """A line a station: its number and name, the decision, and why."""
+    named = [f"station {one.station}" + (f" {one.name}" if one.name else "") for one in stations]
+    width = max(len(name) for name in named)
+    lines = []
+    for name, one in zip(named, stations):
+        word = "RELEASED" if one.released else "HELD"
+        lines.append(f"{name.ljust(width)}  {paint(word, word)}{' ' * (8 - len(word))}  {reasons.sentence(one)}\n")
+    return "".join(lines)
+
+
+def release(arguments: argparse.Namespace) -> int:
+    portfolio = _portfolio(arguments)
+    stations = list(portfolio.stations)
+    if arguments.csv:
+        answers = [one.answer for one in stations]
+        show(commas(RELEASE_NAMES, [(one.station, "released" if one.released else "held", one.missing, one.unsafe, one.undecided,
+                                     one.other_yard, one.small_wire, one.fault) for one in answers]))
+    else:
+        show(_decided(stations))
+    if portfolio.unlicensed:
+        tell(f"note: the licence does not name station{'s' if len(portfolio.unlicensed) > 1 else ''} "
+             f"{', '.join(str(one) for one in portfolio.unlicensed)} of the sheet")
+    return WELL if all(one.released for one in stations) else HELD
+
+
+def make_report(arguments: argparse.Namespace) -> int:
+    from . import report
+    granted = _licence(arguments)
+    date = arguments.date or report.today()
+    name = "standard input" if arguments.file == "-" else os.path.basename(arguments.file)
+    portfolio, page = _worked(arguments, lambda sheet: (decision.portfolio(sheet, granted), report.render(sheet, name, granted, date)))
+    if arguments.output:
+        write(arguments.output, page.encode(), force=True, sources=(arguments.file, arguments.licence))
+    else:
+        show(page)
+    return WELL if all(one.released for one in portfolio.stations) else HELD
+
+
+# ---- estimators
+
+def _one_line(sheet: bytes, station: Optional[int], season: Optional[int]) -> bytes:
+    """The sheet with the one line that a station and a season choose; the sheet itself where nothing is chosen."""
+    if station is None and season is None:
+        return sheet
+    ask(lambda: core.rows(sheet), Asked(sheet))
+    chosen = [case for case in sheets.cases(sheet) if station in (None, case["station"]) and season in (None, case["season"])]
+    if not chosen:
+        raise Stopped([f"the sheet has no line for {_chosen(station, season)}"])
+    return sheets.text(chosen)
+
+
+def _chosen(station: Optional[int], season: Optional[int]) -> str:
+    said = [f"{called} {number}" for called, number in (("station", station), ("season", season)) if number is not None]
+    return ", ".join(said)
+
+
+def fewest(arguments: argparse.Namespace) -> int:
+    side = _clear("side", length, arguments.side)
+    if not 0 <= side < 2 ** 32:
+        raise Stopped([f"side: {arguments.side} is not in 2.5..720 m"])
+    sheet = _one_line(read(arguments.file), arguments.station, arguments.season)
+    found = ask(lambda: core.fewest(sheet, side), Asked(sheet, most_lines=1, side=side))
+    if arguments.csv:
+        show(f"found,{found.lines},{found.rods},{found.tried}\n" if found.found else f"none,{found.tried}\n")
+    elif found.found:
+        spacing = f"{exact(side // (found.lines - 1), 3)} m"
+        rods = f"{found.rods} rods at the perimeter" if found.rods else "no rods"
+        show(f"{found.lines} conductors each way, {spacing} apart, and {rods}; {found.tried} yard{'s' if found.tried > 1 else ''} tried\n")
+    elif found.tried:
+        show(f"none of the {found.tried} yards tried is safe\n")
+    else:
+        show(f"no yard was tried: no count of conductors from 2 to 25 parts {exact(side, 3)} m into whole mm from 2.5 to 30 m\n")
+    return WELL if found.found else HELD
+
+
+# ---- measurements at a site
+
+def wenner(arguments: argparse.Namespace) -> int:
+    if bool(arguments.reading) == bool(arguments.file):
+        raise Stopped(["give either a file of readings or --reading METRES,OHMS once for each reading"])
+    if arguments.file:
+        measured = _clear(arguments.file, site.readings, read(arguments.file))
+    else:
+        measured = [_clear(f"reading {one}", site.reading_of, one) for one in arguments.reading]
+    soil = ask(lambda: core.soil(measured), Asked(readings=measured))
+    show(site.soil_csv(soil) if arguments.csv else site.soil_text(measured, site.each_soil(measured), soil))
+    for note in site.soil_notes(soil):
+        tell(note)
+    return WELL
+
+
+def staged(arguments: argparse.Namespace) -> int:
+    if arguments.file:
+        if arguments.injected or arguments.branch:
+            raise Stopped(["give either a file or --injected and --branch"])
+        measured = _clear(arguments.file, site.currents, read(arguments.file))
+    else:
+        if not arguments.injected:
+            raise Stopped(["give a file, or --injected and a --branch for each branch"])
+        measured = [_clear(f"current {one}", site.current, one) for one in [arguments.injected, *(arguments.branch or [])]]
+    handed, moved = site.rounded(measured) if measured else ([], 0)
+    split = ask(lambda: core.split(handed), Asked(parts=handed))
+    show(site.split_csv(split) if arguments.csv else site.split_text(handed, split))
+    for note in site.split_notes(split, moved):
+        tell(note)
+    return WELL
+
+
+# ---- sheets from elsewhere
+
+def import_sheet(arguments: argparse.Namespace) -> int:
+    try:
+        made = spreadsheet.make(read(arguments.file))
+    except spreadsheet.Refusals as refusals:
+        raise Stopped(refusals.said, of=arguments.file, after="nothing was written") from None
+    for change in made.changes.told():
+        tell(change)
+    if {"ms", "lines"} & set(sheets.cells(sheets.lines(made.sheet)[0])):
+        ask(lambda: core.carry(made.sheet), Asked(made.sheet, former=True, line_numbers=made.numbers))
+        tell("note: the sheet has the former 18 names; `hocsimbur carry` makes today's sheet of it")
+    else:
+        found = checking.check(made.sheet, made.numbers)
+        if found:
+            raise Stopped([one.said for one in found], of=arguments.file, after="nothing was written")
+    if arguments.output:
+        write(arguments.output, made.sheet, arguments.force, sources=(arguments.file,))
+    else:
+        show(made.sheet.decode())
+    if not made.changes.counts:
+        tell("nothing had to be changed")
+    return WELL
+
+
+def version(arguments: argparse.Namespace) -> int:
+    show(f"hocsimbur {__version__}, library {core.version()}\n")
+    return WELL

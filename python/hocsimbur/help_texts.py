@@ -1,0 +1,123 @@
+"""What --help says of each command, with an example that a test runs at the top of the repository."""
+from __future__ import annotations
+
+from typing import Dict, NamedTuple
+
+ABOUT = """Substation ground grids after IEEE Std 80: verdicts, release, reports and refusals in words.
+Every number comes from the proved library; what is shown is rounded outward."""
+
+STATUSES = """exit status:
+  0  all is well
+  1  something is refused
+  2  something is unsafe, undecided or held
+  3  the arguments are wrong, or input or output failed
+
+`hocsimbur COMMAND --help` shows an example."""
+
+
+class Text(NamedTuple):
+    """A command in short, at length, and its example: a command line with what it prints."""
+
+    short: str
+    long: str
+    example: str
+
+
+COMMANDS: Dict[str, Text] = {
+    "check": Text(
+        "every refusal of a sheet, in words",
+        "Asks about each line of a sheet by itself, so that the first refusal of every line is told; nothing is worked.\n"
+        "With --csv: refused, number, line, column.",
+        """  $ hocsimbur check examples/refused-5.csv
+  line 2, depth (column 16): 60 mm is not in 250..2500
+  line 3, depth (column 16): 60 mm is not in 250..2500
+  2 lines are refused; nothing was worked
+"""),
+    "verdict": Text(
+        "the verdict and the wire needed of each line",
+        "Safe, unsafe or undecided, and the least conductor size, of each line of a sheet.",
+        """  $ hocsimbur verdict tests/sample.csv
+  station  season  verdict  wire needed
+        7       1  unsafe      17 kcmil
+        7       2  safe        17 kcmil
+  2 lines: 1 safe, 1 unsafe, 0 undecided
+"""),
+    "rows": Text(
+        "both ends of every voltage, current and resistance",
+        "All that is worked of each line, as two ends that enclose the exact value.",
+        """  $ hocsimbur rows examples/undecided.csv
+"""),
+    "margins": Text(
+        "how far each line is from its limits, worst first",
+        "How far mesh and step voltage lie above or below what is tolerable, the worst line first.\n"
+        "With --csv: per mille, in the sheet's order.",
+        """  $ hocsimbur margins tests/sample.csv
+"""),
+    "summary": Text(
+        "counts of safe, unsafe and undecided seasons of each station",
+        "How many seasons of each station are safe, unsafe and undecided, and the one with the highest mesh voltage.\n"
+        "That one need not be the worst where the surface layers of the seasons differ.",
+        """  $ hocsimbur summary crates/summary/stdin
+"""),
+    "release": Text(
+        "which stations may be released, and why others are held",
+        "A station is released where every season of the licence has a line, every line is safe, all lines describe one yard and\n"
+        "the wire is large enough.",
+        """  $ hocsimbur release examples/seasons.csv
+"""),
+    "report": Text(
+        "a page for every station, in one HTML file",
+        "One HTML file with the portfolio and a page for each station, for a browser or paper.\n"
+        "The same sheet, licence and date give the same bytes.",
+        """  $ hocsimbur report tests/sample.csv --date '1 July 2026' -o /tmp/july.html
+"""),
+    "next": Text(
+        "the least single changes that make a held station safe",
+        "For a station that is held, the least single changes that are answered safe in every season.",
+        """  $ hocsimbur next examples/seasons.csv
+"""),
+    "fewest": Text(
+        "the fewest conductors and rods for a square yard",
+        "The fewest conductors each way, then rods at the perimeter, with which a square yard of a side is safe; all else is as in\n"
+        "the one line of the sheet, or the line chosen by --station and --season.\n"
+        "With --csv: found, conductors, rods, yards tried; or none, yards tried.",
+        """  $ hocsimbur fewest examples/rods.csv --station 303 --side 60m
+"""),
+    "wenner": Text(
+        "the soil from four-pin readings",
+        "The apparent resistivity of each reading, the least, greatest and mean, and the value for the column soil.\n"
+        "A reading is a distance in m and a resistance in Ω; both become whole mm and mΩ exactly, or are refused.",
+        """  $ hocsimbur wenner --reading 1,10 --reading 2,4.5 --reading 3,2.5
+"""),
+    "staged": Text(
+        "the split from a staged test",
+        "The grid's part of an injected current, less the branches, and the value for the column split.\n"
+        "A current is IN-PHASE,QUADRATURE in A, or SIZE@ANGLE in A and degrees; all share one phase reference, and a branch counts\n"
+        "positive away from the grid. Parts of sizes at angles are rounded to mA so that the split is not too small.",
+        """  $ hocsimbur staged --injected 1000,0 --branch 400,0
+"""),
+    "carry": Text(
+        "today's sheet of one of the former 18 names",
+        "Copies ms to shock, clear and wire, lines to across and along, and sets hz to 60.\n"
+        "Several sheets, or a folder, go into the folder of -o; a refused one is told and leaves nothing there.",
+        """  $ hocsimbur carry examples/refused-2-ms.csv
+"""),
+    "carry-back": Text(
+        "a sheet of the former 18 names of today's",
+        "The way back of carry, where the three times are equal, across is along and hz is 60.",
+        """  $ hocsimbur carry-back examples/undecided.csv
+"""),
+    "import": Text(
+        "a sheet of what a spreadsheet wrote",
+        "Takes away what spreadsheets add (byte-order mark, carriage returns, semicolons, quotes, spaces, blank lines, empty cells),\n"
+        "writes names in small letters and 3180.0 as 3180, and tells each change on standard error.\n"
+        "A value that is no whole number of its unit is refused, never rounded.",
+        """  $ hocsimbur import examples/refused-2-semicolons.csv
+"""),
+    "version": Text(
+        "the versions of this package and of the library",
+        "The versions of this package and of the library that it asks.",
+        """  $ hocsimbur version
+  hocsimbur 1.0.0, library 1.0.0
+"""),
+}
