@@ -7,6 +7,7 @@ What is wrong is printed, and the exit status is then 1.
 """
 
 import argparse
+import csv
 import re
 import subprocess
 import sys
@@ -17,13 +18,18 @@ import calculator as calc
 import carry
 import differential
 import margins
+import release
+import summary
 from calculator import Refusal
+from limits import SUMMARY_NAMES
 from printed import read_margins, read_rows, read_verdicts
 
 ROOT = Path(__file__).parents[1]
 FOLDER = ROOT / "examples"
 BIN = "target/bin"
 MOST_LINES = 6  # value lines of a sheet
+PORTFOLIO, MOST_PORTFOLIO_LINES = "portfolio.csv", 48
+LICENCE = "licence.csv"  # of the portfolio: no sheet, but stations with their names and seasons
 REFUSALS = (*range(1, 8), 9, 10, 11)  # what a sheet alone can be refused with
 BACK_REFUSALS = (9, 10, 11)  # of these only by carry_back
 READERS = {"rows": read_rows, "verdict": read_verdicts, "margins": read_margins}
@@ -58,13 +64,22 @@ def carried(way, sheet):
     return margins.text_of(text) if isinstance(text, Refusal) else text.decode("ascii")
 
 
+def summed(rows):
+    """What summary is to print beside some rows."""
+    if isinstance(rows, Refusal):
+        return margins.text_of(rows)
+    return carry.sheet_text(SUMMARY_NAMES, summary.summary_of(rows)).decode("ascii")
+
+
 def judge_printed(sheet, run):
-    """What is wrong with what the programs print for a sheet: rows by the calculator, verdicts and margins by the rows."""
+    """What is wrong with what the programs print for a sheet: rows by the calculator, verdicts, margins and summary by the rows."""
     rows = answer("rows", sheet, run)
     wrong = differential.judge(calc.read_sheet(sheet), rows, lambda: True)
     if answer("verdict", sheet, run) != (rows if isinstance(rows, Refusal) else [row[:4] for row in rows]):
         wrong.append("verdict: not what rows has")
     wrong += margins.judge(rows, answer("margins", sheet, run))
+    if run("summary", sheet) != summed(rows):
+        wrong.append("summary: not what rows has")
     for program, way in WAYS.items():
         if run(program, sheet) != carried(way, sheet):
             wrong.append(f"{program}: not what the calculator has")
@@ -115,7 +130,30 @@ def undecided(cases, rows):
     return any(len(differing(a, b)) == 1 for a in open_cases for b in safe_cases)
 
 
-PROMISES = {f"{promise.__name__}.csv": promise for promise in (bare, layered, rods, rectangle, seasons, undecided)}
+def licence_numbers():
+    """The licence of the portfolio, as release takes it."""
+    with (FOLDER / LICENCE).open(encoding="utf-8", newline="") as text:
+        pairs = [(int(line["station"]), sum(1 << int(season) - 1 for season in line["seasons"].split())) for line in csv.DictReader(text)]
+    return [number for pair in pairs for number in pair]
+
+
+def portfolio(cases, rows):
+    """a dozen stations with two to four seasons, all of them in licence.csv, by which one is released and for each reason one is held for
+    it alone, one has no line, and one has a line outside the licence"""
+    stations = {case.station for case in cases}
+    licence = licence_numbers()
+    pairs = release.pairs_of(licence)
+    answered = release.release_of(licence, cases, rows)
+    lines = {station: release.lines_of(station, cases, rows) for station, _ in pairs}
+    alone = {tuple(place for place, count in enumerate(numbers[2:]) if count) for numbers in answered}
+    return (len(stations) >= 12 and stations <= set(lines)
+            and all(2 <= len(lines[station]) <= 4 for station in stations)
+            and {(), (0,), (1,), (2,), (3,), (4,)} <= alone
+            and any(not found for found in lines.values())
+            and any(case.season not in release.licensed(mask) for station, mask in pairs for case, _ in lines[station]))
+
+
+PROMISES = {f"{promise.__name__}.csv": promise for promise in (bare, layered, rods, rectangle, seasons, undecided, portfolio)}
 
 
 def refusal_of(name):
@@ -126,6 +164,8 @@ def refusal_of(name):
 
 def shower(name):
     """The program that shows what the name of a sheet promises."""
+    if name == PORTFOLIO:
+        return "summary"
     return "carry_back" if refusal_of(name) in BACK_REFUSALS else "verdict"
 
 
@@ -142,8 +182,9 @@ def judge_refused(name, sheet, run):
 
 def judge_name(name, sheet, run):
     """What is wrong with a sheet by its name."""
-    if sheet.count(calc.LINE_END) > 1 + MOST_LINES:
-        return [f"more than {MOST_LINES} value lines"]
+    most = MOST_PORTFOLIO_LINES if name == PORTFOLIO else MOST_LINES
+    if sheet.count(calc.LINE_END) > 1 + most:
+        return [f"more than {most} value lines"]
     if refusal_of(name):
         return judge_refused(name, sheet, run)
     if name not in PROMISES:
@@ -250,7 +291,7 @@ def judge(sheets, readme, run):
 
 def stored():
     """The sheets by name, and the text about them."""
-    sheets = {path.name: path.read_bytes() for path in sorted(FOLDER.glob("*.csv"))}
+    sheets = {path.name: path.read_bytes() for path in sorted(FOLDER.glob("*.csv")) if path.name != LICENCE}
     return sheets, (FOLDER / "README.md").read_text(encoding="utf-8")
 
 

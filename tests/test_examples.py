@@ -33,6 +33,8 @@ def right(program, sheet):
     rows = [calc.row_at(case, DEPTH) for case in cases]
     if program == "margins":
         return margins.text_of(margins.margins_of(rows))
+    if program == "summary":
+        return examples.summed(rows)
     if program == "rows":
         return carry.sheet_text(ROW_NAMES, rows).decode("ascii")
     lines = [(*row[:2], WORDS[row[2] - 1], row[3]) for row in rows]
@@ -112,13 +114,15 @@ WRONG = {
     "other margins": changed(of_field(3, one_more), "margins"),
     "other step margins": changed(of_field(4, one_more), "margins"),
     "margins with the worst line first": changed(of_rows(lambda lines: sorted(lines, key=lambda line: -int(line.split(",")[3]))), "margins"),
+    "a season more": changed(of_field(1, one_more), "summary"),
+    "other highest season": changed(of_field(5, one_more), "summary"),
     "refuses nothing": refuses_nothing,
     "breaks off": breaks_off,
     **{f"row left out by {program}": changed(of_rows(lambda lines: lines[:-1]), program) for program in LISTINGS},
-    **{f"nothing printed by {program}": changed(lambda text: "", program) for program in (*LISTINGS, "carry", "carry_back")},
-    **{f"{program} refuses all": changed(lambda text: "refused,1,0,0\n", program) for program in (*LISTINGS, "carry_back")},
+    **{f"nothing printed by {program}": changed(lambda text: "", program) for program in (*LISTINGS, "summary", "carry", "carry_back")},
+    **{f"{program} refuses all": changed(lambda text: "refused,1,0,0\n", program) for program in (*LISTINGS, "summary", "carry_back")},
     **{f"other refusal, field {place}, by {program}": changed(of_refusal(place), program)
-       for place in (1, 2, 3) for program in (*LISTINGS, "carry_back")},
+       for place in (1, 2, 3) for program in (*LISTINGS, "summary", "carry_back")},
     **{f"other {ROW_NAMES[place]}": changed(of_field(place, moved), "rows")
        for place in range(calc.FIRST_PAIR, calc.ROW_LENGTH)},
 }

@@ -154,7 +154,7 @@ def _parted(portfolio: Portfolio) -> Tuple[List[Station], List[Station]]:
 
 
 def _asides(station: Station) -> str:
-    said = [reasons.differences(station), *reasons.undecided(station), reasons.current(station)]
+    said = [reasons.differences(station), reasons.outside(station), *reasons.undecided(station), reasons.current(station)]
     if not station.answer.small_wire:
         said.append(reasons.wire(station))
     items = [f"<li>{escape(one)}</li>" for one in said if one]

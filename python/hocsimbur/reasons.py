@@ -172,6 +172,15 @@ def differences(station: Station) -> str:
     return f"The soil is the same in the seasons{there}; what differs is {labels.columns(names)}."
 
 
+def outside(station: Station) -> str:
+    """Lines of seasons that the licence does not name: they count all the same; '' where there are none."""
+    seasons = [line.season for line in station.lines if line.season not in station.seasons]
+    if not seasons:
+        return ""
+    several = len(seasons) > 1
+    return f"{_seasons(seasons).capitalize()} {'are' if several else 'is'} not in the licence; {'their lines count' if several else 'its line counts'} all the same."
+
+
 def _volts(pair: Pair) -> str:
     return decimals.ends(pair, 3, 3) + f"{NB}V"
 
