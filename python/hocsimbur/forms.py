@@ -11,6 +11,7 @@ from .names import BY_NAME
 
 CARRY = "`hocsimbur carry` makes today's sheet of it"
 IMPORT = "`hocsimbur import` makes a sheet of it"
+LONGEST = 40  # characters of a field that are quoted
 
 _SPREADSHEETS = (  # what stands at the start of a file that is no plain text of names
     (b"PK\x03\x04", "this is a spreadsheet file (.xlsx) and no text"),
@@ -31,7 +32,17 @@ def foreign(sheet: bytes) -> str:
     for start, said in _SPREADSHEETS:
         if sheet.startswith(start):
             return f"{said}; {IMPORT}"
-    return ""
+    return "the file has bytes 0 and is no plain text; save it as CSV in UTF-8" if b"\0" in sheet[:1000] else ""
+
+
+def printable(text: str) -> str:
+    """A text in which what a terminal would act on is escaped."""
+    return "".join(sign if sign.isprintable() else sign.encode("unicode_escape").decode() for sign in text)
+
+
+def short(text: str) -> str:
+    """A field as it is quoted, cut where it is long."""
+    return text if len(text) <= LONGEST else text[:LONGEST] + "…"
 
 
 def _parted(line: str) -> str:
@@ -47,9 +58,9 @@ def _spoilt(text: str) -> str:
     if text.endswith("\r"):
         return f"the line ends with two bytes, 13 and 10 (CRLF), and not with byte 10 alone; {IMPORT}"
     if '"' in text:
-        return f"{text} stands in quotes; {IMPORT}"
+        return f"{short(text)} stands in quotes; {IMPORT}"
     if text != text.strip():
-        return f"there are spaces around '{text.strip()}'; {IMPORT}"
+        return f"there are spaces around '{short(text.strip())}'; {IMPORT}"
     return ""
 
 
@@ -72,8 +83,8 @@ def _unknown(name: str, names: Sequence[str], form: Sequence[str]) -> str:
         return f"names are in small letters, {name.lower()} and not {name}; {IMPORT}"
     near = difflib.get_close_matches(name.lower(), [one for one in form if one not in names] or form, 1)
     if near:
-        return f"'{name}' is no name of a sheet; did you mean {near[0]}?"
-    return f"'{name}' is no name of a sheet; the names are {', '.join(form)}"
+        return f"'{short(name)}' is no name of a sheet; did you mean {near[0]}?"
+    return f"'{short(name)}' is no name of a sheet; the names are {', '.join(form)}"
 
 
 def wrong_name(names: List[str], column: int, form: Sequence[str]) -> Tuple[str, str]:
@@ -98,18 +109,18 @@ def _number(text: str, unit: str, allowed: str) -> str:
     """What is wrong with a field that should be a whole number."""
     whole = f"a whole number{' of ' + unit if unit else ''}, {allowed}"
     if re.fullmatch(r"\d+[.]0*", text):
-        return f"{text} has a decimal point; write {text.split('.')[0]}, or let `hocsimbur import` do so"
+        return f"{short(text)} has a decimal point; write {short(text.split('.')[0])}, or let `hocsimbur import` do so"
     if re.fullmatch(r"\d*[.]\d+", text):
-        return f"{text} is not {whole}"
+        return f"{short(text)} is not {whole}"
     if re.fullmatch(r"0\d+", text):
-        return f"{text} starts with 0; write {int(text)}"
+        return f"{short(text)} starts with 0; write {text.lstrip('0') or '0'}"
     if re.fullmatch(r"[0-9]{7,}", text):
-        return f"{text} has {len(text)} digits, at most six are allowed; it must be {whole}"
+        return f"{short(text)} has {len(text)} digits, at most six are allowed; it must be {whole}"
     if re.fullmatch(r"[-+\u2212]\d+", text):
-        return f"{text} has a sign; it must be {whole}"
+        return f"{short(text)} has a sign; it must be {whole}"
     if re.fullmatch(r"[\d.]+ ?[^\W\d_].*", text):
-        return f"'{text}' has letters; write only digits, {whole}"
-    return f"'{text}' is no number; it must be {whole}"
+        return f"'{short(text)}' has letters; write only digits, {whole}"
+    return f"'{short(text)}' is no number; it must be {whole}"
 
 
 def wrong_value(names: List[str], values: List[str], line: int, column: int) -> Tuple[str, str]:

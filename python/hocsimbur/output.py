@@ -10,6 +10,8 @@ import sys
 import tempfile
 from typing import Iterable, Optional, TextIO
 
+from .forms import printable
+
 WELL, REFUSED, HELD, FAILED = 0, 1, 2, 3  # exit statuses: all well; refused; unsafe, undecided or held; input or output failed
 
 
@@ -54,11 +56,13 @@ def show_bytes(data: bytes) -> None:
 
 
 def tell(text: str) -> None:
-    """A line to standard error; where that fails nothing more can be told, and the exit status still says what was to be said."""
+    """A line to standard error, with what a terminal would act on escaped.
+
+    Where that fails nothing more can be told, and the exit status still says what was to be said."""
     if sys.stderr is None:
         return
     try:
-        sys.stderr.buffer.write(text.encode("utf-8", "surrogateescape") + b"\n")
+        sys.stderr.buffer.write(printable(text).encode("utf-8", "backslashreplace") + b"\n")
         sys.stderr.buffer.flush()
     except OSError:
         _silence(sys.stderr)

@@ -156,7 +156,7 @@ def _exact(text: str, sign: str) -> Optional[Decimal]:
     bare = re.sub(rf"(?<=\d)[ {_SPACES}](?=\d\d\d(?!\d))", "", text)
     if re.fullmatch(r"\d{1,3}([.,])\d{3}", bare) and not (sign == "," and "." in bare):
         whole, part = re.split("[.,]", bare)
-        raise ValueError(f"'{text}' may be {int(whole + part)} or {int(whole)} and {part} thousandths; write it without that sign")
+        raise ValueError(f"'{text}' may be {whole}{part} or {whole}.{part} with decimals; write it in digits alone")
     if re.fullmatch(r"\d{1,3}(,\d{3})+(\.\d*)?", bare):
         bare = bare.replace(",", "")
     elif re.fullmatch(r"\d{1,3}(\.\d{3})+(,\d*)?", bare) and (bare.count(".") > 1 or "," in bare):

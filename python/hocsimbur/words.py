@@ -9,7 +9,7 @@ from typing import Callable, Dict, List, Optional, Sequence, Tuple
 from . import sheets
 from .core import LINES, SHEET_BYTES, Refused, Verdict
 from .decimals import exact, grouped
-from .forms import FORMER_ONLY, cell, foreign, wrong_name, wrong_value
+from .forms import FORMER_ONLY, cell, foreign, printable, wrong_name, wrong_value
 from .names import BY_NAME, FORMER, METALS, NAMES, PLACES, Name
 
 __all__ = ["BY_NAME", "FORMER", "METALS", "NAMES", "PLACES", "Asked", "Name", "refusal", "verdict"]
@@ -196,4 +196,4 @@ _WORDS: Dict[int, Callable[[Refused, Asked], str]] = {
 
 def refusal(refused: Refused, asked: Asked) -> str:
     """A refusal as a sentence."""
-    return _WORDS[refused.number](refused, asked)
+    return printable(_WORDS[refused.number](refused, asked))

@@ -1,0 +1,77 @@
+"""The command check: the first refusal of every line, and those of the whole sheet."""
+from __future__ import annotations
+
+import unittest
+
+from hocsimbur import checking, core, sheets
+
+from .common import SAMPLE, changed, run
+
+HEAD = SAMPLE.split(b"\n")[0]
+
+
+def lines_told(sheet: bytes):
+    return [(one.number, one.line, one.column) for one in checking.check(sheet)]
+
+
+class Check(unittest.TestCase):
+    def test_accepted(self):
+        self.assertEqual(checking.check(SAMPLE), [])
+
+    def test_first_refusal_of_every_line(self):
+        sheet = changed(changed(fault=318000, soil=9), line=3, depth=50)
+        self.assertEqual(lines_told(sheet), [(5, 2, 3), (5, 3, 16)])
+        self.assertEqual(lines_told(changed(changed(fault=318000), line=3, thick=0)), [(5, 2, 10), (6, 3, 4)])
+
+    def test_repeated_lines_are_all_told(self):
+        line = sheets.lines(SAMPLE)[1]
+        sheet = SAMPLE + (line + b"\n") * 2
+        self.assertEqual(lines_told(sheet), [(7, 4, 0), (7, 5, 0)])
+        self.assertIn("stands already in line 2", checking.check(sheet)[1].said)
+
+    def test_repeat_of_a_refused_line_is_not_told(self):
+        self.assertEqual(lines_told(changed(changed(fault=1), line=3, season=1)), [(5, 2, 10)])
+
+    def test_refusals_of_the_whole(self):
+        self.assertEqual(lines_told(b""), [(1, 0, 0)])
+        self.assertEqual(lines_told(HEAD + b"\n"), [(4, 2, 0)])
+        self.assertEqual(lines_told(changed(fault=1)[:-1]), [(1, 0, 0), (5, 2, 10)])
+        self.assertEqual(lines_told(SAMPLE.replace(b"soil", b"sol")), [(2, 1, 3)])
+        many = HEAD + b"\n" + b"".join(changed(station=1 + i // 4, season=1 + i % 4).split(b"\n")[1] + b"\n" for i in range(257))
+        self.assertEqual(lines_told(many), [(4, 258, 0)])
+
+    def test_too_long_a_line(self):
+        sheet = SAMPLE + b"1" * 70000 + b"\n"
+        self.assertEqual(lines_told(sheet), [(1, 0, 0), (1, 4, 0)])
+
+    def test_the_first_told_is_what_the_core_refuses(self):
+        for sheet in (changed(fault=0), changed(line=3, soil="x"), changed(line=3, season=1), SAMPLE[:-1], SAMPLE.replace(b",", b";")):
+            with self.assertRaises(core.Refused) as caught:
+                core.rows(sheet)
+            refused = caught.exception
+            self.assertEqual(lines_told(sheet)[0], (refused.number, refused.line, refused.column))
+
+
+class Command(unittest.TestCase):
+    def test_words_and_status(self):
+        sheet = changed(changed(fault=318000), line=3, depth=50)
+        done = run("check", "-", stdin=sheet)
+        self.assertEqual(done.out, "line 2, fault (column 10): 318000 A is not in 100..80000\n"
+                         "line 3, depth (column 16): 50 mm is not in 250..2500\n2 lines are refused; nothing was worked\n")
+        self.assertEqual((done.status, done.err), (1, ""))
+
+    def test_no_refusal(self):
+        self.assertEqual(run("check", "tests/sample.csv"), (0, "2 lines, no refusal\n", ""))
+        self.assertEqual(run("check", "--csv", "tests/sample.csv"), (0, "", ""))
+
+    def test_conclusions(self):
+        self.assertTrue(run("check", "-", stdin=changed(fault=1)).out.endswith("\n1 line is refused; nothing was worked\n"))
+        self.assertTrue(run("check", "-", stdin=b"").out.endswith("\nthe sheet is refused; nothing was worked\n"))
+        self.assertTrue(run("check", "-", stdin=changed(fault=1)[:-1]).out.endswith("\nthe sheet is refused, and 1 line of it; nothing was worked\n"))
+
+    def test_for_machines(self):
+        self.assertEqual(run("check", "--csv", "-", stdin=changed(fault=1)), (1, "refused,5,2,10\n", ""))
+
+
+if __name__ == "__main__":
+    unittest.main()
