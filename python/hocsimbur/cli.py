@@ -5,7 +5,7 @@ import argparse
 import sys
 from typing import Callable, List, NoReturn, Optional
 
-from . import carrying, commands, core, help_texts
+from . import carrying, commands, core, deciding, help_texts
 from .output import FAILED, REFUSED, Failed, show, tell
 
 INTERRUPTED = 130  # as a shell tells a command that Ctrl-C ended
@@ -98,20 +98,15 @@ def _nothing(parser: argparse.ArgumentParser) -> None:
     pass
 
 
-def _advice(arguments: argparse.Namespace) -> int:
-    from . import changing
-    return changing.next_changes(arguments)
-
-
 COMMANDS = {
     "check": (commands.check, _sheet),
     "verdict": (commands.verdict, _sheet),
     "rows": (commands.rows, _sheet),
     "margins": (commands.margins, _sheet),
     "summary": (commands.summary, _sheet),
-    "release": (commands.release, _release),
-    "report": (commands.make_report, _report),
-    "next": (_advice, _next),
+    "release": (deciding.release, _release),
+    "report": (deciding.make_report, _report),
+    "next": (deciding.next_changes, _next),
     "fewest": (commands.fewest, _fewest),
     "wenner": (commands.wenner, _wenner),
     "staged": (commands.staged, _staged),

@@ -4,18 +4,15 @@
 from __future__ import annotations
 
 import argparse
-import os
 from typing import Callable, List, Optional, TypeVar
 
-from . import __version__, checking, core, decision, licence, listing, reasons, sheets, site, spreadsheet
+from . import __version__, checking, core, listing, sheets, site, spreadsheet
 from .amounts import Unclear, length
 from .decimals import exact
 from .output import HELD, REFUSED, WELL, read, show, tell, write
-from .terminal import commas, paint
 from .words import Asked, refusal
 
 Answer = TypeVar("Answer")
-RELEASE_NAMES = ("station", "decision", "missing", "unsafe", "undecided", "other_yard", "small_wire", "fault_A")
 
 
 class Stopped(Exception):
@@ -46,13 +43,15 @@ def _clear(of: str, made: Callable[..., Answer], *arguments: object) -> Answer:
         raise Stopped([str(error)], of=of) from None
 
 
-def _worked(arguments: argparse.Namespace, question: Callable[[bytes], Answer]) -> Answer:
+def worked(arguments: argparse.Namespace, question: Callable[[bytes], Answer]) -> Answer:
     """The answer to a question about the sheet of a command."""
     sheet = read(arguments.file)
     try:
         return ask(lambda: question(sheet), Asked(sheet))
     except Stopped as stopped:
         stopped.of = arguments.file
+        if not stopped.printed:
+            raise
         hint = "" if arguments.file == "-" else f"; `hocsimbur check {arguments.file}` tells the refusal of every line"
         stopped.after = f"nothing was worked{hint}"
         raise
@@ -74,82 +73,27 @@ def check(arguments: argparse.Namespace) -> int:
 
 
 def verdict(arguments: argparse.Namespace) -> int:
-    rows = _worked(arguments, core.rows)
+    rows = worked(arguments, core.rows)
     show(listing.verdicts_csv(rows) if arguments.csv else listing.verdicts(rows))
     return WELL if listing.safe(rows) else HELD
 
 
 def rows(arguments: argparse.Namespace) -> int:
-    found, margins = _worked(arguments, lambda sheet: (core.rows(sheet), core.margins(sheet)))
+    found, margins = worked(arguments, lambda sheet: (core.rows(sheet), core.margins(sheet)))
     show(listing.rows_csv(found) if arguments.csv else listing.rows(found, margins))
     return WELL if listing.safe(found) else HELD
 
 
 def margins(arguments: argparse.Namespace) -> int:
-    found, of_rows = _worked(arguments, lambda sheet: (core.rows(sheet), core.margins(sheet)))
+    found, of_rows = worked(arguments, lambda sheet: (core.rows(sheet), core.margins(sheet)))
     show(listing.margins_csv(found, of_rows) if arguments.csv else listing.margins(found, of_rows))
     return WELL if listing.safe(found) else HELD
 
 
 def summary(arguments: argparse.Namespace) -> int:
-    stations, found = _worked(arguments, core.summary_and_rows)
+    stations, found = worked(arguments, core.summary_and_rows)
     show(listing.summary_csv(stations) if arguments.csv else listing.summary(stations))
     return WELL if listing.safe(found) else HELD
-
-
-# ---- release, report, what to change next
-
-def _licence(arguments: argparse.Namespace) -> Optional[licence.Licence]:
-    if not arguments.licence:
-        return None
-    try:
-        return licence.read(read(arguments.licence))
-    except licence.LicenceRefused as refused:
-        raise Stopped([str(refused)], of=arguments.licence) from None
-
-
-def _portfolio(arguments: argparse.Namespace) -> decision.Portfolio:
-    granted = _licence(arguments)
-    return _worked(arguments, lambda sheet: decision.portfolio(sheet, granted))
-
-
-def _decided(stations: List[decision.Station]) -> str:
-    """A line a station: its number and name, the decision, and why."""
-    named = [f"station {one.station}" + (f" {one.name}" if one.name else "") for one in stations]
-    width = max(len(name) for name in named)
-    lines = []
-    for name, one in zip(named, stations):
-        word = "RELEASED" if one.released else "HELD"
-        lines.append(f"{name.ljust(width)}  {paint(word, word)}{' ' * (8 - len(word))}  {reasons.sentence(one)}\n")
-    return "".join(lines)
-
-
-def release(arguments: argparse.Namespace) -> int:
-    portfolio = _portfolio(arguments)
-    stations = list(portfolio.stations)
-    if arguments.csv:
-        answers = [one.answer for one in stations]
-        show(commas(RELEASE_NAMES, [(one.station, "released" if one.released else "held", one.missing, one.unsafe, one.undecided,
-                                     one.other_yard, one.small_wire, one.fault) for one in answers]))
-    else:
-        show(_decided(stations))
-    if portfolio.unlicensed:
-        tell(f"note: the licence does not name station{'s' if len(portfolio.unlicensed) > 1 else ''} "
-             f"{', '.join(str(one) for one in portfolio.unlicensed)} of the sheet")
-    return WELL if all(one.released for one in stations) else HELD
-
-
-def make_report(arguments: argparse.Namespace) -> int:
-    from . import report
-    granted = _licence(arguments)
-    date = arguments.date or report.today()
-    name = "standard input" if arguments.file == "-" else os.path.basename(arguments.file)
-    portfolio, page = _worked(arguments, lambda sheet: (decision.portfolio(sheet, granted), report.render(sheet, name, granted, date)))
-    if arguments.output:
-        write(arguments.output, page.encode(), force=True, sources=(arguments.file, arguments.licence))
-    else:
-        show(page)
-    return WELL if all(one.released for one in portfolio.stations) else HELD
 
 
 # ---- estimators

@@ -1,0 +1,236 @@
+"""The command line: help with its examples, exit statuses, and input and output that fail."""
+from __future__ import annotations
+
+import os
+import pathlib
+import re
+import shlex
+import subprocess
+import sys
+import tempfile
+import unittest
+
+from hocsimbur import cli, core, help_texts, terminal
+
+from .common import PYTHON, ROOT, SAMPLE, process, run
+
+# a command line of every command that prints something
+PRINTING = {name: shlex.split(text.example.split("\n")[0].strip()[len("$ hocsimbur "):]) for name, text in help_texts.COMMANDS.items()}
+
+
+class Help(unittest.TestCase):
+    def test_every_example_prints_what_is_shown(self):
+        for name, text in help_texts.COMMANDS.items():
+            with self.subTest(name), tempfile.TemporaryDirectory() as folder:
+                shown = re.fullmatch(r"  \$ hocsimbur (.*)\n((?:  .*\n|\n)*)", text.example)
+                arguments = [os.path.join(folder, part) if part == "july.html" else part for part in shlex.split(shown[1])]
+                done = run(*arguments)
+                printed = (done.err + done.out).replace(folder + os.sep, "")
+                self.assertEqual("".join(("  " + line).rstrip() + "\n" for line in printed.split("\n")[:-1]), shown[2])
+                self.assertEqual(arguments[0], name)
+
+    def test_every_command_has_help(self):
+        self.assertEqual(list(help_texts.COMMANDS), list(cli.COMMANDS))
+        for name, text in help_texts.COMMANDS.items():
+            done = run(name, "--help")
+            self.assertEqual((done.status, done.err), (0, ""))
+            self.assertIn(text.example, done.out)
+        self.assertEqual(run("--help").status, 0)
+
+    def test_commands_of_the_issue(self):
+        self.assertEqual(set(cli.COMMANDS), {"check", "verdict", "rows", "margins", "summary", "release", "report", "next", "fewest", "wenner",
+                                             "staged", "carry", "carry-back", "import", "version"})
+
+    def test_wrong_arguments(self):
+        for arguments in ([], ["verdicts"], ["verdict"], ["verdict", "--no", "x"], ["fewest", "tests/sample.csv"], ["next", "x", "--station", "y"]):
+            done = run(*arguments)
+            self.assertEqual((done.status, done.out), (3, ""), arguments)
+            self.assertIn("--help", done.err)
+
+    def test_version(self):
+        self.assertEqual(run("--version"), run("version"))
+
+
+class Statuses(unittest.TestCase):
+    def test_release(self):
+        self.assertEqual(run("release", "examples/portfolio.csv", "--licence", "examples/licence.csv").status, 2)
+        self.assertEqual(run("release", "examples/refused-5.csv").status, 1)
+        self.assertEqual(run("release", "-", "--licence", "examples/licence.csv", stdin=b"").status, 1)
+        with tempfile.TemporaryDirectory() as folder:
+            licence = pathlib.Path(folder) / "licence.csv"
+            licence.write_text("station,name,seasons\n7,Seven,2\n")
+            safe = b"".join(SAMPLE.splitlines(keepends=True)[i] for i in (0, 2))
+            done = run("release", "-", "--licence", str(licence), stdin=safe)
+            self.assertEqual(done.status, 0)
+            self.assertEqual(done.out, "station 7 Seven  RELEASED  1 season; nearest limit 68.2 % below (touch, season 2); safe up to 10,023 A\n")
+            self.assertEqual(run("next", "-", "--licence", str(licence), stdin=safe), (0, "nothing is held, nothing is to be changed\n", ""))
+            licence.write_text("station,name,seasons\n7,Seven,5\n")
+            done = run("release", "tests/sample.csv", "--licence", str(licence))
+            self.assertEqual((done.status, done.out), (1, ""))
+            self.assertTrue(done.err.startswith(f"{licence}: licence line 2, seasons: "))
+
+    def test_release_for_machines(self):
+        done = run("release", "tests/sample.csv", "--csv")
+        answer = core.release(SAMPLE, [(7, 15)])[0]
+        self.assertEqual(done.out, "station,decision,missing,unsafe,undecided,other_yard,small_wire,fault_A\n"
+                         f"7,held,{answer.missing},{answer.unsafe},{answer.undecided},{answer.other_yard},{answer.small_wire},{answer.fault}\n")
+
+    def test_unlicensed_stations_are_told(self):
+        with tempfile.TemporaryDirectory() as folder:
+            licence = pathlib.Path(folder) / "licence.csv"
+            licence.write_text("station,name,seasons\n101,Ashgrove,1 2 3 4\n")
+            done = run("release", "examples/portfolio.csv", "--licence", str(licence))
+            self.assertEqual((done.status, len(done.out.split("\n"))), (0, 2))
+            self.assertTrue(done.err.startswith("note: the licence does not name stations 104, 110,"))
+
+    def test_fewest(self):
+        self.assertEqual(run("fewest", "examples/rods.csv", "--station", "303", "--side", "60m", "--csv"), (0, "found,9,28,63\n", ""))
+        for side in ("60000", "60000mm", "60.000m"):
+            self.assertEqual(run("fewest", "examples/rods.csv", "--station", "303", "--side", side, "--csv").out, "found,9,28,63\n")
+        self.assertEqual(run("fewest", "examples/rods.csv", "--station", "303", "--side", "2501mm").status, 0)
+        done = run("fewest", "examples/rods.csv", "--station", "303", "--side", "719.999m")
+        self.assertEqual((done.status, done.out[:17]), (2, "no yard was tried"))
+        for side in ("60,0m", "60.0005m", "60km", "1m", "-60m", "1" * 30):
+            done = run("fewest", "examples/rods.csv", "--station", "303", f"--side={side}")
+            self.assertEqual((done.status, done.out), (1, ""), side)
+            self.assertTrue(done.err.startswith("side: "), done.err)
+        self.assertIn("only one is taken here", run("fewest", "examples/rods.csv", "--side", "60m").err)
+        self.assertIn("no line for station 9", run("fewest", "examples/rods.csv", "--side", "60m", "--station", "9").err)
+
+    def test_report(self):
+        with tempfile.TemporaryDirectory() as folder:
+            page = pathlib.Path(folder) / "page.html"
+            done = run("report", "tests/sample.csv", "--date", "1 July 2026", "-o", str(page))
+            self.assertEqual((done.status, done.out), (2, ""))
+            self.assertEqual(run("report", "tests/sample.csv", "--date", "1 July 2026").out, page.read_text(encoding="utf-8"))
+            self.assertEqual(run("report", "examples/refused-5.csv", "-o", str(page)).status, 1)
+
+    def test_next_of_no_station(self):
+        done = run("next", "tests/sample.csv", "--station", "8")
+        self.assertEqual(done, (1, "", "tests/sample.csv: station 8 has no line in the sheet, and the licence does not name it\n"))
+
+
+class Failing(unittest.TestCase):
+    """Input and output that fail are told, with status 3 and without a traceback."""
+
+    def hold(self, done, said: str) -> None:
+        self.assertEqual(done.status, 3, done.err)
+        self.assertIn(said, done.err)
+        self.assertNotIn("Traceback", done.err)
+
+    def test_a_full_disk(self):
+        for name, arguments in PRINTING.items():
+            if name == "report":
+                arguments = ["report", "tests/sample.csv"]
+            with self.subTest(name), open("/dev/full", "wb") as full:
+                self.hold(process(*arguments, stdout=full), "hocsimbur: standard output: No space left on device")
+
+    def test_help_on_a_full_disk(self):
+        with open("/dev/full", "wb") as full:
+            self.hold(process("--help", stdout=full), "No space left on device")
+
+    def test_a_full_disk_for_a_file(self):
+        self.hold(run("report", "tests/sample.csv", "-o", "/dev/full"), "/dev/full: No space left on device")
+        self.hold(run("import", "tests/sample.csv", "-o", "/dev/full"), "/dev/full: No space left on device")
+
+    def test_a_closed_pipe(self):
+        for arguments in (["report", "examples/portfolio.csv"], ["rows", "--csv", "crates/rows/stdin"]):
+            read, write = os.pipe()
+            os.close(read)
+            with os.fdopen(write, "wb") as closed:
+                self.hold(process(*arguments, stdout=closed), "hocsimbur: standard output: Broken pipe")
+
+    def test_a_reader_that_goes_away(self):
+        command = f"{shlex.quote(sys.executable)} -m hocsimbur report examples/portfolio.csv | true; echo ${{PIPESTATUS[0]}}"
+        done = subprocess.run(["bash", "-c", command], cwd=ROOT, env={**os.environ, "PYTHONPATH": str(PYTHON)}, capture_output=True, check=False)
+        self.assertIn(done.stdout, (b"3\n", b"2\n"))  # 2 where the pipe took the whole page before its reader went away
+        self.assertNotIn(b"Traceback", done.stderr)
+
+    def test_closed_streams(self):
+        for closed, said in ((">&-", "standard output: it is closed"), ("<&-", "standard input")):
+            command = f"{shlex.quote(sys.executable)} -m hocsimbur verdict - {closed}"
+            done = subprocess.run(["sh", "-c", command], cwd=ROOT, env={**os.environ, "PYTHONPATH": str(PYTHON)}, capture_output=True,
+                                  input=SAMPLE if closed == ">&-" else None, check=False)
+            self.assertEqual(done.returncode, 3, done.stderr)
+            self.assertIn(said, done.stderr.decode())
+
+    def test_no_standard_error(self):
+        command = f"{shlex.quote(sys.executable)} -m hocsimbur verdict examples/refused-5.csv 2>&-"
+        done = subprocess.run(["sh", "-c", command], cwd=ROOT, env={**os.environ, "PYTHONPATH": str(PYTHON)}, capture_output=True, check=False)
+        self.assertEqual((done.returncode, done.stdout), (1, b""))
+
+    def test_files_that_cannot_be_read(self):
+        self.hold(run("verdict", "no-such-file.csv"), "hocsimbur: no-such-file.csv: No such file or directory")
+        self.hold(run("verdict", "examples"), "hocsimbur: examples: Is a directory")
+        self.hold(run("verdict", "tests/sample.csv\0"), "null byte")
+        self.hold(run("release", "tests/sample.csv", "--licence", "no-such-file.csv"), "hocsimbur: no-such-file.csv: No such file or directory")
+        with tempfile.TemporaryDirectory() as folder:
+            kept = pathlib.Path(folder) / "kept.csv"
+            kept.write_bytes(SAMPLE)
+            kept.chmod(0)
+            if os.geteuid():
+                self.hold(run("verdict", str(kept)), "Permission denied")
+            self.hold(run("report", "tests/sample.csv", "-o", f"{folder}/no/such/page.html"), "No such file or directory")
+
+    def test_no_library(self):
+        self.hold(process("verdict", "tests/sample.csv", env={"HOCSIMBUR_LIBRARY": "/no/such/libhocsimbur.so.1"}),
+                  "build it by `make`, or name it in the environment variable HOCSIMBUR_LIBRARY")
+
+    def test_another_library(self):
+        self.hold(process("verdict", "tests/sample.csv", env={"HOCSIMBUR_LIBRARY": "libc.so.6"}), "the library has no hocsimbur_summary")
+
+
+class Terminals(unittest.TestCase):
+    def test_no_colour_in_a_pipe(self):
+        self.assertNotIn("\x1b", process("verdict", "tests/sample.csv").out)
+
+    def test_colour_on_a_terminal(self):
+        text = self.on_terminal({"TERM": "xterm"})
+        self.assertIn("\x1b[1;31munsafe\x1b[0m", text)
+        self.assertEqual(re.sub("\x1b\\[[0-9;]*m", "", text).replace("\r", ""), run("verdict", "tests/sample.csv").out)
+
+    def test_no_colour_where_it_is_not_wanted(self):
+        for wish in ({"TERM": "xterm", "NO_COLOR": "1"}, {"TERM": "dumb"}):
+            self.assertNotIn("\x1b", self.on_terminal(wish))
+
+    @staticmethod
+    def on_terminal(wish) -> str:
+        """What verdict writes to a terminal."""
+        ours, theirs = os.openpty()
+        environment = {key: value for key, value in os.environ.items() if key != "NO_COLOR"}
+        try:
+            subprocess.run([sys.executable, "-m", "hocsimbur", "verdict", "tests/sample.csv"], stdout=theirs, cwd=ROOT, check=False,
+                           env={**environment, "PYTHONPATH": str(PYTHON), **wish})
+        finally:
+            os.close(theirs)
+        with os.fdopen(ours, "rb", buffering=0) as screen:
+            text = b""
+            while True:
+                try:
+                    part = screen.read(4096)
+                except OSError:  # the other end is closed, and all is read
+                    return text.decode()
+                if not part:
+                    return text.decode()
+                text += part
+
+    def test_aligned(self):
+        self.assertEqual(terminal.aligned(("a", "bb"), [("ccc", "d"), ("", "e")], left=(0,)), "a    bb\nccc   d\n      e\n")
+
+    def test_another_encoding(self):
+        done = process("wenner", "--reading", "1,10", env={"PYTHONIOENCODING": "ascii", "LC_ALL": "C"})
+        self.assertEqual(done.status, 0, done.err)
+        self.assertIn("column soil: 63 Ω·m\n", done.out)
+
+
+class Checkout(unittest.TestCase):
+    def test_from_anywhere(self):
+        with tempfile.TemporaryDirectory() as folder:
+            os.symlink(ROOT / "hocsimbur", pathlib.Path(folder) / "grounds")
+            for command in (ROOT / "hocsimbur", pathlib.Path(folder) / "grounds"):
+                done = subprocess.run([str(command), "verdict", str(ROOT / "tests" / "sample.csv")], cwd=folder, capture_output=True, check=False)
+                self.assertEqual(done.returncode, 2, done.stderr)
+
+
+if __name__ == "__main__":
+    unittest.main()
