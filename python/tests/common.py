@@ -7,7 +7,7 @@ import os
 import pathlib
 import subprocess
 import sys
-from typing import Dict, NamedTuple, Optional, Sequence
+from typing import Dict, NamedTuple, Optional, Sequence, TextIO
 
 from hocsimbur import cli, sheets
 
@@ -43,14 +43,14 @@ class _Stream(io.TextIOWrapper):
         return self.buffer.getvalue().decode()
 
 
-def run(*arguments: str, stdin: bytes = b"") -> Run:
-    """A command run in this process, at the top of the repository."""
+def run(*arguments: str, stdin: bytes = b"", stdout: Optional[TextIO] = None) -> Run:
+    """A command run in this process, at the top of the repository; what it writes to another standard output is not kept."""
     out, err, source = _Stream(), _Stream(), io.TextIOWrapper(io.BytesIO(stdin))
     before, kept = os.getcwd(), sys.stdin
     os.chdir(ROOT)
     sys.stdin = source
     try:
-        with contextlib.redirect_stdout(out), contextlib.redirect_stderr(err):
+        with contextlib.redirect_stdout(stdout or out), contextlib.redirect_stderr(err):
             try:
                 status = cli.main(list(arguments))
             except SystemExit as ended:

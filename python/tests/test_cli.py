@@ -119,15 +119,15 @@ class Failing(unittest.TestCase):
         self.assertNotIn("Traceback", done.err)
 
     def test_a_full_disk(self):
-        for name, arguments in PRINTING.items():
+        with open("/dev/full", "wb") as full:
+            self.hold(process("verdict", "tests/sample.csv", stdout=full), "hocsimbur: standard output: No space left on device")
+
+    def test_a_full_disk_for_every_command(self):
+        for name, arguments in [*PRINTING.items(), ("--help", ["--help"])]:
             if name == "report":
                 arguments = ["report", "tests/sample.csv"]
-            with self.subTest(name), open("/dev/full", "wb") as full:
-                self.hold(process(*arguments, stdout=full), "hocsimbur: standard output: No space left on device")
-
-    def test_help_on_a_full_disk(self):
-        with open("/dev/full", "wb") as full:
-            self.hold(process("--help", stdout=full), "No space left on device")
+            with self.subTest(name), open("/dev/full", "w", encoding="utf-8") as full:
+                self.hold(run(*arguments, stdout=full), "hocsimbur: standard output: No space left on device")
 
     def test_a_full_disk_for_a_file(self):
         self.hold(run("report", "tests/sample.csv", "-o", "/dev/full"), "/dev/full: No space left on device")

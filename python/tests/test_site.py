@@ -1,0 +1,167 @@
+"""Four-pin readings and staged tests: exact or refused, and a split that is never too small."""
+from __future__ import annotations
+
+import math
+import random
+import unittest
+from fractions import Fraction
+
+from hocsimbur import amounts, core, site
+from hocsimbur.core import Pair
+
+from .common import run
+
+# IEEE Std 81.2, the table of section 10.4: currents in A and degrees of 1000 A injected; the induced current of the second ground wire
+# flows towards the grid, so that it counts negative
+TABLE = {
+    (202, "200∠22.5°"): ["1000@0", "199@-19.9", "452@7.4", "199@-19.9", "-8.5@-5.4"],
+    (319, "318∠8.4°"): ["1000@0", "103@-30.5", "519@6.6", "103@-30.5", "-8.3@0.6"],
+    (369, "369∠−4.5°"): ["1000@0", "38@-42.8", "589@7.8", "38@-42.8", "-6.8@2.6"],
+}
+
+
+class Amounts(unittest.TestCase):
+    def test_exact(self):
+        for text, millimetres in (("70m", 70000), ("70000mm", 70000), ("70000", 70000), ("0.5 m", 500), (" 2.500m ", 2500), ("70.m", 70000)):
+            self.assertEqual(amounts.length(text), millimetres)
+
+    def test_refused(self):
+        for text in ("70.0005m", "70,5m", "1,000m", "70km", "m", "", "1e3", "0.5mm", "7" * 50, "½m", "７0m"):
+            with self.assertRaises(amounts.Unclear, msg=text):
+                amounts.length(text)
+
+    def test_cosines_are_enclosed(self):
+        for tenths in range(-3600, 3601, 7):
+            lower, upper = amounts._cosine(Fraction(tenths, 10))
+            self.assertLessEqual(lower, upper)
+            self.assertLess(upper - lower, Fraction(1, 10 ** 20))
+            self.assertLess(abs(float(lower) - math.cos(math.radians(tenths / 10))), 1e-12)
+
+    def test_cosines_that_are_rational(self):
+        for degrees, cosine in ((0, 1), (60, Fraction(1, 2)), (90, 0), (120, Fraction(-1, 2)), (180, -1), (270, 0), (300, Fraction(1, 2)),
+                                (-60, Fraction(1, 2)), (360, 1)):
+            self.assertEqual(amounts._cosine(Fraction(degrees)), (cosine, cosine))
+
+    def test_pi(self):
+        """Machin's formula, in whole numbers and rounded outward, gives the same ends."""
+        scale = 10 ** 60
+
+        def arctan(inverse: int) -> Fraction:
+            return sum(Fraction((-1) ** k, (2 * k + 1) * inverse ** (2 * k + 1)) for k in range(50))
+        pi = (16 * arctan(5) - 4 * arctan(239)) * scale
+        self.assertLess(Fraction(amounts._PI.lower, amounts._SCALE) * scale, pi)
+        self.assertGreater(Fraction(amounts._PI.upper, amounts._SCALE) * scale, pi)
+
+
+class Readings(unittest.TestCase):
+    def test_the_manual_s_example(self):
+        done = run("wenner", "--csv", "--reading", "1,10", "--reading", "2,3", "--reading", "3,1")
+        self.assertEqual((done.status, done.out.split("\n")[1]), (0, "18849555,18849557,62831853,62831854,39793506,39793508,40"))
+
+    def test_decimals_are_exact(self):
+        self.assertEqual(site.reading("1.5", "0.25"), (1500, 250))
+        self.assertEqual(site.readings(b"metres,ohms\n1.5,0.25\n2,3\n"), [(1500, 250), (2000, 3000)])
+
+    def test_a_text_with_other_columns_and_marks(self):
+        self.assertEqual(site.readings(b"\xef\xbb\xbfremark,Ohms,metres\r\ndry,3,2\r\n\r\n"), [(2000, 3000)])
+
+    def test_refused(self):
+        for arguments, said in (
+                (["--reading", "1.0005,10"], "reading 1.0005,10: distance: 1.0005 m is not a whole number of mm; it is not rounded"),
+                (["--reading", "1,10.0001"], "reading 1,10.0001: resistance: 10.0001 Ω is not a whole number of mΩ; it is not rounded"),
+                (["--reading", "1,5,10"], "reading 1,5,10: '1,5,10' is not two numbers parted by a comma; write a decimal point inside a number"),
+                (["--reading", "1"], "reading 1: '1' is not two numbers parted by a comma; write a decimal point inside a number"),
+                (["--reading", "0.4,1"], "reading 1, distance: 0.4 m is not in 0.5..50 m"),
+                (["--reading", "1,1001"], "reading 1, resistance: 1,001 Ω is not in 0.001..1,000 Ω"),
+                (["--reading=-1,1"], "reading -1,1: distance: −1 is far out of range"),
+                ([], "give either a file of readings or --reading METRES,OHMS once for each reading"),
+                (["tests/sample.csv"], "tests/sample.csv: line 1: the names must be metres,ohms; here they are station,season")):
+            done = run("wenner", *arguments)
+            self.assertEqual((done.status, done.out), (1, ""))
+            self.assertTrue(done.err.startswith(said), done.err)
+
+    def test_texts_refused(self):
+        for text, said in ((b"", "the text is empty; its first line is metres,ohms"), (b"metres,ohms\n", "there is no reading"),
+                           (b"metres,ohms\n1,5,10\n", "line 2: there are 3 cells for 2 names; write a decimal point, no comma"),
+                           (b"metres,ohms\n1,x\n", "line 2: resistance: 'x' is no number")):
+            self.assertEqual(run("wenner", "-", stdin=text), (1, "", said + "\n"))
+
+    def test_warning(self):
+        done = run("wenner", "--reading", "1,10", "--reading", "1,5")
+        self.assertEqual(done.err, "")
+        done = run("wenner", "--reading", "1,10", "--reading", "1,4.999")
+        self.assertEqual(done.status, 0)
+        self.assertIn("warning: the greatest apparent resistivity is over 2.0 times the least. IEEE Std 80, 13.4", done.err)
+        self.assertIn("over 24.9 times", run("wenner", "--reading", "1,10", "--reading", "1,0.4").err)
+
+    def test_soil_that_no_sheet_takes(self):
+        self.assertIn("note: 1 Ω·m is not in 10..5000; a sheet refuses it", run("wenner", "--reading", "1,0.1").err)
+
+
+class Staged(unittest.TestCase):
+    def test_the_table_of_ieee_81_2(self):
+        for (split, printed), (injected, *branches) in TABLE.items():
+            options = [f"--branch={branch}" for branch in branches]
+            done = run("staged", "--csv", f"--injected={injected}", *options)
+            self.assertEqual(done.status, 0, done.err)
+            in_phase, quadrature, answered = (int(number) for number in done.out.split("\n")[1].split(","))
+            self.assertEqual(answered, split)
+            size, angle = printed.replace("−", "-").rstrip("°").split("∠")
+            self.assertLess(abs(math.hypot(in_phase, quadrature) / 1000 - float(size)), 1.5)
+            self.assertLess(abs(math.degrees(math.atan2(quadrature, in_phase)) - float(angle)), 0.5)
+            self.assertIn("note: parts of sizes at angles are no whole milliamperes", done.err)
+
+    def test_from_a_text(self):
+        rows = "size,angle\n" + "".join(",".join(current.split("@")) + "\n" for current in TABLE[(202, "200∠22.5°")])
+        self.assertTrue(run("staged", "-", "--csv", stdin=rows.encode()).out.endswith(",202\n"))
+        done = run("staged", "-", "--csv", stdin=b"name,in_phase,quadrature\ninjected,1000,0\nshield wire,400,0\n")
+        self.assertEqual(done, (0, "in_phase_mA,quadrature_mA,split_per_mille\n600000,0,600\n", ""))
+
+    def test_exact_parts_are_not_moved(self):
+        measured = [site.current(text) for text in ("1000,0", "400.001,-0.5", "1@90", "2@180", "2@60")]
+        self.assertEqual(measured[2:4], [site.Part(Pair(0, 0), Pair(1000, 1000)), site.Part(Pair(-2000, -2000), Pair(0, 0))])
+        handed, moved = site.rounded(measured[:4])
+        self.assertEqual((handed, moved), ([(1000000, 0), (400001, -500), (0, 1000), (-2000, 0)], 0))
+        self.assertEqual(site.rounded(measured)[1], 1)
+
+    def test_the_split_is_not_too_small(self):
+        """For sizes and angles at random, no choice of the parts within their ends has a greater split."""
+        source = random.Random(81)
+        for _ in range(300):
+            def one() -> str:
+                return f"{source.randint(1, 4000) / 1000}@{source.randint(-1800, 1800) / 10}"
+            measured = [site.current(one()) for _ in range(source.randint(2, 4))]
+            handed, _ = site.rounded(measured)
+            if handed[0] == (0, 0):
+                continue
+            split = core.split(handed).split
+            for _ in range(20):
+                tried = [tuple(source.choice(part) for part in current) for current in measured]
+                if tried[0] != (0, 0):
+                    self.assertLessEqual(core.split(tried).split, split)
+
+    def test_refused(self):
+        for arguments, said in (
+                (["--injected", "1000,0"], "there are 0 branches"),
+                (["--injected", "1000", "--branch", "1,0"], "current 1000: '1000' is not two numbers"),
+                (["--injected", "1000,0", "--branch", "0.0005,0"], "current 0.0005,0: 0.0005 A is not a whole number of mA"),
+                (["--injected", "1000,0", "--branch", "4@x"], "current 4@x: 'x' is no number"),
+                (["--injected", "1000,0", "--branch", "4@400"], "current 4@400: angle: 400 is not in −360..360 degrees"),
+                (["--injected", "0,0", "--branch", "1,0"], "the injected current is 0"),
+                (["--injected", "2000,0", "--branch", "1,0"], "injected, in-phase part: 2,000 A is not in −1,000..1,000 A"),
+                ([], "give a file, or --injected and a --branch for each branch"),
+                (["--branch", "1,0"], "give a file, or --injected and a --branch for each branch"),
+                (["tests/sample.csv", "--branch", "1,0"], "give either a file or --injected and --branch"),
+                (["tests/sample.csv"], "tests/sample.csv: line 1: the names must be in_phase,quadrature or size,angle")):
+            done = run("staged", *arguments)
+            self.assertEqual((done.status, done.out), (1, ""))
+            self.assertTrue(done.err.startswith(said), done.err)
+
+    def test_a_split_that_no_sheet_takes(self):
+        self.assertIn("note: a split of 0 per mille is not in 1..1000; a sheet refuses it",
+                      run("staged", "--injected", "1,0", "--branch", "1,0").err)
+        self.assertIn("note: a split of 2,000 per mille", run("staged", "--injected", "1,0", "--branch=-1,0").err)
+
+
+if __name__ == "__main__":
+    unittest.main()
