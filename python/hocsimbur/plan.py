@@ -16,6 +16,7 @@ from .decision import YARD, Line, Station
 LEFT, TOP, WIDTH, HEIGHT = 300, 140, 2140, 1320  # the room for the grid itself
 WHOLE_WIDTH = 2500
 SCALE_BARS = (1, 2, 5, 10, 20, 50, 100, 200)     # metres
+DOT, SMALL_DOT = 24, 9                           # radius of a rod
 SHORT = 520                                      # below this height the second side's label stands over the drawing
 
 
@@ -97,10 +98,18 @@ def rods(drawn: Drawn, case: Dict[str, int]) -> List[Tuple[int, int]]:
     return _at_perimeter(drawn, case["rods"]) if case["place"] == 1 else _inside(drawn, case["rods"])
 
 
+def _dot(places: List[Tuple[int, int]], drawn: Drawn) -> int:
+    """The radius of a rod's dot: smaller where many stand along the perimeter."""
+    apart = drawn.length(2 * (drawn.width + drawn.height)) // len(places) if places else DOT
+    return max(SMALL_DOT, min(DOT, 2 * apart // 5))
+
+
 def _grid(drawn: Drawn, case: Dict[str, int]) -> str:
+    places = rods(drawn, case)
+    radius = _dot(places, drawn)
     wires = [f'M{drawn.x(i * drawn.space)} {drawn.y(0)}V{drawn.y(drawn.height)}' for i in range(drawn.right)]
     wires += [f'M{drawn.x(0)} {drawn.y(j * drawn.space)}H{drawn.x(drawn.width)}' for j in range(drawn.down)]
-    dots = "".join(f'<circle cx="{drawn.x(x)}" cy="{drawn.y(y)}" r="24"/>' for x, y in rods(drawn, case))
+    dots = "".join(f'<circle cx="{drawn.x(x)}" cy="{drawn.y(y)}" r="{radius}"/>' for x, y in places)
     return f'<path class="wire" d="{"".join(wires)}"/><g class="rod">{dots}</g>'
 
 

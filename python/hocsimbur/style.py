@@ -20,6 +20,8 @@ a:focus-visible{outline:3px solid #ffdd00;outline-offset:0;background:#ffdd00}
 .station{border-top:.35rem solid var(--ink)}
 .head{display:flex;align-items:baseline;justify-content:space-between;gap:1rem 2rem;flex-wrap:wrap}
 .station .head{align-items:center}
+h2,.nm,.meta dd{overflow-wrap:anywhere}
+.station .head h2{flex:1;min-width:0}
 h2 .no{display:inline-block;margin-right:.35rem}
 
 /* marks and badges: a shape and a word, colour third */
@@ -30,7 +32,7 @@ h2 .no{display:inline-block;margin-right:.35rem}
 .badge{display:inline-flex;align-items:center;gap:.4em;font-weight:700;letter-spacing:.03em;font-size:.84rem;line-height:1;white-space:nowrap}
 .badge .mark{width:1.25em;height:1.25em}
 .badge.held{color:var(--red)}.badge.released{color:var(--green)}
-.station .head .badge{font-size:1.3rem;border:.16rem solid;padding:.34em .6em}
+.station .head .badge{font-size:1.3rem;border:.16rem solid;padding:.34em .6em;margin-right:.1rem}
 .station .head .badge.released{border-radius:2em}
 
 /* page 1 */
@@ -85,7 +87,7 @@ td{vertical-align:top}
 .asides .caution .mark{margin-right:.3em}
 .two{display:grid;gap:0 2rem;align-items:start}
 .two.top{grid-template-columns:minmax(0,1.75fr) minmax(0,1fr);margin-top:1.2rem}
-.two.low{grid-template-columns:minmax(0,1.12fr) minmax(0,1fr);margin-top:1.1rem}
+.two.low{grid-template-columns:minmax(min-content,1.12fr) minmax(min-content,1fr);margin-top:1.1rem}
 caption{text-align:left;padding-bottom:.3rem}
 .bars{table-layout:fixed;font-size:.84rem}
 .bars td,.bars th{padding:0;vertical-align:middle;font-weight:400;line-height:1.2}

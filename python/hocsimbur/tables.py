@@ -8,6 +8,7 @@ from typing import Callable, List, NamedTuple, Tuple
 
 from . import decimals, labels, reasons
 from .core import Pair
+from .decimals import NO_BREAK as NB
 from .decision import ABOVE, BELOW, NOT_PARTED, YARD, Compared, Line, Station
 from .drawing import LIMIT, Scale, axis, bar, between, mark, no_bar, word
 from .names import METALS
@@ -136,7 +137,7 @@ def results(station: Station) -> str:
 def _metal(station: Station) -> str:
     kinds = sorted({line.case["metal"] for line in station.lines})
     said = METALS[kinds[0]] if len(kinds) == 1 else "; ".join(f"{kind} {METALS[kind]}" for kind in kinds)
-    return f'Metal <span class="mn">({escape(said)})</span>'
+    return f'Metal <span class="mn">({escape(said.replace(" %", NB + "%"))})</span>'
 
 
 def _differs(station: Station, name: str) -> Tuple[str, str]:
