@@ -127,7 +127,7 @@ def greatest(station: Station) -> str:
     """The greatest fault current that is still safe, in short."""
     if station.fault == 0:
         return "none"
-    return f"{'at most ' if station.missing else ''}{grouped(station.fault)}{NB}A{' or more' if station.fault == FAULT_MOST else ''}"
+    return f"{'at most ' if station.missing else ''}{grouped(station.fault)}{NB}A{', end of range' if station.fault == FAULT_MOST else ''}"
 
 
 def wire_to(station: Station) -> int:

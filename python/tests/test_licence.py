@@ -1,0 +1,74 @@
+"""The licence: what is read, and every refusal in words."""
+from __future__ import annotations
+
+import unittest
+
+from hocsimbur import licence
+from hocsimbur.licence import Licensed, LicenceRefused
+
+from .portfolios import LICENCE
+
+HEAD = b"station,name,seasons\n"
+
+
+class Read(unittest.TestCase):
+    def test_the_example(self):
+        self.assertEqual(LICENCE.stations[0], Licensed(101, "Ashgrove", (1, 2, 3, 4)))
+        self.assertEqual(LICENCE.stations[1], Licensed(104, "Birch Hollow, east yard", (1, 2)))
+        self.assertEqual([one.station for one in LICENCE.stations], [101, 104, 110, 118, 123, 131, 140, 152, 160, 171, 188, 204, 215])
+
+    def test_seasons_as_the_core_takes_them(self):
+        self.assertEqual([Licensed(1, "", seasons).mask for seasons in ((1,), (2,), (3,), (4,), (1, 3), (1, 2, 3, 4))], [1, 2, 4, 8, 5, 15])
+
+    def test_what_spreadsheets_write(self):
+        text = b"\xef\xbb\xbfstation,name,seasons\r\n\r\n 7 , North ,2  1\r\n,,\r\n"
+        self.assertEqual(licence.read(text).stations, (Licensed(7, "North", (1, 2)),))
+
+    def test_other_order_of_columns(self):
+        self.assertEqual(licence.read(b"seasons,station,name\n4 1,7,\n").stations, (Licensed(7, "", (1, 4)),))
+
+    def test_no_line_end(self):
+        self.assertEqual(licence.read(HEAD + b"7,A,1").stations, (Licensed(7, "A", (1,)),))
+
+    def test_as_many_as_the_core_takes(self):
+        lines = [b"%d,,1\n" % station for station in range(1, 258)]
+        self.assertEqual(len(licence.read(HEAD + b"".join(lines[:256])).stations), 256)
+        with self.assertRaises(LicenceRefused) as refused:
+            licence.read(HEAD + b"".join(lines))
+        self.assertEqual(str(refused.exception), "licence: it names 257 stations; 1 to 256 are allowed")
+
+
+class Refusals(unittest.TestCase):
+    CASES = {
+        b"": "licence: it is empty; its first line is station,name,seasons",
+        b"\n \n": "licence: it is empty; its first line is station,name,seasons",
+        HEAD: "licence: it names 0 stations; 1 to 256 are allowed",
+        b"station,name\n7,A\n": "licence line 1: the names are station,name, not station,name,seasons",
+        b"station,name,season\n": "licence line 1: the names are station,name,season, not station,name,seasons",
+        b"station,name,seasons,seasons\n": "licence line 1: the names are station,name,seasons,seasons, not station,name,seasons",
+        HEAD + b"7,A\n": "licence line 2: 2 cells and not 3; a name with a comma stands in double quotes",
+        HEAD + b"7,A,B,1 2\n": "licence line 2: 4 cells and not 3; a name with a comma stands in double quotes",
+        HEAD + b"0,A,1\n": "licence line 2, station: '0' is not a number in 1..65535",
+        HEAD + b"65536,A,1\n": "licence line 2, station: '65536' is not a number in 1..65535",
+        HEAD + b"x,A,1\n": "licence line 2, station: 'x' is not a number in 1..65535",
+        HEAD + b",A,1\n": "licence line 2, station: '' is not a number in 1..65535",
+        HEAD + "\u0667,A,1\n".encode(): "licence line 2, station: '\u0667' is not a number in 1..65535",
+        HEAD + b"7,A,1\n8,B,2\n7,C,3\n": "licence line 4, station: 7 stands in line 2 too",
+        HEAD + b"7,A,\n": "licence line 2, seasons: none is named; write for example 1 2 3 4",
+        HEAD + b"7,A,5\n": "licence line 2, seasons: '5' is not 1, 2, 3 or 4; part seasons by spaces",
+        HEAD + b"7,A,12\n": "licence line 2, seasons: '12' is not 1, 2, 3 or 4; part seasons by spaces",
+        HEAD + b"7,A,1 2 1\n": "licence line 2, seasons: '1 2 1' names a season twice",
+        HEAD + b"7,A\x07B,1\n": "licence line 2, name: it has a character that cannot be printed",
+        HEAD + b"7,\xff,1\n": "licence line 2: its bytes are no UTF-8; save the licence as UTF-8",
+        HEAD + b'7,"A,1\n': "licence line 2: unexpected end of data",
+    }
+
+    def test_each(self):
+        for text, said in self.CASES.items():
+            with self.subTest(text), self.assertRaises(LicenceRefused) as refused:
+                licence.read(text)
+            self.assertEqual(str(refused.exception), said)
+
+
+if __name__ == "__main__":
+    unittest.main()
