@@ -1,14 +1,18 @@
-# For programs in C: both libraries, the header, pkg-config files and the man page; the example, what tests and times the entries,
-# and a release for a customer without the Rattle kit.
+# For programs in C: both libraries, the header, pkg-config files and the man pages; the example, what tests and times the entries,
+# and a release for a customer without the Rattle kit. For people: the command hocsimbur, a package in Python.
 #
-#   make                              the libraries and the example
-#   make install PREFIX=/usr/local    also LIBDIR, INCLUDEDIR, MANDIR, DESTDIR; uninstall takes the same
+#   make                              the libraries and the example; ./hocsimbur then runs from here
+#   make install PREFIX=/usr/local    also LIBDIR, INCLUDEDIR, MANDIR, BINDIR, PYTHONDIR, DESTDIR; uninstall takes the same
+#   make wheel                        target/wheel/hocsimbur-VERSION-py3-none-linux_x86_64.whl, with the library inside
 #   make dist                         target/dist/hocsimbur-VERSION.tar.gz
 #   make check                        what the gate runs of it
 PREFIX ?= /usr/local
 LIBDIR ?= $(PREFIX)/lib
 INCLUDEDIR ?= $(PREFIX)/include
 MANDIR ?= $(PREFIX)/share/man
+BINDIR ?= $(PREFIX)/bin
+PYTHONDIR ?= $(PREFIX)/share/hocsimbur
+PYTHON ?= python3
 CC ?= cc
 CXX ?= c++
 CFLAGS ?= -O2
@@ -39,7 +43,7 @@ MANUAL = $(firstword $(wildcard docs/manual.md) README.md)
 DIST = hocsimbur-$(VERSION)
 
 .NOTPARALLEL:
-.PHONY: all libraries install uninstall clean dist panel harness sanitized wrong wrong-names check
+.PHONY: all libraries install uninstall clean dist wheel panel harness sanitized wrong wrong-names check check-python
 
 all: libraries panel
 
@@ -86,7 +90,9 @@ wrong-names:
 	@echo $(WRONG)
 
 install: libraries
-	install -d $(DESTDIR)$(INCLUDEDIR) $(DESTDIR)$(LIBDIR)/pkgconfig $(DESTDIR)$(MANDIR)/man3
+	rm -rf $(DESTDIR)$(PYTHONDIR)/hocsimbur
+	install -d $(DESTDIR)$(INCLUDEDIR) $(DESTDIR)$(LIBDIR)/pkgconfig $(DESTDIR)$(MANDIR)/man1 $(DESTDIR)$(MANDIR)/man3 \
+	    $(DESTDIR)$(BINDIR) $(DESTDIR)$(PYTHONDIR)/hocsimbur
 	install -m 644 include/hocsimbur.h $(DESTDIR)$(INCLUDEDIR)/hocsimbur.h
 	install -m 644 $(STATIC_LIBRARY) $(DESTDIR)$(LIBDIR)/libhocsimbur.a
 	install -m 755 $(SHARED_LIBRARY) $(DESTDIR)$(LIBDIR)/$(SHARED)
@@ -97,14 +103,24 @@ install: libraries
 	    sed 's|@PREFIX@|$(PREFIX)|; s|@LIBDIR@|$(LIBDIR)|; s|@INCLUDEDIR@|$(INCLUDEDIR)|; s|@VERSION@|$(VERSION)|' host/$$name.pc.in \
 	        > $(DESTDIR)$(LIBDIR)/pkgconfig/$$name.pc || exit 1; \
 	done
+	install -m 644 host/hocsimbur.1 $(DESTDIR)$(MANDIR)/man1/hocsimbur.1
+	install -m 644 python/hocsimbur/*.py $(DESTDIR)$(PYTHONDIR)/hocsimbur
+	ln -sf $(LIBDIR)/$(SONAME) $(DESTDIR)$(PYTHONDIR)/hocsimbur/$(SONAME)
+	$(PYTHON) -m compileall -q $(DESTDIR)$(PYTHONDIR)/hocsimbur
+	sed 's|@PYTHONDIR@|$(PYTHONDIR)|' host/hocsimbur.in > $(DESTDIR)$(BINDIR)/hocsimbur
+	chmod 755 $(DESTDIR)$(BINDIR)/hocsimbur
 
 uninstall:
+	rm -rf $(DESTDIR)$(PYTHONDIR)/hocsimbur
 	rm -f $(DESTDIR)$(INCLUDEDIR)/hocsimbur.h $(DESTDIR)$(LIBDIR)/libhocsimbur.a $(DESTDIR)$(LIBDIR)/$(SHARED) $(DESTDIR)$(LIBDIR)/$(SONAME) \
 	    $(DESTDIR)$(LIBDIR)/libhocsimbur.so $(DESTDIR)$(MANDIR)/man3/hocsimbur.3 $(DESTDIR)$(LIBDIR)/pkgconfig/hocsimbur.pc \
-	    $(DESTDIR)$(LIBDIR)/pkgconfig/hocsimbur-static.pc
+	    $(DESTDIR)$(LIBDIR)/pkgconfig/hocsimbur-static.pc $(DESTDIR)$(MANDIR)/man1/hocsimbur.1 $(DESTDIR)$(BINDIR)/hocsimbur
 
 clean:
-	rm -rf $(OUT) target/dist $(ARCHIVES)
+	rm -rf $(OUT) target/dist target/wheel $(ARCHIVES)
+
+wheel: libraries
+	$(PYTHON) python/make_wheel.py $(VERSION) $(SHARED_LIBRARY) target/wheel
 
 target/bin/%:
 	rt check $*
@@ -116,3 +132,8 @@ dist: libraries $(PROGRAMS:%=target/bin/%)
 
 check: libraries panel harness sanitized wrong
 	bash host/check.sh
+	$(MAKE) -s check-python
+
+# the tests of the package ask the library that was built here
+check-python: libraries
+	HOCSIMBUR_LIBRARY= $(PYTHON) -m unittest discover -s python/tests -t python

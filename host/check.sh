@@ -38,8 +38,10 @@ if here cppcheck; then
         || fail "cppcheck"
 fi
 if here man; then
-    man --warnings -l host/hocsimbur.3 2>"$work/told" >/dev/null || fail "the man page"
-    [ ! -s "$work/told" ] || fail "the man page: $(cat "$work/told")"
+    for page in host/hocsimbur.[13]; do
+        man --warnings -l "$page" 2>"$work/told" >/dev/null || fail "the man page $page"
+        [ ! -s "$work/told" ] || fail "the man page $page: $(cat "$work/told")"
+    done
 fi
 echo "host: $asked have no report"
 
@@ -100,7 +102,11 @@ for name in hocsimbur hocsimbur-static; do
 " || fail "another answer from C++ by $name"
 done
 unset PKG_CONFIG_PATH LD_LIBRARY_PATH
-echo "host: an installed copy serves C and C++ by both libraries"
+status=0
+(cd / && env -u HOCSIMBUR_LIBRARY -u PYTHONPATH "$work/prefix/bin/hocsimbur" verdict --csv - <"$OLDPWD/crates/verdict/stdin") >"$work/lines" \
+    || status=$?
+[ "$status" -eq 2 ] && diff crates/verdict/stdout "$work/lines" || fail "the installed command prints something else"
+echo "host: an installed copy serves C and C++ by both libraries, and people by the command hocsimbur"
 
 # what must hold of every answer, and each wrong entry told
 "$out/harness" edges

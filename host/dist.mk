@@ -1,12 +1,14 @@
-# A release of Hocsimbur for x86-64 Linux: libraries, header, man page, manual, examples and programs. Needs cc and make.
+# A release of Hocsimbur for x86-64 Linux: libraries, header, man pages, manual, examples, programs and the command ./hocsimbur. Needs cc
+# and make; the command needs Python 3.9 or newer.
 #
-#   make check                        the checksums, the example by both libraries, and a program, beside their stored lines
-#   make install PREFIX=/usr/local    also LIBDIR, INCLUDEDIR, MANDIR, BINDIR, DESTDIR; uninstall takes the same
+#   make check                        the checksums, the example by both libraries, a program and the command, beside their stored lines
+#   make install PREFIX=/usr/local    also LIBDIR, INCLUDEDIR, MANDIR, BINDIR, PYTHONDIR, DESTDIR; uninstall takes the same
 PREFIX ?= /usr/local
 LIBDIR ?= $(PREFIX)/lib
 INCLUDEDIR ?= $(PREFIX)/include
 MANDIR ?= $(PREFIX)/share/man
 BINDIR ?= $(PREFIX)/bin
+PYTHONDIR ?= $(PREFIX)/share/hocsimbur
 CC ?= cc
 CFLAGS ?= -O2
 LDFLAGS ?=
@@ -37,15 +39,23 @@ check: all
 	    cmp build/lines examples/panel/refused.out || exit 1; \
 	done
 	bin/verdict < examples/sample.csv | cmp - examples/sample.verdicts
+	! command -v python3 > /dev/null || ./hocsimbur verdict --csv examples/sample.csv | cmp - examples/sample.verdicts
 	@echo "hocsimbur $(VERSION): checked"
 
 install:
-	mkdir -p $(DESTDIR)$(INCLUDEDIR) $(DESTDIR)$(LIBDIR)/pkgconfig $(DESTDIR)$(MANDIR)/man3 $(DESTDIR)$(BINDIR)
+	rm -rf $(DESTDIR)$(PYTHONDIR)/hocsimbur
+	mkdir -p $(DESTDIR)$(INCLUDEDIR) $(DESTDIR)$(LIBDIR)/pkgconfig $(DESTDIR)$(MANDIR)/man1 $(DESTDIR)$(MANDIR)/man3 $(DESTDIR)$(BINDIR) \
+	    $(DESTDIR)$(PYTHONDIR)/hocsimbur
 	cp include/hocsimbur.h $(DESTDIR)$(INCLUDEDIR)/
 	cp lib/libhocsimbur.a lib/$(SHARED) $(DESTDIR)$(LIBDIR)/
 	ln -sf $(SHARED) $(DESTDIR)$(LIBDIR)/$(SONAME)
 	ln -sf $(SONAME) $(DESTDIR)$(LIBDIR)/libhocsimbur.so
 	cp man/man3/hocsimbur.3 $(DESTDIR)$(MANDIR)/man3/
+	cp man/man1/hocsimbur.1 $(DESTDIR)$(MANDIR)/man1/
+	cp python/hocsimbur/*.py $(DESTDIR)$(PYTHONDIR)/hocsimbur/
+	ln -sf $(LIBDIR)/$(SONAME) $(DESTDIR)$(PYTHONDIR)/hocsimbur/$(SONAME)
+	sed 's|@PYTHONDIR@|$(PYTHONDIR)|' python/hocsimbur.in > $(DESTDIR)$(BINDIR)/hocsimbur
+	chmod 755 $(DESTDIR)$(BINDIR)/hocsimbur
 	for program in $(PROGRAMS); do cp bin/$$program $(DESTDIR)$(BINDIR)/hocsimbur-$$program || exit 1; done
 	for name in hocsimbur hocsimbur-static; do \
 	    sed 's|@PREFIX@|$(PREFIX)|; s|@LIBDIR@|$(LIBDIR)|; s|@INCLUDEDIR@|$(INCLUDEDIR)|; s|@VERSION@|$(VERSION)|' lib/$$name.pc.in \
@@ -53,9 +63,11 @@ install:
 	done
 
 uninstall:
+	rm -rf $(DESTDIR)$(PYTHONDIR)/hocsimbur
 	rm -f $(DESTDIR)$(INCLUDEDIR)/hocsimbur.h $(DESTDIR)$(LIBDIR)/libhocsimbur.a $(DESTDIR)$(LIBDIR)/$(SHARED) $(DESTDIR)$(LIBDIR)/$(SONAME) \
 	    $(DESTDIR)$(LIBDIR)/libhocsimbur.so $(DESTDIR)$(MANDIR)/man3/hocsimbur.3 $(DESTDIR)$(LIBDIR)/pkgconfig/hocsimbur.pc \
-	    $(DESTDIR)$(LIBDIR)/pkgconfig/hocsimbur-static.pc $(PROGRAMS:%=$(DESTDIR)$(BINDIR)/hocsimbur-%)
+	    $(DESTDIR)$(LIBDIR)/pkgconfig/hocsimbur-static.pc $(PROGRAMS:%=$(DESTDIR)$(BINDIR)/hocsimbur-%) $(DESTDIR)$(BINDIR)/hocsimbur \
+	    $(DESTDIR)$(MANDIR)/man1/hocsimbur.1
 
 clean:
 	rm -rf build

@@ -1,6 +1,7 @@
 """The answers to a sheet as text: for people in aligned columns with units, for machines as the proved programs print them."""
 from __future__ import annotations
 
+from dataclasses import astuple
 from typing import List, Sequence, Tuple
 
 from . import core, reasons
@@ -108,10 +109,9 @@ def margins(found: Sequence[Row], of_rows: Sequence[Margins]) -> str:
 
 
 def summary_csv(stations: Sequence[Station]) -> str:
-    return commas(SUMMARY_NAMES, [(one.station, one.seasons, one.safe, one.unsafe, one.undecided, one.highest_mesh_season) for one in stations])
+    return commas(SUMMARY_NAMES, [astuple(one) for one in stations])
 
 
 def summary(stations: Sequence[Station]) -> str:
     head = ("station", "seasons", "safe", "unsafe", "undecided", "highest mesh in season")
-    return aligned(head, [[str(number) for number in (one.station, one.seasons, one.safe, one.unsafe, one.undecided, one.highest_mesh_season)]
-                          for one in stations])
+    return aligned(head, [[str(number) for number in astuple(one)] for one in stations])

@@ -1,0 +1,115 @@
+"""The package as it is handed out: the wheel in a clean environment, without a network; and what Python it needs."""
+from __future__ import annotations
+
+import ast
+import os
+import pathlib
+import subprocess
+import sys
+import tempfile
+import unittest
+import venv
+import zipfile
+
+import make_wheel
+from hocsimbur import __version__, core
+
+from .common import PYTHON, ROOT
+
+BUILT = ROOT / "target" / "host" / "libhocsimbur.so.1"
+STANDARD = {
+    "__future__", "argparse", "contextlib", "csv", "ctypes", "dataclasses", "datetime", "decimal", "difflib", "enum", "fractions", "functools",
+    "hashlib", "html", "io", "itertools", "math", "os", "pathlib", "re", "stat", "sys", "tempfile", "typing",
+}
+
+
+def library() -> pathlib.Path:
+    """The library that the other tests ask."""
+    return pathlib.Path(os.environ.get("HOCSIMBUR_LIBRARY") or BUILT)
+
+
+class Wheel(unittest.TestCase):
+    @classmethod
+    def setUpClass(cls):
+        kept = tempfile.TemporaryDirectory()
+        cls.addClassCleanup(kept.cleanup)
+        cls.folder = pathlib.Path(kept.name)
+        cls.wheel = make_wheel.build(__version__, library(), cls.folder / "wheel")
+        venv.create(cls.folder / "venv", symlinks=True)
+        cls.bin = cls.folder / "venv" / "bin"
+        subprocess.run([sys.executable, "-m", "pip", "--quiet", "--disable-pip-version-check", "--python", str(cls.bin / "python"), "install",
+                        "--no-index", str(cls.wheel)], check=True, env=cls.clean(), capture_output=True)
+
+    @classmethod
+    def clean(cls):
+        """An environment that names no library and no other package."""
+        return {key: value for key, value in os.environ.items() if key not in ("HOCSIMBUR_LIBRARY", "PYTHONPATH", "LD_LIBRARY_PATH")}
+
+    def installed(self, *arguments: str):
+        return subprocess.run([str(self.bin / "hocsimbur"), *arguments], cwd=self.folder, env=self.clean(), capture_output=True, text=True,
+                              check=False)
+
+    def test_verdicts(self):
+        done = self.installed("verdict", "--csv", str(ROOT / "crates" / "verdict" / "stdin"))
+        self.assertEqual((done.returncode, done.stdout), (2, (ROOT / "crates" / "verdict" / "stdout").read_text()), done.stderr)
+
+    def test_report(self):
+        done = self.installed("report", str(ROOT / "tests" / "sample.csv"), "--date", "1 July 2026", "-o", "july.html")
+        self.assertEqual(done.returncode, 2, done.stderr)
+        self.assertIn("1 July 2026", (self.folder / "july.html").read_text(encoding="utf-8"))
+
+    def test_the_library_inside_is_asked(self):
+        asked = "import hocsimbur, hocsimbur.core as core; core.version(); print(core._asked.library._name)"
+        done = subprocess.run([str(self.bin / "python"), "-c", asked], cwd=self.folder, env=self.clean(), capture_output=True, text=True, check=True)
+        self.assertTrue(done.stdout.startswith(str(self.folder.resolve() / "venv")), done.stdout)
+
+    def test_the_same_bytes(self):
+        again = make_wheel.build(__version__, library(), self.folder / "again")
+        self.assertEqual(again.read_bytes(), self.wheel.read_bytes())
+
+    def test_every_module_is_inside(self):
+        with zipfile.ZipFile(self.wheel) as archive:
+            self.assertIsNone(archive.testzip())
+            names = set(archive.namelist())
+        self.assertLessEqual({f"hocsimbur/{path.name}" for path in (PYTHON / "hocsimbur").glob("*.py")}, names)
+        self.assertIn("hocsimbur/libhocsimbur.so.1", names)
+
+
+class Sources(unittest.TestCase):
+    """What holds of every module."""
+
+    def sources(self):
+        return [(path, path.read_text(encoding="utf-8")) for path in sorted((PYTHON / "hocsimbur").glob("*.py"))]
+
+    def test_python_3_9_reads_them(self):
+        for path, text in self.sources():
+            ast.parse(text, path.name, feature_version=(3, 9))
+            self.assertTrue("def " not in text or "from __future__ import annotations" in text, path.name)
+
+    def test_the_standard_library_alone(self):
+        for path, text in self.sources():
+            for node in ast.walk(ast.parse(text)):
+                names = [one.name for one in node.names] if isinstance(node, ast.Import) else \
+                    [node.module] if isinstance(node, ast.ImportFrom) and not node.level else []
+                for name in names:
+                    if (path.name, name) != ("spreadsheet.py", "openpyxl"):
+                        self.assertIn(name.split(".")[0], STANDARD, path.name)
+
+    def test_no_fractions_of_two(self):
+        """No number of a module is a float: what is shown comes from whole numbers."""
+        for path, text in self.sources():
+            for node in ast.walk(ast.parse(text)):
+                self.assertFalse(isinstance(node, ast.Constant) and isinstance(node.value, float), f"{path.name}: a float")
+                self.assertFalse(isinstance(node, ast.Name) and node.id == "float", f"{path.name}: float")
+
+    def test_lines(self):
+        for path, text in self.sources():
+            for number, line in enumerate(text.split("\n"), 1):
+                self.assertTrue(len(line) <= 140 or '"' in line, f"{path.name}, line {number}")
+
+    def test_version_of_the_library(self):
+        self.assertEqual(core.version(), __version__)
+
+
+if __name__ == "__main__":
+    unittest.main()
