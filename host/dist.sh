@@ -5,7 +5,7 @@ cd "$(dirname "$0")/.."
 folder=$1 version=$2 manual=$3
 shift 3
 shared=libhocsimbur.so.$version
-mkdir -p "$folder"/{include,lib,man/man1,man/man3,bin,examples/panel,python/hocsimbur}
+mkdir -p "$folder"/{include,lib,man/man1,man/man3,bin,examples/panel,examples/site,python/hocsimbur}
 install -m 644 include/hocsimbur.h "$folder/include/"
 install -m 644 target/host/libhocsimbur.a "$folder/lib/"
 install -m 755 "target/host/$shared" "$folder/lib/"
@@ -19,6 +19,7 @@ ln -s "../../lib/$shared" "$folder/python/hocsimbur/libhocsimbur.so.${version%%.
 install -m 644 "$manual" "$folder/manual.md"
 install -m 644 examples/*.csv examples/panel.c "$folder/examples/"
 install -m 644 tests/sample.csv "$folder/examples/"
+install -m 644 examples/site/*.csv "$folder/examples/site/"
 install -m 644 examples/panel/sample.out examples/panel/refused.csv examples/panel/refused.out "$folder/examples/panel/"
 for program in "$@"; do
     install -m 755 "target/bin/$program" "$folder/bin/"

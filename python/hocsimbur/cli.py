@@ -74,22 +74,25 @@ def _wenner(parser: argparse.ArgumentParser) -> None:
 
 
 def _staged(parser: argparse.ArgumentParser) -> None:
-    parser.add_argument("file", metavar="FILE", nargs="?", help="currents in A under the names in_phase,quadrature or size,angle, the injected "
-                        "one first; - for standard input")
-    parser.add_argument("--injected", metavar="CURRENT", help="the injected current: IN-PHASE,QUADRATURE in A, or SIZE@ANGLE in A and degrees")
+    parser.add_argument("file", metavar="FILE", nargs="?", help="currents in A under the names in_phase,quadrature or size,angle, the "
+                        "injected one first; - for standard input")
+    parser.add_argument("--injected", metavar="CURRENT", help="the injected current: IN-PHASE,QUADRATURE in A, or SIZE@ANGLE in A and "
+                        "degrees")
     parser.add_argument("--branch", metavar="CURRENT", action="append", help="a branch, positive away from the grid; once for each")
     _csv(parser)
 
 
 def _carry(parser: argparse.ArgumentParser) -> None:
-    parser.add_argument("files", metavar="FILE", nargs="+", help="a sheet, several, or a folder with files that end in .csv; - for standard input")
-    parser.add_argument("-o", "--output", metavar="FOLDER", help="the folder to write into, under the same names; without it, of one sheet, "
-                        "standard output")
+    parser.add_argument("files", metavar="FILE", nargs="+", help="a sheet, several, or a folder with files that end in .csv; - for "
+                        "standard input")
+    parser.add_argument("-o", "--output", metavar="FOLDER", help="the folder to write into, under the same names; without it, of one "
+                        "sheet, standard output")
     parser.add_argument("--force", action="store_true", help="replace files that are there")
 
 
 def _import(parser: argparse.ArgumentParser) -> None:
-    parser.add_argument("file", metavar="FILE", help="what a spreadsheet wrote: CSV, or .xlsx where openpyxl is installed; - for standard input")
+    parser.add_argument("file", metavar="FILE", help="what a spreadsheet wrote: CSV, or .xlsx where openpyxl is installed; - for "
+                        "standard input")
     parser.add_argument("-o", "--output", metavar="FILE", help="the sheet to write; without it standard output")
     parser.add_argument("--force", action="store_true", help="replace a file that is there")
 

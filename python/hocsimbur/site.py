@@ -1,4 +1,4 @@
-"""What is measured at a site: four-pin readings (wenner) and staged tests, read from a text or the command line, and their answers in words.
+"""What is measured at a site: four-pin readings (wenner) and staged tests, from a text or the command line, and their answers in words.
 
 Distances and resistances are in metres and ohms, currents in amperes; each is handed to the library in whole mm, milliohms and mA."""
 from __future__ import annotations
@@ -94,8 +94,8 @@ def soil_notes(soil: Soil) -> List[str]:
     if varied(soil):
         times = soil.greatest.lower * 10 // soil.least.upper
         notes.append(
-            f"warning: the greatest apparent resistivity is over {down(times, 1, 1)} times the least. IEEE Std 80, 13.4: \"If there is a large "
-            "variation in measured apparent resistivity, the uniform soil model is unlikely to yield accurate results.\" "
+            f"warning: the greatest apparent resistivity is over {down(times, 1, 1)} times the least. IEEE Std 80, 13.4: \"If there is a "
+            "large variation in measured apparent resistivity, the uniform soil model is unlikely to yield accurate results.\" "
             f"The standard gives no number; this warning stands above {VARIED} times.")
     own = BY_NAME["soil"]
     if not own.low <= soil.soil <= own.high:

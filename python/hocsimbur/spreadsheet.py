@@ -61,13 +61,15 @@ class Made:
 Lines = List[Tuple[int, List[str]]]  # number in the file, cells
 
 
+_MARKS = ((b"\xef\xbb\xbf", "utf-8"), (b"\xff\xfe", "utf-16-le"), (b"\xfe\xff", "utf-16-be"))
+
+
 def _decoded(data: bytes, changes: Changes) -> str:
     """The text of a file."""
-    for mark, encoding, called in ((b"\xef\xbb\xbf", "utf-8", ""), (b"\xff\xfe", "utf-16-le", "UTF-16"), (b"\xfe\xff", "utf-16-be", "UTF-16")):
+    for mark, encoding in _MARKS:
         if data.startswith(mark):
             changes.add("byte-order mark removed")
-            if called:
-                changes.add(f"{called} read as text")
+            changes.add("UTF-16 read as text", count=encoding != "utf-8")
             return data[len(mark):].decode(encoding, "replace")
     try:
         return data.decode("utf-8")
