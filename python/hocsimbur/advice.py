@@ -199,7 +199,7 @@ def _wire(lines: Cases) -> Change:
         if not any([next(small) for _ in lines]):
             return Change("wire", f"wire: {labels.tenths(dia)} mm, solid and round (now {labels.tenths(now)} mm); a stranded one must be thicker",
                           tuple(dict(case, dia=max(case["dia"], dia)) for case in lines))
-    return Change("wire", f"wire: no solid round up to {labels.tenths(name.high)} mm is enough; another metal or a shorter back-up time is")
+    return Change("wire", f"wire: no solid round up to {labels.tenths(name.high)} mm is enough; try another metal or a shorter back-up time")
 
 
 def _yards(lines: Cases, columns: Sequence[str]) -> List[Change]:
