@@ -8,6 +8,9 @@ from . import core, sheets
 from .words import Asked, refusal
 
 
+MOST = 16 * core.SHEET_BYTES  # bytes of a sheet of which each line is asked about
+
+
 @dataclass(frozen=True)
 class Found:
     """A refusal: its number, the line and column of the file, and the sentence."""
@@ -62,7 +65,7 @@ def check(sheet: bytes, numbers: Optional[Sequence[int]] = None) -> List[Found]:
     lines = sheets.lines(sheet)
     numbers = numbers or range(1, len(lines) + 1)
     of_sheet = [whole] if whole.number in (1, 2, 4) else []
-    if not lines or _names_wrong(lines[0]):
+    if not lines or len(sheet) > MOST or _names_wrong(lines[0]):
         return of_sheet
     found: List[Found] = []
     kept: List[Tuple[int, bytes]] = []

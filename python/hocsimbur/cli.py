@@ -2,17 +2,25 @@
 from __future__ import annotations
 
 import argparse
+import re
 import sys
-from typing import Callable, List, NoReturn, Optional
+from typing import Any, Callable, List, NoReturn, Optional
 
 from . import carrying, commands, core, deciding, help_texts
 from .output import FAILED, REFUSED, Failed, show, tell
 
+OLDEST = (3, 9)    # version of Python
 INTERRUPTED = 130  # as a shell tells a command that Ctrl-C ended
 
 
 class Parser(argparse.ArgumentParser):
-    """A parser whose help is written like every answer, and whose errors have the status of input that failed."""
+    """A parser whose help is written like every answer, and whose errors have the status of input that failed.
+
+    A value may start with a minus sign, as `--branch -8.5@-5.4`."""
+
+    def __init__(self, *arguments: Any, **named: Any) -> None:
+        super().__init__(*arguments, **named)
+        self._negative_number_matcher = re.compile(r"-[\d.]")
 
     def _print_message(self, message: str, file: object = None) -> None:
         if message:
@@ -152,6 +160,9 @@ def _run(arguments: argparse.Namespace, run: Callable[[argparse.Namespace], int]
 
 def main(argv: Optional[List[str]] = None) -> int:
     """Runs a command and answers its exit status."""
+    if sys.version_info < OLDEST:
+        tell("hocsimbur: Python {}.{} or newer is needed".format(*OLDEST))
+        return FAILED
     try:
         made = parser()
         arguments = made.parse_args(argv)

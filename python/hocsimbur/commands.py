@@ -4,6 +4,7 @@
 from __future__ import annotations
 
 import argparse
+import shlex
 from typing import Callable, List, Optional, TypeVar
 
 from . import __version__, checking, core, listing, sheets, site, spreadsheet
@@ -52,7 +53,7 @@ def worked(arguments: argparse.Namespace, question: Callable[[bytes], Answer]) -
         stopped.of = arguments.file
         if not stopped.printed:
             raise
-        hint = "" if arguments.file == "-" else f"; `hocsimbur check {arguments.file}` tells the refusal of every line"
+        hint = "" if arguments.file == "-" else f"; `hocsimbur check {shlex.quote(arguments.file)}` tells the refusal of every line"
         stopped.after = f"nothing was worked{hint}"
         raise
 

@@ -3,11 +3,12 @@ from __future__ import annotations
 
 import argparse
 import os
+import sys
 from typing import List, Optional, Tuple
 
 from . import advice, decision, licence, reasons, report
 from .commands import Stopped, worked
-from .output import HELD, WELL, read, show, tell, write
+from .output import HELD, WELL, Failed, read, show, tell, write
 from .terminal import commas, paint
 
 RELEASE_NAMES = ("station", "decision", "missing", "unsafe", "undecided", "other_yard", "small_wire", "fault_A")
@@ -54,6 +55,8 @@ def release(arguments: argparse.Namespace) -> int:
 
 
 def make_report(arguments: argparse.Namespace) -> int:
+    if not arguments.output and sys.stdout and sys.stdout.isatty():
+        raise Failed("the report is a page for a browser; name a file for it by -o FILE")
     granted = _licence(arguments)
     date = arguments.date or report.today()
     name = "standard input" if arguments.file == "-" else os.path.basename(arguments.file)

@@ -15,6 +15,9 @@ from .forms import printable
 WELL, REFUSED, HELD, FAILED = 0, 1, 2, 3  # exit statuses: all well; refused; unsafe, undecided or held; input or output failed
 
 
+MOST = 1 << 25  # bytes of a file that are read
+
+
 class Failed(Exception):
     """Input or output failed: the message says what, and why."""
 
@@ -75,10 +78,15 @@ def read(name: str) -> bytes:
         if name == "-":
             if sys.stdin is None:
                 raise Failed(f"{called}: it is closed")
-            return sys.stdin.buffer.read()
-        return pathlib.Path(name).read_bytes()
+            data = sys.stdin.buffer.read(MOST + 1)
+        else:
+            with open(name, "rb") as file:
+                data = file.read(MOST + 1)
     except (OSError, ValueError) as error:
         raise Failed(f"{called}: {reason(error) if isinstance(error, OSError) else error}") from None
+    if len(data) > MOST:
+        raise Failed(f"{called}: it has more than {MOST:,} bytes, far more than a sheet")
+    return data
 
 
 def _special(path: pathlib.Path) -> bool:
@@ -90,7 +98,7 @@ def write(name: str, data: bytes, force: bool, sources: Iterable[Optional[str]] 
     """A whole file under its name, or none: written under another name beside it and renamed.
 
     What is there already is replaced only with `force`, and never one of the files that were read."""
-    path = pathlib.Path(name)
+    path = pathlib.Path(os.path.realpath(name))
     try:
         if path.exists() and any(source and source != "-" and path.samefile(source) for source in sources):
             raise Failed(f"{name}: this file was read; it is not overwritten")
@@ -108,7 +116,7 @@ def write(name: str, data: bytes, force: bool, sources: Iterable[Optional[str]] 
 def _rename_into(path: pathlib.Path, data: bytes) -> None:
     """The bytes under a temporary name in the same folder, then renamed; the temporary file is taken away where that fails."""
     mode = path.stat().st_mode & 0o777 if path.exists() else 0o666 & ~_umask()
-    handle, temporary = tempfile.mkstemp(prefix=f".{path.name}.", dir=path.parent)
+    handle, temporary = tempfile.mkstemp(prefix=".hocsimbur-", dir=path.parent)
     try:
         with os.fdopen(handle, "wb") as file:
             file.write(data)

@@ -44,6 +44,9 @@ class Check(unittest.TestCase):
         sheet = SAMPLE + b"1" * 70000 + b"\n"
         self.assertEqual(lines_told(sheet), [(1, 0, 0), (1, 4, 0)])
 
+    def test_far_too_long_a_sheet(self):
+        self.assertEqual(lines_told(HEAD + b"\n" + b"x\n" * 1000000), [(1, 0, 0)])
+
     def test_the_first_told_is_what_the_core_refuses(self):
         for sheet in (changed(fault=0), changed(line=3, soil="x"), changed(line=3, season=1), SAMPLE[:-1], SAMPLE.replace(b",", b";")):
             with self.assertRaises(core.Refused) as caught:

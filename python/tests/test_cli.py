@@ -50,6 +50,16 @@ class Help(unittest.TestCase):
     def test_version(self):
         self.assertEqual(run("--version"), run("version"))
 
+    def test_values_with_a_minus_sign(self):
+        done = run("staged", "--csv", "--injected", "-1000,0", "--branch", "-400,0", "--branch", "-1@-90")
+        self.assertEqual((done.status, done.out.split("\n")[1]), (0, "-600000,-1000,601"))
+
+    def test_names_with_spaces(self):
+        with tempfile.TemporaryDirectory() as folder:
+            sheet = pathlib.Path(folder) / "a sheet.csv"
+            sheet.write_bytes(b"")
+            self.assertIn(f"`hocsimbur check '{sheet}'` tells", run("verdict", str(sheet)).err)
+
 
 class Statuses(unittest.TestCase):
     def test_release(self):
@@ -172,6 +182,9 @@ class Failing(unittest.TestCase):
                 self.hold(run("verdict", str(kept)), "Permission denied")
             self.hold(run("report", "tests/sample.csv", "-o", f"{folder}/no/such/page.html"), "No such file or directory")
 
+    def test_a_file_without_end(self):
+        self.hold(run("check", "/dev/zero"), "/dev/zero: it has more than 33,554,432 bytes")
+
     def test_no_library(self):
         self.hold(process("verdict", "tests/sample.csv", env={"HOCSIMBUR_LIBRARY": "/no/such/libhocsimbur.so.1"}),
                   "build it by `make`, or name it in the environment variable HOCSIMBUR_LIBRARY")
@@ -181,6 +194,10 @@ class Failing(unittest.TestCase):
 
 
 class Terminals(unittest.TestCase):
+    def test_no_page_on_a_terminal(self):
+        text = self.on_terminal({"TERM": "xterm"}, "report")
+        self.assertEqual(text, "")
+
     def test_no_colour_in_a_pipe(self):
         self.assertNotIn("\x1b", process("verdict", "tests/sample.csv").out)
 
@@ -194,13 +211,13 @@ class Terminals(unittest.TestCase):
             self.assertNotIn("\x1b", self.on_terminal(wish))
 
     @staticmethod
-    def on_terminal(wish) -> str:
-        """What verdict writes to a terminal."""
+    def on_terminal(wish, command: str = "verdict") -> str:
+        """What a command writes to a terminal."""
         ours, theirs = os.openpty()
         environment = {key: value for key, value in os.environ.items() if key != "NO_COLOR"}
         try:
-            subprocess.run([sys.executable, "-m", "hocsimbur", "verdict", "tests/sample.csv"], stdout=theirs, cwd=ROOT, check=False,
-                           env={**environment, "PYTHONPATH": str(PYTHON), **wish})
+            subprocess.run([sys.executable, "-m", "hocsimbur", command, "tests/sample.csv"], stdout=theirs, stderr=subprocess.DEVNULL, cwd=ROOT,
+                           env={**environment, "PYTHONPATH": str(PYTHON), **wish}, check=False)
         finally:
             os.close(theirs)
         with os.fdopen(ours, "rb", buffering=0) as screen:
