@@ -78,7 +78,7 @@ def _unknown(name: str, names: Sequence[str], form: Sequence[str]) -> str:
     if name in ("ms", "lines"):
         return f"{name} is a name of the former sheet of 18 names; {CARRY}"
     if name in BY_NAME:
-        return f"{name} is a name of today's sheet of 22 names; one of the former 18 names is read here"
+        return f"{name} is one of today's 22 names; `hocsimbur carry` reads sheets of the former 18, and today's need no carry"
     if name.lower() in form:
         return f"names are in small letters, {name.lower()} and not {name}; {IMPORT}"
     near = difflib.get_close_matches(name.lower(), [one for one in form if one not in names] or form, 1)
@@ -105,9 +105,14 @@ def wrong_name(names: List[str], column: int, form: Sequence[str]) -> Tuple[str,
     return where, _unknown(name, names, form)
 
 
+def whole_number(unit: str) -> str:
+    """'a whole number' with its unit."""
+    return "a whole number" + (f" {'' if unit == 'per mille' else 'of '}{unit}" if unit else "")
+
+
 def _number(text: str, unit: str, allowed: str) -> str:
     """What is wrong with a field that should be a whole number."""
-    whole = f"a whole number{' of ' + unit if unit else ''}, {allowed}"
+    whole = f"{whole_number(unit)}, {allowed}"
     if re.fullmatch(r"\d+[.]0*", text):
         return f"{short(text)} has a decimal point; write {short(text.split('.')[0])}, or let `hocsimbur import` do so"
     if re.fullmatch(r"\d*[.]\d+", text):
@@ -141,7 +146,7 @@ def wrong_value(names: List[str], values: List[str], line: int, column: int) -> 
     own = BY_NAME.get(name)
     unit, allowed = (own.unit, own.allowed) if own else FORMER_ONLY[name]
     if not value:
-        return where, f"no value stands here; it must be a whole number{' of ' + unit if unit else ''}, {allowed}"
+        return where, f"no value stands here; it must be {whole_number(unit)}, {allowed}"
     return where, _number(value, unit, allowed)
 
 

@@ -5,6 +5,7 @@ from __future__ import annotations
 
 import csv
 import io
+import re
 from typing import Dict, List, NamedTuple, Sequence, Tuple
 
 from . import core
@@ -14,6 +15,8 @@ from .decimals import down, exact, grouped, up
 from .names import BY_NAME
 from .terminal import aligned, commas
 
+# a number with a decimal comma; one with three digits behind it may also have its thousands parted, and is not taken
+DECIMAL_COMMA = re.compile(r"[+-]?(\d+,(\d{1,2}|\d{4,})|\d{4,},\d+)")
 VARIED = 2  # how many times the least the greatest apparent resistivity may be before a warning; this package's own number
 
 
@@ -24,12 +27,22 @@ class Part(NamedTuple):
     quadrature: Pair
 
 
-def _table(text: bytes, forms: Sequence[Tuple[str, ...]]) -> Tuple[Tuple[str, ...], List[Tuple[int, Dict[str, str]]]]:
-    """The form of a text and its lines by name, with their numbers; other columns, as a remark, are left alone."""
+def _lines(text: bytes) -> List[Tuple[int, List[str]]]:
+    """The cells of each line of a text, with its number; where semicolons part them, a decimal comma becomes a point."""
     try:
-        lines = list(enumerate(csv.reader(io.StringIO(text.decode("utf-8-sig"), newline=""), strict=True), 1))
+        decoded = text.decode("utf-8-sig")
+        sign = ";" if ";" in decoded.partition("\n")[0] else ","
+        lines = list(enumerate(csv.reader(io.StringIO(decoded, newline=""), delimiter=sign, strict=True), 1))
     except (UnicodeDecodeError, csv.Error) as error:
         raise Unclear(f"the text cannot be read: {error}") from None
+    if sign == ",":
+        return lines
+    return [(number, [cell.replace(",", ".") if DECIMAL_COMMA.fullmatch(cell.strip()) else cell for cell in cells]) for number, cells in lines]
+
+
+def _table(text: bytes, forms: Sequence[Tuple[str, ...]]) -> Tuple[Tuple[str, ...], List[Tuple[int, Dict[str, str]]]]:
+    """The form of a text and its lines by name, with their numbers; other columns, as a remark, are left alone."""
+    lines = _lines(text)
     filled = [(number, [cell.strip() for cell in cells]) for number, cells in lines if any(cell.strip() for cell in cells)]
     allowed = " or ".join(",".join(form) for form in forms)
     if not filled:

@@ -11,6 +11,7 @@ from decimal import Decimal
 from typing import Dict, List, Optional, Tuple
 
 from .forms import cell as place_of
+from .forms import short, whole_number
 from .names import BY_NAME, FORMER
 from .output import Failed
 
@@ -174,18 +175,17 @@ def _value(text: str, name: str, where: str, sign: str, changes: Changes) -> str
     """A cell as a value of a sheet; a `ValueError` says why it is none."""
     if not text or re.fullmatch(r"0|[1-9]\d*", text, re.ASCII):
         return text
-    own = BY_NAME.get(name)
-    unit = f" of {own.unit}" if own and own.unit else ""
+    whole = whole_number(BY_NAME[name].unit if name in BY_NAME else "")
     number = _exact(text, sign)
     if number is None:
-        raise ValueError(f"'{text}' is no number; write only digits, a whole number{unit}")
+        raise ValueError(f"'{short(text)}' is no number; write only digits, {whole}")
     if number != number.to_integral_value():
-        raise ValueError(f"{text} is not a whole number{unit}; it is not rounded")
+        raise ValueError(f"{text} is not {whole}; it is not rounded")
     if number < 0:
         raise ValueError(f"{text} is below 0")
-    whole = str(int(number))
-    changes.add("value: written as whole digits, its size unchanged", f"{where}, {text} is {whole}")
-    return whole
+    digits = str(int(number))
+    changes.add("value: written as whole digits, its size unchanged", f"{where}, {text} is {digits}")
+    return digits
 
 
 def _sheet(lines: Lines, sign: str, changes: Changes) -> Made:

@@ -31,7 +31,7 @@ class OneSheet(unittest.TestCase):
     def test_today_s_sheet(self):
         done = run("carry", "tests/sample.csv")
         self.assertEqual((done.status, done.out), (1, ""))
-        self.assertIn("shock is a name of today's sheet", done.err)
+        self.assertIn("shock is one of today's 22 names", done.err)
 
 
 class Folders(unittest.TestCase):

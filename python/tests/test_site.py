@@ -65,6 +65,11 @@ class Readings(unittest.TestCase):
     def test_a_text_with_other_columns_and_marks(self):
         self.assertEqual(site.readings(b"\xef\xbb\xbfremark,Ohms,metres\r\ndry,3,2\r\n\r\n"), [(2000, 3000)])
 
+    def test_decimal_commas_between_semicolons(self):
+        self.assertEqual(site.readings("metres;ohms\n1,5;10\n2;0,25\n".encode()), [(1500, 10000), (2000, 250)])
+        with self.assertRaises(amounts.Unclear):
+            site.readings(b"metres;ohms\n1,500;10\n")
+
     def test_refused(self):
         for arguments, said in (
                 (["--reading", "1.0005,10"], "reading 1.0005,10: distance: 1.0005 m is not a whole number of mm; it is not rounded"),

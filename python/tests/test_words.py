@@ -99,6 +99,7 @@ class OfSheets(unittest.TestCase):
             (changed(soil="dry"), soil + "'dry' is no number; it must be a whole number of Ω·m, 10..5000"),
             (changed(soil="400 Ωm"), soil + "'400 Ωm' has letters; write only digits, a whole number of Ω·m, 10..5000"),
             (changed(xr="ten"), "line 2, xr (column 12): 'ten' is no number; it must be a whole number, 1..40"),
+            (changed(split="60%"), "line 2, split (column 11): '60%' is no number; it must be a whole number per mille, 1..1000"),
             (changed(soil=" 400"), soil + f"there are spaces around '400'; {IMPORT}"),
             (changed(soil='"400"'), soil + f'"400" stands in quotes; {IMPORT}'),
             (changed(hz="60\r"), f"line 2, hz (column 22): the line ends with two bytes, 13 and 10 (CRLF), and not with byte 10 alone; {IMPORT}"),
@@ -161,7 +162,7 @@ class OfOthers(unittest.TestCase):
                 (FORMER + line.format(8, 11).encode(), "line 2, ms (column 6): 8 ms is not in 9..3000"),
                 (FORMER + line.format(500, 26).encode(), "line 2, lines (column 11): 26 is not in 2..25"),
                 (FORMER + line.format("a", 11).encode(), "line 2, ms (column 6): 'a' is no number; it must be a whole number of ms, 9..3000"),
-                (SAMPLE, "line 1, column 6: shock is a name of today's sheet of 22 names; one of the former 18 names is read here")):
+                (SAMPLE, "line 1, column 6: shock is one of today's 22 names; `hocsimbur carry` reads sheets of the former 18, and today's need no carry")):
             self.assertEqual(said(lambda: core.carry(sheet), Asked(sheet, former=True)), sentence)
 
     def test_12_to_14(self):
