@@ -29,6 +29,7 @@ WIDTHS = (375, 768, 1280)
 SHOT = 1600          # height of a screenshot
 LEAST_WINDOW = 500   # chromium makes no narrower window, so that a narrow page stands in a frame
 DATE = "1 July 2026"
+SHEETS = {"report.html": "portfolio.csv", "utility.html": "utility.csv", "extreme.html": "extreme.csv"}
 MEASURE = """<!DOCTYPE html><body style="margin:0"><iframe id="page" src="PAGE" width="WIDTH" height="900" style="border:0"></iframe><pre id="told"></pre>
 <script>onload = () => {
   const view = document.getElementById('page').contentWindow, root = view.document.documentElement, wide = [];
@@ -142,7 +143,7 @@ def judge(folder, address):
     wrong = []
     for name, (sheet, granted), first, one_each in (("report.html", examples(), 1, True), ("utility.html", utility(), None, True),
                                                     ("extreme.html", extreme(), 1, False)):
-        (folder / name).write_text(report.render(sheet, name.replace("html", "csv"), granted, DATE), encoding="utf-8")
+        (folder / name).write_text(report.render(sheet, SHEETS[name], granted, DATE), encoding="utf-8")
         for width in WIDTHS:
             wrong += overflow(folder, address, name, width)
         pages, complaints = printed(folder, address, name)

@@ -57,7 +57,8 @@ td{vertical-align:top}
 .pf .main>.num{padding-right:0;padding-left:.4rem;line-height:1.25}
 .pf tbody th[scope=row]{font-weight:400;font-size:.95rem;line-height:1.2}
 .pf tbody th a{text-decoration:none}.pf tbody th a .nm,.pf tbody th a .no:has(+.nm:empty){text-decoration:underline;text-decoration-thickness:1px;text-underline-offset:.15em}
-.pf tbody th .no{display:inline-block;min-width:2.1em}
+.pf tbody th[scope=row]{padding-left:2.4em;text-indent:-2.4em}
+.pf tbody th .no{display:inline-block;min-width:2.1em;text-indent:0}
 .pf .why td{padding:.1rem 0 .5rem;line-height:1.3}
 .pf .rel .main>*{padding-bottom:.5rem}
 .pf .s .mark{width:1rem;height:1rem;vertical-align:-.15em}
@@ -147,7 +148,7 @@ figcaption{font-size:.78rem;color:var(--grey);line-height:1.35;margin-top:.2rem}
   .pf .main{display:grid;grid-template-columns:repeat(4,2.9rem) 1fr;gap:.35rem .25rem}
   .pf .st{border-top:1px solid var(--rule);padding:.7rem 0 .6rem}
   .pf .grp+.st{border-top:0}
-  .pf .main>*{padding:0!important;border:0!important}
+  .pf .main>*{padding:0!important;border:0!important}.pf tbody th[scope=row]{padding-left:2.4em!important}
   .pf .main th{grid-column:1/5}.pf .main .dec{grid-column:5/6;text-align:right}
   .pf .main .empty{display:none}
   .station .head{flex-wrap:nowrap}.station .head .badge{font-size:1rem;border-width:.12rem}

@@ -42,7 +42,7 @@ WORKING = (
     Quantity("effective conductors", "n", "", lambda line: line.working.n, 7, 5),
     Quantity("irregularity", "K<sub>i</sub>", "", lambda line: line.working.ki, 10, 6),
     Quantity("inner conductors", "K<sub>ii</sub>", "", lambda line: line.working.kii, 9, 6),
-    Quantity("depth", "K<sub>h</sub>", "", lambda line: line.working.kh, 9, 6),
+    Quantity("depth factor", "K<sub>h</sub>", "", lambda line: line.working.kh, 9, 6),
     Quantity("mesh factor", "K<sub>m</sub>", "", lambda line: line.working.km, 7, 6),
     Quantity("step factor", "K<sub>s</sub>", "1/m", lambda line: line.working.ks, 7, 6),
     Quantity("length for mesh", "L<sub>M</sub>", "m", lambda line: line.working.lm, 6, 3),
