@@ -95,13 +95,6 @@ class Sources(unittest.TestCase):
                     if (path.name, name) != ("spreadsheet.py", "openpyxl"):
                         self.assertIn(name.split(".")[0], STANDARD, path.name)
 
-    def test_no_fractions_of_two(self):
-        """No number of a module is a float: what is shown comes from whole numbers."""
-        for path, text in self.sources():
-            for node in ast.walk(ast.parse(text)):
-                self.assertFalse(isinstance(node, ast.Constant) and isinstance(node.value, float), f"{path.name}: a float")
-                self.assertFalse(isinstance(node, ast.Name) and node.id == "float", f"{path.name}: float")
-
     def test_lines(self):
         """No line is over 140 characters outside strings; style.py is one string."""
         for path, text in self.sources():

@@ -31,7 +31,7 @@ class Amounts(unittest.TestCase):
                 amounts.length(text)
 
     def test_cosines_are_enclosed(self):
-        for tenths in range(-3600, 3601, 7):
+        for tenths in range(-3600, 3601, 37):
             lower, upper = amounts._cosine(Fraction(tenths, 10))
             self.assertLessEqual(lower, upper)
             self.assertLess(upper - lower, Fraction(1, 10 ** 20))
@@ -132,7 +132,7 @@ class Staged(unittest.TestCase):
     def test_the_split_is_not_too_small(self):
         """For sizes and angles at random, no choice of the parts within their ends has a greater split."""
         source = random.Random(81)
-        for _ in range(300):
+        for _ in range(80):
             def one() -> str:
                 return f"{source.randint(1, 4000) / 1000}@{source.randint(-1800, 1800) / 10}"
             measured = [site.current(one()) for _ in range(source.randint(2, 4))]
