@@ -27,6 +27,7 @@ from hocsimbur import decision, licence, report  # noqa: E402
 
 WIDTHS = (375, 768, 1280)
 SHOT = 1600          # height of a screenshot
+KEPT, SMALLER, MOST_BYTES = (1000, 1300), 0.85, 200_000  # of the picture for README
 LEAST_WINDOW = 500   # chromium makes no narrower window, so that a narrow page stands in a frame
 DATE = "1 July 2026"
 SHEETS = {"report.html": "portfolio.csv", "utility.html": "utility.csv", "extreme.html": "extreme.csv"}
@@ -85,6 +86,12 @@ def shot(folder, address, name, width, top, height, picture):
     text = FRAME.replace("PAGE", name).replace("WIDTH", str(width)).replace("TOP", str(top))
     (folder / "frame.html").write_text(text, encoding="utf-8")
     chromium(f"--window-size={max(width, LEAST_WINDOW)},{height}", f"--screenshot={picture}", f"{address}/frame.html")
+
+
+def keep(address, picture):
+    """The picture of the first page that README shows."""
+    chromium(f"--force-device-scale-factor={SMALLER}", f"--window-size={KEPT[0]},{KEPT[1]}", f"--screenshot={picture}", f"{address}/report.html")
+    return [] if picture.stat().st_size < MOST_BYTES else [f"{picture} has more than {MOST_BYTES} bytes"]
 
 
 def printed(folder, address, name):
@@ -171,7 +178,7 @@ def main():
             shot(folder, address, "report.html", width, part * SHOT, SHOT, folder / f"report-{width}-{part + 1}.png")
     subprocess.run(["pdftoppm", "-r", "110", "-png", str(folder / "report.pdf"), str(folder / "page")], check=True)
     if asked.picture:
-        shot(folder, address, "report.html", 1000, 0, 1120, asked.picture.resolve())
+        wrong += keep(address, asked.picture.resolve())
     for complaint in wrong:
         print(f"browser: {complaint}")
     print(f"browser: {len(wrong)} things are wrong; the pictures are in {folder}")
