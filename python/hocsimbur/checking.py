@@ -5,9 +5,11 @@ from dataclasses import dataclass
 from typing import List, Optional, Sequence, Tuple
 
 from . import core, sheets
+from .forms import foreign
 from .words import Asked, refusal
 
 
+OF_SHEET = (1, 2, 4)          # refusals of the whole sheet
 MOST = 16 * core.SHEET_BYTES  # bytes of a sheet of which each line is asked about
 
 
@@ -27,8 +29,8 @@ def _asked(sheet: bytes, numbers: Optional[Sequence[int]] = None) -> Optional[Fo
         core.rows(sheet)
         return None
     except core.Refused as refused:
-        line = numbers[refused.line - 1] if numbers and refused.line else refused.line
-        return Found(refused.number, line, refused.column, refusal(refused, Asked(sheet, line_numbers=numbers)))
+        asked = Asked(sheet, line_numbers=numbers)
+        return Found(refused.number, asked.number(refused.line), refused.column, refusal(refused, asked))
 
 
 def _joined(lines: Sequence[bytes]) -> bytes:
@@ -64,9 +66,12 @@ def check(sheet: bytes, numbers: Optional[Sequence[int]] = None) -> List[Found]:
         return []
     lines = sheets.lines(sheet)
     numbers = numbers or range(1, len(lines) + 1)
-    of_sheet = [whole] if whole.number in (1, 2, 4) else []
-    if not lines or len(sheet) > MOST or _names_wrong(lines[0]):
+    of_sheet = [whole] if whole.number in OF_SHEET else []
+    if not lines or len(sheet) > MOST or foreign(sheet):
         return of_sheet
+    names = _asked(_joined(lines[:1]), numbers)
+    if names and names.number == 2:
+        return of_sheet if whole.number == 2 else [whole, names]
     found: List[Found] = []
     kept: List[Tuple[int, bytes]] = []
     for number, line in zip(numbers[1:], lines[1:]):
@@ -79,16 +84,10 @@ def check(sheet: bytes, numbers: Optional[Sequence[int]] = None) -> List[Found]:
     return of_sheet + sorted(found, key=lambda one: one.line)
 
 
-def _names_wrong(names: bytes) -> bool:
-    """Whether the library refuses a line of names, which it looks at before any value."""
-    found = _asked(_joined([names]))
-    return found is not None and found.number != 4
-
-
 def conclusion(found: Sequence[Found]) -> str:
     """How many lines are refused, after their sentences."""
-    lines = len({one.line for one in found if one.number not in (1, 2, 4)})
-    if any(one.number in (1, 2, 4) for one in found):
+    lines = len({one.line for one in found if one.number not in OF_SHEET})
+    if any(one.number in OF_SHEET for one in found):
         also = f", and {lines} line{'s' if lines > 1 else ''} of it" if lines else ""
         return f"the sheet is refused{also}; nothing was worked"
     return f"{lines} line{'s are' if lines > 1 else ' is'} refused; nothing was worked"

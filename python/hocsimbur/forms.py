@@ -87,17 +87,17 @@ def _unknown(name: str, names: Sequence[str], form: Sequence[str]) -> str:
     return f"'{short(name)}' is no name of a sheet; the names are {', '.join(form)}"
 
 
-def wrong_name(names: List[str], column: int, form: Sequence[str]) -> Tuple[str, str]:
+def wrong_name(names: List[str], line: int, column: int, form: Sequence[str]) -> Tuple[str, str]:
     """The place and what is wrong with a line of names of a form, in which the library has refused a column."""
     if column > len(names):
-        return "line 1", missing_names(names, form)
+        return f"line {line}", missing_names(names, form)
     name = names[column - 1]
     parted = _parted(name)
     if parted:
-        return "line 1", parted
+        return f"line {line}", parted
     spoilt = _spoilt(name)
     known = name.strip(' "\r')
-    where = "line 1, " + cell(known if known in form else "", column)
+    where = f"line {line}, " + cell(known if known in form else "", column)
     if spoilt:
         return where, spoilt
     if name in names[:column - 1]:

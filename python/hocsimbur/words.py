@@ -50,10 +50,13 @@ class Asked:
         """The value of a name in a line that has the right form."""
         return self.cells(line)[self.cells(1).index(name)]
 
+    def number(self, line: int) -> int:
+        """The line of the file from which a line of the sheet came; itself where there is no such line."""
+        return self.line_numbers[line - 1] if self.line_numbers and 1 <= line <= len(self.line_numbers) else line
+
     def place(self, line: int, name: str = "") -> str:
         """A line, or a cell of it, in words."""
-        number = self.line_numbers[line - 1] if self.line_numbers else line
-        return f"line {number}" + (f", {cell(name, self.cells(1).index(name) + 1)}" if name else "")
+        return f"line {self.number(line)}" + (f", {cell(name, self.cells(1).index(name) + 1)}" if name else "")
 
 
 def _text(refused: Refused, asked: Asked) -> str:
@@ -69,13 +72,12 @@ def _text(refused: Refused, asked: Asked) -> str:
 
 def _name(refused: Refused, asked: Asked) -> str:
     told = foreign(asked.sheet)
-    where, said = ("line 1", told) if told else wrong_name(asked.cells(1), refused.column, asked.form)
+    where, said = ("line 1", told) if told else wrong_name(asked.cells(1), asked.number(1), refused.column, asked.form)
     return f"{where}: {said}"
 
 
 def _form(refused: Refused, asked: Asked) -> str:
-    number = asked.line_numbers[refused.line - 1] if asked.line_numbers else refused.line
-    where, said = wrong_value(asked.cells(1), asked.cells(refused.line), number, refused.column)
+    where, said = wrong_value(asked.cells(1), asked.cells(refused.line), asked.number(refused.line), refused.column)
     return f"{where}: {said}"
 
 

@@ -37,6 +37,8 @@ class Check(unittest.TestCase):
         self.assertEqual(lines_told(HEAD + b"\n"), [(4, 2, 0)])
         self.assertEqual(lines_told(changed(fault=1)[:-1]), [(1, 0, 0), (5, 2, 10)])
         self.assertEqual(lines_told(SAMPLE.replace(b"soil", b"sol")), [(2, 1, 3)])
+        self.assertEqual(lines_told(SAMPLE.replace(b"soil", b"sol")[:-1]), [(1, 0, 0), (2, 1, 3)])
+        self.assertEqual(lines_told(b"PK\x03\x04"), [(1, 0, 0)])
         many = HEAD + b"\n" + b"".join(changed(station=1 + i // 4, season=1 + i % 4).split(b"\n")[1] + b"\n" for i in range(257))
         self.assertEqual(lines_told(many), [(4, 258, 0)])
 

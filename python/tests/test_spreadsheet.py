@@ -203,6 +203,11 @@ class Command(unittest.TestCase):
                           "line 5, fault (column 10): 318000 A is not in 100..80000\nnothing was written\n", done.err)
             self.assertFalse(made.exists())
 
+    def test_a_wrong_name_below_other_lines(self):
+        done = run("import", "-", stdin=b"sep=;\n\n" + SEMICOLONS.replace(b"soil", b"sol"))
+        self.assertEqual(done.status, 1)
+        self.assertIn("line 3, column 3: 'sol' is no name of a sheet; did you mean soil?\n", done.err)
+
     def test_former_names(self):
         done = run("import", "-", stdin=FORMER.replace(b"\n", b"\r\n"))
         self.assertEqual((done.status, done.out), (0, FORMER.decode()))
