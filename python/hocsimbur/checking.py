@@ -66,12 +66,11 @@ def check(sheet: bytes, numbers: Optional[Sequence[int]] = None) -> List[Found]:
         return []
     lines = sheets.lines(sheet)
     numbers = numbers or range(1, len(lines) + 1)
-    of_sheet = [whole] if whole.number in OF_SHEET else []
-    if not lines or len(sheet) > MOST or foreign(sheet):
-        return of_sheet
+    if not lines or len(sheet) > MOST or whole.number == 2 or whole.number == 1 and foreign(sheet):
+        return [whole]
     names = _asked(_joined(lines[:1]), numbers)
     if names and names.number == 2:
-        return of_sheet if whole.number == 2 else [whole, names]
+        return [whole, names]
     found: List[Found] = []
     kept: List[Tuple[int, bytes]] = []
     for number, line in zip(numbers[1:], lines[1:]):
@@ -81,7 +80,7 @@ def check(sheet: bytes, numbers: Optional[Sequence[int]] = None) -> List[Found]:
         else:
             kept.append((number, line))
     found += _repeated(lines[0], kept, numbers[0])
-    return of_sheet + sorted(found, key=lambda one: one.line)
+    return ([whole] if whole.number in OF_SHEET else []) + sorted(found, key=lambda one: one.line)
 
 
 def conclusion(found: Sequence[Found]) -> str:
