@@ -34,7 +34,7 @@ use Rattle.formulas.specs.Resistance.{resistance}
 use Rattle.formulas.specs.Width.{μΩ, billionths, factorWidth, resistanceWidth}
 use Rattle.tolerable.specs.Ends.{touchEnds, stepEnds}
 use Rattle.row.specs.Ends.{rowOf}
-use Rattle.row.proofs.Right.{touch-reports, limit-reports}
+use Rattle.row.proofs.Right.{tolerable-touch-reports, tolerable-step-reports}
 use Rattle.numbers.specs.Number.{Number}
 use Rattle.numbers.proofs.Voltages.{case-numbers}
 use Rattle.hocsimbur.specs.declared.Number.{Number as SizeAnswer}
@@ -200,7 +200,7 @@ unfolding tolerableAnswer
 tolerable-outcome {c} a =
     rw (a .answer)
     (by-checks (TolerableOutcome c) tolerable.Refused (tolerable.Ends (touchEnds c) (stepEnds c)) c (λ n l k h. claim.refused h)
-    (λ s. claim.ends s (case-numbers (s .bounds)) (touch-reports (s .bounds)) (limit-reports (s .bounds))))
+    (λ s. claim.ends s (case-numbers (s .bounds)) (tolerable-touch-reports (s .bounds)) (tolerable-step-reports (s .bounds))))
 
 pub size-outcome : {c : Case} {r : SizeAnswer} → SizeAnswered c r → SizeOutcome c r
 unfolding sizeAnswer

@@ -127,13 +127,13 @@ module _ {c : Case} (station season s : ℕ) (b : Bounds c) (b′ : Bounds (unde
   unfolding step
   step-is = rw (same-Ks, same-Ki, same-IG, same-LS)
 
-  touch-is : tolerableTouch other ≡ exactly ((whole 1000 +f decimal 15 1 ·f Q other) ·f bodyFactor c) ÷x rootTime c
+  tolerable-touch-is : tolerableTouch other ≡ exactly ((whole 1000 +f decimal 15 1 ·f Q other) ·f bodyFactor c) ÷x rootTime c
   unfolding tolerableTouch bodyFactor rootTime
-  touch-is = refl
+  tolerable-touch-is = refl
 
-  limit-is : tolerableStep other ≡ exactly ((whole 1000 +f whole 6 ·f Q other) ·f bodyFactor c) ÷x rootTime c
+  tolerable-step-is : tolerableStep other ≡ exactly ((whole 1000 +f whole 6 ·f Q other) ·f bodyFactor c) ÷x rootTime c
   unfolding tolerableStep bodyFactor rootTime
-  limit-is = refl
+  tolerable-step-is = refl
 
   -- ---- above with the lower resistivity, so above with the higher
 
@@ -151,8 +151,8 @@ module _ {c : Case} (station season s : ℕ) (b : Bounds c) (b′ : Bounds (unde
 
   pub mesh-above : Above (mesh other) (tolerableTouch other) → Above (mesh c) (tolerableTouch c)
   unfolding mesh tolerableTouch
-  mesh-above a = voltage-above (decimal-nonneg 15 1) (consistent-Km b) (quantity-LM b) (rw (mesh-is, touch-is) at a)
+  mesh-above a = voltage-above (decimal-nonneg 15 1) (consistent-Km b) (quantity-LM b) (rw (mesh-is, tolerable-touch-is) at a)
 
   pub step-above : Above (step other) (tolerableStep other) → Above (step c) (tolerableStep c)
   unfolding step tolerableStep
-  step-above a = voltage-above (nonneg 6) (consistent-Ks b) (quantity-exactly (LS-pos b)) (rw (step-is, limit-is) at a)
+  step-above a = voltage-above (nonneg 6) (consistent-Ks b) (quantity-exactly (LS-pos b)) (rw (step-is, tolerable-step-is) at a)

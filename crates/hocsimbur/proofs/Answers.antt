@@ -28,7 +28,7 @@ use Rattle.tolerable.specs.Ends.{touchEnds, stepEnds, touchAndStep}
 use Rattle.row.specs.declared.Row.{Row}
 use Rattle.row.specs.declared.Verdict.{Verdict}
 use Rattle.row.specs.Ends.{caseVerdict, rowOf}
-use Rattle.row.proofs.Right.{touch-reports, limit-reports, resistance-reports, row-verdict, right-row}
+use Rattle.row.proofs.Right.{tolerable-touch-reports, tolerable-step-reports, resistance-reports, row-verdict, right-row}
 use Rattle.hocsimbur.specs.declared.Number.the-variants as number
 use Rattle.hocsimbur.specs.declared.Tolerable.the-variants as tolerable
 use Rattle.hocsimbur.specs.declared.RowAnswer.{RowAnswer}
@@ -104,7 +104,7 @@ module _ (c : Case) {j : Judged} (judged : j ≡ recordJudged c) where
       rw e
       (record {
         answer = asked-answer tolerable.Refused (tolerable.Ends (touchEnds c) (stepEnds c)) sound;
-        right = record { touch-in-row = refl; step-in-row = refl; touch-right = touch-reports b; step-right = limit-reports b };
+        right = record { touch-in-row = refl; step-in-row = refl; touch-right = tolerable-touch-reports b; step-right = tolerable-step-reports b };
       })
 
   pub voltages-refused : {n l k : ℕ} → j ≡ Refused n l k → TolerableAnswered c (tolerable.Refused n l k)

@@ -33,12 +33,14 @@ pub const VALUES: usize = LINES * NAMES;
 // The line named where there are too many.
 const PAST_LINES: usize = LINES + 2;
 
-// The refusals of a sheet before its lines are read, by their numbers: its text, its names, the count of its value lines.
-const NOT_A_SHEET: u32 = 1;
+// The refusals of a sheet by their numbers: its text, its names, a field that is no value, the count of its value lines.
+pub const NOT_A_SHEET: u32 = 1;
 
-const WRONG_NAME: u32 = 2;
+pub const WRONG_NAME: u32 = 2;
 
-const WRONG_LINE_COUNT: u32 = 4;
+pub const NOT_A_VALUE: u32 = 3;
+
+pub const WRONG_LINE_COUNT: u32 = 4;
 
 // The count of value lines, or a refusal with number, line and column.
 pub enum Judgement {

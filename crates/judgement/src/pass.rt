@@ -13,6 +13,7 @@ ghost use Rattle.judgement.specs.Read.{LinesRead};
 use crate::Judgement;
 use crate::LINES;
 use crate::LineFinding;
+use crate::NOT_A_VALUE;
 use crate::check::check_line;
 use crate::check::key;
 use case::Form;
@@ -21,9 +22,7 @@ use case::VALUES_DISAGREE;
 use text::find;
 use text::skip;
 
-// The refusals of a line that its values alone do not settle: a field that is no value, a second line of one station and season.
-const NOT_A_VALUE: u32 = 3;
-
+// The refusal of a second line of one station and season.
 const LINE_REPEATED: u32 = 7;
 
 // The refusal of a line, or no lines where it is sound.

@@ -9,7 +9,7 @@ use lib.ListN.{getD, length}
 use lib.Signed.{leZ}
 use Rattle.interval.specs.Whole.{ceilDiv}
 use Rattle.row.specs.Row.{rowLength}
-use Rattle.row.specs.Places.{touchLowerPlace, limitLowerPlace, meshUpperPlace, stepUpperPlace}
+use Rattle.row.specs.Places.{tolerableTouchLowerPlace, tolerableStepLowerPlace, meshUpperPlace, stepUpperPlace}
 use Rattle.margin.specs.declared.Compared.{Compared}
 use Rattle.margin.specs.declared.Compared.the-variants.{Margins, None}
 
@@ -35,15 +35,15 @@ unfoldable pub comparable : ℤ → ℤ → Bool
 comparable voltage tolerable = inRange (pos 0) voltage && inRange (pos 1) tolerable
 
 -- of mesh voltage and tolerable touch, step voltage and tolerable step
-unfoldable pub fourMargins : (mesh touch step limit : ℤ) → Compared
-fourMargins mesh touch step limit =
-    cond (comparable mesh touch && comparable step limit)
-    (Margins (margin (natAbs mesh) (natAbs touch)) (margin (natAbs step) (natAbs limit))) None
+unfoldable pub fourMargins : (mesh tolerableTouch step tolerableStep : ℤ) → Compared
+fourMargins mesh tolerableTouch step tolerableStep =
+    cond (comparable mesh tolerableTouch && comparable step tolerableStep)
+    (Margins (margin (natAbs mesh) (natAbs tolerableTouch)) (margin (natAbs step) (natAbs tolerableStep))) None
 
 -- of the numbers of a row
 unfoldable pub marginsOf : List ℤ → Compared
 marginsOf row =
     cond (eqb (length row) rowLength)
-    (fourMargins (getD row meshUpperPlace (pos 0)) (getD row touchLowerPlace (pos 0)) (getD row stepUpperPlace (pos 0))
-    (getD row limitLowerPlace (pos 0)))
+    (fourMargins (getD row meshUpperPlace (pos 0)) (getD row tolerableTouchLowerPlace (pos 0)) (getD row stepUpperPlace (pos 0))
+    (getD row tolerableStepLowerPlace (pos 0)))
     None

@@ -5,11 +5,11 @@ ghost use lib.Dec.{T};
 ghost use lib.IntN.{natAbs};
 ghost use Rattle.margin.specs.Margin.{inRange, comparable as comparableEnds, margin as marginOf, fourMargins, marginsOf};
 use interval::wide;
-use row::LIMIT_LOWER;
 use row::MESH_UPPER;
 use row::ROW_LENGTH;
 use row::STEP_UPPER;
-use row::TOUCH_LOWER;
+use row::TOLERABLE_STEP_LOWER;
+use row::TOLERABLE_TOUCH_LOWER;
 
 // Mesh voltage above tolerable touch, then step voltage above tolerable step, in tenths of a percent of what is tolerable and below it as a
 // negative number; or None, which no row has.
@@ -47,12 +47,12 @@ fn margin(voltage: i64, tolerable: i64) -> i64
 }
 
 // Mesh voltage against tolerable touch, step voltage against tolerable step.
-fn compare(mesh: i64, touch: i64, step: i64, limit: i64) -> Compared
-    ensures { λ r. ⌜ r ≡ fourMargins mesh touch step limit ⌝ }
+fn compare(mesh: i64, tolerable_touch: i64, step: i64, tolerable_step: i64) -> Compared
+    ensures { λ r. ⌜ r ≡ fourMargins mesh «tolerable_touch» step «tolerable_step» ⌝ }
 {
-    if comparable(mesh, touch) {
-        if comparable(step, limit) {
-            return Compared::Margins(margin(mesh, touch), margin(step, limit));
+    if comparable(mesh, tolerable_touch) {
+        if comparable(step, tolerable_step) {
+            return Compared::Margins(margin(mesh, tolerable_touch), margin(step, tolerable_step));
         }
     }
     Compared::None
@@ -65,9 +65,9 @@ pub fn margins(row: &[i64]) -> Compared
     if row.len() == ROW_LENGTH {
         return compare(
             row[MESH_UPPER],
-            row[TOUCH_LOWER],
+            row[TOLERABLE_TOUCH_LOWER],
             row[STEP_UPPER],
-            row[LIMIT_LOWER],
+            row[TOLERABLE_STEP_LOWER],
         );
     }
     Compared::None

@@ -19,7 +19,7 @@ use Rattle.mesh.specs.Ends as Mesh
 use Rattle.mesh.specs.Ends.{diagonalEnds, rodWeight, weighedLength, meshLength, meshEnds}
 use Rattle.step.specs.Ends as Step
 use Rattle.step.specs.Ends.{powerOfTwo, shareEnds, reach, spacingSum, spacingFactor, stepLength, stepVoltageEnds}
-use Rattle.tolerable.proofs.NoWorse.{touch-rises, limit-rises}
+use Rattle.tolerable.proofs.NoWorse.{tolerable-touch-rises, tolerable-step-rises}
 use Rattle.mesh.proofs.NoWorse.{mesh-below}
 use Rattle.step.proofs.NoWorse.{step-below}
 use Rattle.row.specs.declared.Verdict.the-variants.{Safe}
@@ -53,7 +53,7 @@ module _ {c : Case} (b : Bounds c) where
       → caseVerdict c ≡ Safe → caseVerdict (eased fault split shock body c) ≡ Safe
   unfolding caseVerdict
   eased-safe fault split shock body h z t w e =
-      safe-eases (touch-rises b fault split shock body z t w) (limit-rises b fault split shock body z t w)
+      safe-eases (tolerable-touch-rises b fault split shock body z t w) (tolerable-step-rises b fault split shock body z t w)
       (mesh-below b fault split shock body h)
       (step-below b fault split shock body h) e
 

@@ -35,20 +35,20 @@ unfolding rowOf
 row-verdict c = refl
 
 module _ {c : Case} (b : Bounds c) where
-  pub touch-reports : Reports (Tolerable.tolerableTouch c) mV tolerableWidth (touchEnds c)
-  touch-reports = reports tolerableWidth (consistent-touch b) (T.touch-encloses b) (TW.touch-narrow b)
+  pub tolerable-touch-reports : Reports (Tolerable.tolerableTouch c) mV tolerableWidth (touchEnds c)
+  tolerable-touch-reports = reports tolerableWidth (consistent-touch b) (T.touch-encloses b) (TW.touch-narrow b)
 
-  pub limit-reports : Reports (Tolerable.tolerableStep c) mV tolerableWidth (stepEnds c)
-  limit-reports = reports tolerableWidth (consistent-tolerable-step b) (T.step-encloses b) (TW.step-narrow b)
+  pub tolerable-step-reports : Reports (Tolerable.tolerableStep c) mV tolerableWidth (stepEnds c)
+  tolerable-step-reports = reports tolerableWidth (consistent-tolerable-step b) (T.step-encloses b) (TW.step-narrow b)
 
   pub resistance-reports : Reports (R.resistance c) μΩ resistanceWidth (resistanceEnds c)
   resistance-reports = reports resistanceWidth (quantity-resistance b .consistent) (resistance-encloses b) (resistance-narrow b)
 
-  touch-enclosed : Enclosed mV (Tolerable.tolerableTouch c) (touchEnds c)
-  touch-enclosed = record { consistent = consistent-touch b; encloses = T.touch-encloses b }
+  tolerable-touch-enclosed : Enclosed mV (Tolerable.tolerableTouch c) (touchEnds c)
+  tolerable-touch-enclosed = record { consistent = consistent-touch b; encloses = T.touch-encloses b }
 
-  limit-enclosed : Enclosed mV (Tolerable.tolerableStep c) (stepEnds c)
-  limit-enclosed = record { consistent = consistent-tolerable-step b; encloses = T.step-encloses b }
+  tolerable-step-enclosed : Enclosed mV (Tolerable.tolerableStep c) (stepEnds c)
+  tolerable-step-enclosed = record { consistent = consistent-tolerable-step b; encloses = T.step-encloses b }
 
   mesh-enclosed : Enclosed mV (Mesh.mesh c) (meshEnds c)
   mesh-enclosed = record { consistent = consistent-mesh b; encloses = mesh-encloses b }
@@ -71,12 +71,12 @@ module _ {c : Case} (b : Bounds c) where
         size = refl;
         current = current-reports b;
         factor = factor-reports b;
-        tolerable-touch = touch-reports;
-        tolerable-step = limit-reports;
+        tolerable-touch = tolerable-touch-reports;
+        tolerable-step = tolerable-step-reports;
         mesh = reports (λ A. meshWidth c (reported μA (rowOf c .current))) (consistent-mesh b) (mesh-encloses b) mesh-width;
         step = reports (λ A. stepWidth c (reported μA (rowOf c .current))) (consistent-step b) (S.step-encloses b) (SW.step-narrow b);
         resistance = resistance-reports;
         rise = reports riseWidth (consistent-rise b) (rise-encloses b) (rise-narrow b);
-        safe-true = safe-true touch-enclosed limit-enclosed mesh-enclosed step-enclosed;
-        unsafe-true = unsafe-true touch-enclosed limit-enclosed mesh-enclosed step-enclosed;
+        safe-true = safe-true tolerable-touch-enclosed tolerable-step-enclosed mesh-enclosed step-enclosed;
+        unsafe-true = unsafe-true tolerable-touch-enclosed tolerable-step-enclosed mesh-enclosed step-enclosed;
       }

@@ -52,16 +52,16 @@ pub record Enclosed (u : Scale) (x : Exact) (i : Interval) : Type 0 where
   pub consistent : Consistent x
   pub encloses : Encloses x u i
 
-module _ {u : Scale} {touch limit mesh step : Exact} {t l m s : Interval}
-    (et : Enclosed u touch t) (el : Enclosed u limit l) (em : Enclosed u mesh m) (es : Enclosed u step s) where
-  pub safe-true : verdict t l m s ≡ Safe → AtOrBelow mesh touch × AtOrBelow step limit
+module _ {u : Scale} {tolerableTouch tolerableStep mesh step : Exact} {t l m s : Interval}
+    (et : Enclosed u tolerableTouch t) (el : Enclosed u tolerableStep l) (em : Enclosed u mesh m) (es : Enclosed u step s) where
+  pub safe-true : verdict t l m s ≡ Safe → AtOrBelow mesh tolerableTouch × AtOrBelow step tolerableStep
   safe-true e =
       let p = safe-ends t l m s e in (
         encloses-at-or-below (em .consistent) (et .consistent) (em .encloses) (et .encloses) (p .0),
         encloses-at-or-below (es .consistent) (el .consistent) (es .encloses) (el .encloses) (p .1),
       )
 
-  pub unsafe-true : verdict t l m s ≡ Unsafe → Above mesh touch ⊎ Above step limit
+  pub unsafe-true : verdict t l m s ≡ Unsafe → Above mesh tolerableTouch ⊎ Above step tolerableStep
   unfolding verdict unsafe
   unsafe-true e =
       ⊎-elim (λ h. inl (encloses-above (em .encloses) (et .encloses) (ltZ-yes h)))

@@ -19,33 +19,48 @@ fn below(a: i64, b: i64) -> bool
 }
 
 // Mesh and step voltage are not above what is tolerable.
-fn is_safe(touch: Interval, limit: Interval, mesh: Interval, step: Interval) -> bool
-    ensures { λ r. ⌜ r ≡ safeEnds touch limit mesh step ⌝ }
+fn is_safe(
+    tolerable_touch: Interval,
+    tolerable_step: Interval,
+    mesh: Interval,
+    step: Interval,
+) -> bool
+    ensures { λ r. ⌜ r ≡ safeEnds «tolerable_touch» «tolerable_step» mesh step ⌝ }
 {
-    if !at_most(mesh.upper, touch.lower) {
+    if !at_most(mesh.upper, tolerable_touch.lower) {
         return false;
     }
-    at_most(step.upper, limit.lower)
+    at_most(step.upper, tolerable_step.lower)
 }
 
 // Mesh or step voltage is above what is tolerable.
-fn is_unsafe(touch: Interval, limit: Interval, mesh: Interval, step: Interval) -> bool
-    ensures { λ r. ⌜ r ≡ unsafeEnds touch limit mesh step ⌝ }
+fn is_unsafe(
+    tolerable_touch: Interval,
+    tolerable_step: Interval,
+    mesh: Interval,
+    step: Interval,
+) -> bool
+    ensures { λ r. ⌜ r ≡ unsafeEnds «tolerable_touch» «tolerable_step» mesh step ⌝ }
 {
-    if below(touch.upper, mesh.lower) {
+    if below(tolerable_touch.upper, mesh.lower) {
         return true;
     }
-    below(limit.upper, step.lower)
+    below(tolerable_step.upper, step.lower)
 }
 
 // The verdict of tolerable touch, tolerable step, mesh and step voltage.
-pub fn verdict_of(touch: Interval, limit: Interval, mesh: Interval, step: Interval) -> Verdict
-    ensures { λ r. ⌜ r ≡ verdict touch limit mesh step ⌝ }
+pub fn verdict_of(
+    tolerable_touch: Interval,
+    tolerable_step: Interval,
+    mesh: Interval,
+    step: Interval,
+) -> Verdict
+    ensures { λ r. ⌜ r ≡ verdict «tolerable_touch» «tolerable_step» mesh step ⌝ }
 {
-    if is_safe(touch, limit, mesh, step) {
+    if is_safe(tolerable_touch, tolerable_step, mesh, step) {
         return Verdict::Safe;
     }
-    if is_unsafe(touch, limit, mesh, step) {
+    if is_unsafe(tolerable_touch, tolerable_step, mesh, step) {
         return Verdict::Unsafe;
     }
     Verdict::Undecided

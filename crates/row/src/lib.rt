@@ -11,14 +11,18 @@ pub use work::work_row;
 // How many numbers a row has.
 pub const ROW_LENGTH: usize = 20;
 
-// Places in a row: season, verdict, the lower ends of tolerable touch and step, the upper ends of mesh and step voltage.
+// Places in a row: station, season, verdict, size in kcmil, the lower ends of tolerable touch and step, the upper ends of mesh and step voltage.
+pub const STATION: usize = 0;
+
 pub const SEASON: usize = 1;
 
 pub const VERDICT: usize = 2;
 
-pub const TOUCH_LOWER: usize = 8;
+pub const KCMIL: usize = 3;
 
-pub const LIMIT_LOWER: usize = 10;
+pub const TOLERABLE_TOUCH_LOWER: usize = 8;
+
+pub const TOLERABLE_STEP_LOWER: usize = 10;
 
 pub const MESH_UPPER: usize = 13;
 

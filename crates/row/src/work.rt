@@ -26,9 +26,9 @@ pub fn work_row(c: Case) -> Row
 {
     let factor = decrement::factor_ends(c);
     let current = current::grid_current(c, factor);
-    let limits = tolerable::touch_and_step(c);
-    let touch = limits.touch;
-    let limit = limits.step;
+    let tolerable = tolerable::touch_and_step(c);
+    let tolerable_touch = tolerable.touch;
+    let tolerable_step = tolerable.step;
     let n = conductors::effective_number(c.across, c.along);
     let drive = drive::drive(c, n, current);
     let mesh = mesh::mesh_voltage(c, n, drive);
@@ -38,12 +38,12 @@ pub fn work_row(c: Case) -> Row
     Row {
         station: c.station as i64,
         season: c.season as i64,
-        verdict: verdict_of(touch, limit, mesh, step),
+        verdict: verdict_of(tolerable_touch, tolerable_step, mesh, step),
         size: size_number(c, factor),
         current,
         factor,
-        tolerable_touch: touch,
-        tolerable_step: limit,
+        tolerable_touch,
+        tolerable_step,
         mesh,
         step,
         resistance: ohms,

@@ -5,6 +5,7 @@ use mathlib.Core.List.{List, [], _∷_}
 use lib.IntN.{ℤ, pos}
 use lib.ListN.{length, getD, take}
 use Rattle.writing.specs.Text.{ended}
+use Rattle.row.specs.Places.{stationPlace, seasonPlace, verdictPlace}
 use Rattle.margin.specs.declared.Compared.{Compared}
 use Rattle.margin.specs.declared.Compared.the-variants as compared
 use Rattle.margin.specs.Margin.{marginsOf}
@@ -15,7 +16,7 @@ use Rattle.fields.specs.Fields.{lineOf}
 use Rattle.row_text.specs.Shown.{marginNumbers, shownFields, shownLine}
 
 module _ {what : Shown} (row : List ℤ) where
-  pub verdict-line : what ≡ Verdict → ended (shownLine what row) ≡ lineOf 2 (take 4 row)
+  pub verdict-line : what ≡ Verdict → ended (shownLine what row) ≡ lineOf verdictPlace (take 4 row)
   unfolding shownLine shownFields lineOf
   verdict-line e = rw e
 
@@ -23,7 +24,7 @@ module _ {what : Shown} (row : List ℤ) where
   unfolding shownLine shownFields lineOf
   numbers-line e = rw e
 
-  pub margins-line : what ≡ Margins → ended (shownLine what row) ≡ lineOf 2 (marginNumbers row)
+  pub margins-line : what ≡ Margins → ended (shownLine what row) ≡ lineOf verdictPlace (marginNumbers row)
   unfolding shownLine shownFields lineOf
   margins-line e = rw e
 
@@ -39,7 +40,7 @@ margins-five row = go (marginsOf row)
 
 module _ (row : List ℤ) {c : Compared} (e : c ≡ marginsOf row) where
   abbrev three : List ℤ → List ℤ
-  three ms = getD row 0 (pos 0) ∷ getD row 1 (pos 0) ∷ getD row 2 (pos 0) ∷ ms
+  three ms = getD row stationPlace (pos 0) ∷ getD row seasonPlace (pos 0) ∷ getD row verdictPlace (pos 0) ∷ ms
 
   pub with-margins : {mesh step : ℤ} → c ≡ compared.Margins mesh step → three (mesh ∷ step ∷ []) ≡ marginNumbers row
   unfolding marginNumbers twoMargins

@@ -11,9 +11,14 @@ ghost use Rattle.row_text.specs.Shown.{marginNumbers, shownLine, linesAf
 use fields::put_fields;
 use margin::Compared;
 use margin::margins;
+use row::KCMIL;
 use row::SEASON;
+use row::STATION;
 use row::VERDICT;
 use writing::put_bytes;
+
+// Station, season, verdict and size stand first in a row.
+const FIRST: usize = KCMIL + 1;
 
 // What is shown of a row: station, season, verdict by its word and size; all its numbers; or station, season, verdict and the two margins.
 pub enum Shown {
@@ -29,8 +34,8 @@ fn margin_numbers(row: &[i64]) -> [i64; 5]
 {
     let compared = margins(row);
     match compared {
-        Compared::Margins(mesh, step) => [row[0], row[SEASON], row[VERDICT], mesh, step],
-        Compared::None => [row[0], row[SEASON], row[VERDICT], 0, 0],
+        Compared::Margins(mesh, step) => [row[STATION], row[SEASON], row[VERDICT], mesh, step],
+        Compared::None => [row[STATION], row[SEASON], row[VERDICT], 0, 0],
     }
 }
 
@@ -41,11 +46,11 @@ fn put_row(buf: &mut [u8], at: usize, row: &[i64], what: Shown) -> usize
     ensures { λ r. ⌜ Put (now (buf .entry)) at (ended (shownLine what (now (row .entry)))) (now (buf .exit)) r ⌝ }
 {
     match what {
-        Shown::Verdict => put_fields(buf, at, &row[..4], 2),
+        Shown::Verdict => put_fields(buf, at, &row[..FIRST], VERDICT),
         Shown::Numbers => put_fields(buf, at, row, row.len()),
         Shown::Margins => {
             let numbers = margin_numbers(row);
-            put_fields(buf, at, &numbers, 2)
+            put_fields(buf, at, &numbers, VERDICT)
         }
     }
 }

@@ -14,6 +14,7 @@ use fields::put_numbered;
 use fields::put_refusal;
 use judgement::BYTES;
 use judgement::Judgement;
+use judgement::NOT_A_SHEET;
 use one_line::read_one;
 use text::Field;
 use text::find;
@@ -57,7 +58,7 @@ pub fn put_fewest(s: &[u8], out: &mut [u8]) -> usize
     ensures { λ r. ⌜ Put (now (out .entry)) 0 (fewestText (now (s .entry))) (now (out .exit)) r ⌝ }
 {
     if BYTES < s.len() {
-        return put_refusal(out, 1, 0, 0);
+        return put_refusal(out, NOT_A_SHEET, 0, 0);
     }
     let e = find(s, 10);
     let side = side_of(&s[..e]);

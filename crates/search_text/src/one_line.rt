@@ -9,6 +9,9 @@ use case::Form;
 use case::NAMES;
 use header::read_header;
 use judgement::Judgement;
+use judgement::NOT_A_VALUE;
+use judgement::WRONG_LINE_COUNT;
+use judgement::WRONG_NAME;
 use line::read_values;
 use text::find;
 use text::skip;
@@ -20,15 +23,15 @@ fn read_value_line<'a>(s: &'a [u8], order: &'a [usize], values: &mut [u32]) -> J
     ensures { λ r. ⌜ ValuesRead (linesOf (now (s .entry))) (now (order .entry)) (now (values .exit)) r ⌝ }
 {
     if s.len() == 0 {
-        return Judgement::Refused(4, 2, 0);
+        return Judgement::Refused(WRONG_LINE_COUNT, 2, 0);
     }
     let e = find(s, 10);
     if skip(e, s.len()) < s.len() {
-        return Judgement::Refused(4, 3, 0);
+        return Judgement::Refused(WRONG_LINE_COUNT, 3, 0);
     }
     let wrong = read_values(&s[..e], order, values);
     if wrong != 0 {
-        return Judgement::Refused(3, 2, wrong);
+        return Judgement::Refused(NOT_A_VALUE, 2, wrong);
     }
     Judgement::Lines(1)
 }
@@ -43,7 +46,7 @@ pub fn read_one(s: &[u8], values: &mut [u32]) -> Judgement
     let mut order = [0usize; NAMES];
     let wrong = read_header(Form::Present, &s[..e], &mut at, &mut order);
     if wrong != 0 {
-        return Judgement::Refused(2, 1, wrong);
+        return Judgement::Refused(WRONG_NAME, 1, wrong);
     }
     let next = skip(e, s.len());
     read_value_line(&s[next..], &order, values)

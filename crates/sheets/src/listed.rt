@@ -3,6 +3,10 @@ use gate::bytes;
 use gate::number;
 use gate::numbers;
 use gate::signed;
+use row::KCMIL;
+use row::SEASON;
+use row::STATION;
+use row::VERDICT;
 
 // What is listed of each row.
 pub enum Listing {
@@ -24,11 +28,11 @@ fn verdict_word(verdict: i64) {
 // Station, season, verdict and kcmil of a row.
 fn verdict(row: &[i64]) {
     if 4 <= row.len() {
-        signed(row[0]);
+        signed(row[STATION]);
         bytes(b",");
-        signed(row[1]);
-        verdict_word(row[2]);
-        signed(row[3]);
+        signed(row[SEASON]);
+        verdict_word(row[VERDICT]);
+        signed(row[KCMIL]);
         bytes(b"\n");
     }
 }

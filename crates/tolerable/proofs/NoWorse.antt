@@ -40,10 +40,10 @@ module _ {c : Case} (b : Bounds c) (fault split shock body : ℕ) (least : 9 ≤
       (root-span (shock * 10 ^ 13) 9000000 200000000 (omega arith) (omega (arith, b .shock .high)))
       (root-below (shock * 10 ^ 13) (c .shock * 10 ^ 13) (mul-le-mul-right (10 ^ 13) shorter))
 
-  pub touch-rises : Below (touchEnds c) (touchEnds other)
+  pub tolerable-touch-rises : Below (touchEnds c) (touchEnds other)
   unfolding touchEnds
-  touch-rises = tolerable-rises 3
+  tolerable-touch-rises = tolerable-rises 3
 
-  pub limit-rises : Below (stepEnds c) (stepEnds other)
+  pub tolerable-step-rises : Below (stepEnds c) (stepEnds other)
   unfolding stepEnds
-  limit-rises = tolerable-rises 12
+  tolerable-step-rises = tolerable-rises 12

@@ -7,15 +7,16 @@ use mir.Val.{SFits}
 use mir.Facts.{toZ-ofZ}
 use borrow.Author.Needs.{needs}
 use borrow.Author.Tests.{ne-eqb}
+use Rattle.row.specs.Places.{tolerableTouchLowerPlace, tolerableStepLowerPlace, meshUpperPlace, stepUpperPlace}
 use Rattle.margin.specs.Margin.{marginsOf}
 use Rattle.margin.proofs.margins.Statement.{statement}
 use Rattle.margin.proofs.margins.Tie as tie
 
 held : (c : tie.After-compare)
-    → SFits w64 (getD (c .before .before .before .before .before .before .args .row .now) 13 (pos 0))
-    × SFits w64 (getD (c .before .before .before .before .before .before .args .row .now) 8 (pos 0))
-    × SFits w64 (getD (c .before .before .before .before .before .before .args .row .now) 15 (pos 0))
-    × SFits w64 (getD (c .before .before .before .before .before .before .args .row .now) 10 (pos 0))
+    → SFits w64 (getD (c .before .before .before .before .before .before .args .row .now) meshUpperPlace (pos 0))
+    × SFits w64 (getD (c .before .before .before .before .before .before .args .row .now) tolerableTouchLowerPlace (pos 0))
+    × SFits w64 (getD (c .before .before .before .before .before .before .args .row .now) stepUpperPlace (pos 0))
+    × SFits w64 (getD (c .before .before .before .before .before .before .args .row .now) tolerableStepLowerPlace (pos 0))
 held c = search needs
 
 returns : tie.Need-returns

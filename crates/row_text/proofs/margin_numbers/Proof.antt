@@ -6,6 +6,7 @@ use lib.ListN.{getD}
 use mir.Syntax.{w64}
 use mir.Val.{SFits}
 use mir.Facts.{toZ-ofZ}
+use Rattle.row.specs.Places.{stationPlace, seasonPlace, verdictPlace}
 use Rattle.row_text.proofs.ShownLines.{with-margins, without-margins}
 use Rattle.row_text.proofs.margin_numbers.Statement.{statement}
 use Rattle.row_text.proofs.margin_numbers.Tie as tie
@@ -24,13 +25,13 @@ module _ (c : tie.After-t11) where
   abbrev start : tie.Start
   start = known .before .before .before
 
-first-fits : (c : tie.After-t11) → SFits w64 (getD (row (start c)) 0 (pos 0))
+first-fits : (c : tie.After-t11) → SFits w64 (getD (row (start c)) stationPlace (pos 0))
 first-fits c = search needs
 
-season-fits : (c : tie.After-t11) → SFits w64 (getD (row (start c)) 1 (pos 0))
+season-fits : (c : tie.After-t11) → SFits w64 (getD (row (start c)) seasonPlace (pos 0))
 season-fits c = search needs
 
-verdict-fits : (c : tie.After-t11) → SFits w64 (getD (row (start c)) 2 (pos 0))
+verdict-fits : (c : tie.After-t11) → SFits w64 (getD (row (start c)) verdictPlace (pos 0))
 verdict-fits c = search needs
 
 mesh-fits : (c : tie.After-t11) → SFits w64 (known c .compared .given .0 .0)
@@ -51,13 +52,13 @@ module _ (c : tie.After-t17) where
   abbrev start-2 : tie.Start
   start-2 = none .before .before .before
 
-first-fits-2 : (c : tie.After-t17) → SFits w64 (getD (row (start-2 c)) 0 (pos 0))
+first-fits-2 : (c : tie.After-t17) → SFits w64 (getD (row (start-2 c)) stationPlace (pos 0))
 first-fits-2 c = search needs
 
-season-fits-2 : (c : tie.After-t17) → SFits w64 (getD (row (start-2 c)) 1 (pos 0))
+season-fits-2 : (c : tie.After-t17) → SFits w64 (getD (row (start-2 c)) seasonPlace (pos 0))
 season-fits-2 c = search needs
 
-verdict-fits-2 : (c : tie.After-t17) → SFits w64 (getD (row (start-2 c)) 2 (pos 0))
+verdict-fits-2 : (c : tie.After-t17) → SFits w64 (getD (row (start-2 c)) verdictPlace (pos 0))
 verdict-fits-2 c = search needs
 
 returns-2 : tie.Need-returns-2
