@@ -1,6 +1,5 @@
 -- A case and its values in the order of the table of names.
 use Prim.Native.Nat.{ℕ}
-use mathlib.Core.Path.{_≡_, refl}
 use mathlib.Core.List.{List, [], _∷_}
 use lib.ListN.{getD}
 use Rattle.case.specs.declared.Case.{Case}
@@ -38,6 +37,3 @@ caseOf v =
       metal = getD v 20 0;
       hz = getD v 21 0;
     }
-
-pub case-of-values : (c : Case) → caseOf (values c) ≡ c
-case-of-values c = refl

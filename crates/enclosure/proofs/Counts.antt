@@ -25,18 +25,6 @@ pub factor-positive : (u w : Scale) {m : ℕ} → w .count * m ≡ u .count → 
 factor-positive u w {m = zero} e = absurd (omega (arith, u .pos))
 factor-positive u w {m = suc m} e = omega arith
 
--- k times as many of a unit k times as fine
-pub over-scaled : (z : ℤ) (u w : Scale) (k : ℕ) → u .count * k ≡ w .count → over (z *ℤ pos k) w ≈f over z u
-unfolding over
-over-scaled z u w k e =
-    omega (
-      arith,
-      ap (λ t. t * u .count) (scale-plus z k),
-      ap (λ t. t * u .count) (scale-minus z k),
-      ap (λ t. plus z * t) e,
-      ap (λ t. minus z * t) e,
-    )
-
 -- k times as many of one unit
 pub over-times : (z : ℤ) (u : Scale) (k : ℕ) → over (z *ℤ pos k) u ≈f whole k ·f over z u
 unfolding over whole _·f_

@@ -1,11 +1,10 @@
 -- Pairs that hold a value: what holds the parts of a formula, combined, holds the whole.
 use Prim.Native.Nat.{ℕ, _≤_}
 use Rattle.exact.specs.Fraction.{Fraction, _+f_, _÷f_}
-use Rattle.exact.specs.Ends.{Ends, combine, _+e_, _÷e_, minusEnds}
-use Rattle.exact.specs.Exact.{Exact, exactly, _+x_, _÷x_, minus, Holds}
+use Rattle.exact.specs.Ends.{Ends, combine, _+e_, _÷e_}
+use Rattle.exact.specs.Exact.{Exact, exactly, _+x_, _÷x_, Holds}
 use Rattle.exact.specs.Depth.{Consistent, Within, Proper, Positive, PositiveAt}
 use Rattle.exact.proofs.Order.{trans≤}
-use Rattle.exact.proofs.Sums.{neg≤}
 use Rattle.exact.proofs.Points.{Point, Pointwise, sum-point, quotient-point}
 use Rattle.exact.proofs.Consistency.{Common, common, common-left, common-right, common-combine, proper-at}
 
@@ -21,10 +20,6 @@ holds-depth {K = K} c d w =
 pub holds-exactly : {q : Fraction} {A : Ends} → Point q A → Holds A (exactly q)
 unfolding exactly
 holds-exactly p = record { left = λ k d. p .low; right = λ k d. p .high }
-
-pub holds-minus : {A : Ends} {x : Exact} → Holds A x → Holds (minusEnds A) (minus x)
-unfolding minus minusEnds
-holds-minus h = record { left = λ k d. neg≤ (h .right k d); right = λ k d. neg≤ (h .left k d) }
 
 module _ {A B : Ends} {x y : Exact} (pa : Proper A) (pb : Proper B) (cx : Consistent x) (cy : Consistent y) (hx : Holds A x)
     (hy : Holds B y) where

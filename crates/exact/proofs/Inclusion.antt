@@ -1,12 +1,11 @@
 -- Narrower pairs give narrower results, for each operation at one depth.
 use Prim.Native.Nat.{ℕ, _≤_}
 use Rattle.exact.specs.Fraction.{Fraction, _≤f_, _+f_, _−f_, _·f_, _÷f_}
-use Rattle.exact.specs.Ends.{Ends, combine, _+e_, _−e_, _·e_, _÷e_, minusEnds}
-use Rattle.exact.specs.Exact.{Exact, exactly, _+x_, _−x_, _·x_, _÷x_, minus}
+use Rattle.exact.specs.Ends.{Ends, combine, _+e_, _−e_, _·e_, _÷e_}
+use Rattle.exact.specs.Exact.{Exact, exactly, _+x_, _−x_, _·x_, _÷x_}
 use Rattle.exact.specs.Depth.{Consistent, Within, Proper, Positive, SameEnds}
 use Rattle.exact.proofs.Order.{refl≤, trans≤}
 use Rattle.exact.proofs.Outcomes.{lower-of, upper-of}
-use Rattle.exact.proofs.Sums.{neg≤}
 use Rattle.exact.proofs.Points.{Point, Pointwise, lower-point, upper-point, point-within, sum-point, difference-point}
 use Rattle.exact.proofs.Points.{product-point, quotient-point}
 use Rattle.exact.proofs.Consistency.{proper-at}
@@ -69,7 +68,3 @@ module _ {x y : Exact} {k : ℕ} {A B : Ends} (cx : Consistent x) (cy : Consiste
   pub within-quotient : Positive B → Within ((x ÷x y) k) (A ÷e B)
   unfolding _÷x_ _÷e_
   within-quotient p = within-combine _÷f_ (quotient-point A B p) (proper-at cx d) (proper-at cy d) wx wy
-
-pub within-minus : (x : Exact) (k : ℕ) {A : Ends} → Within (x k) A → Within (minus x k) (minusEnds A)
-unfolding minus minusEnds
-within-minus x k w = record { low = neg≤ (w .high); high = neg≤ (w .low) }

@@ -13,7 +13,7 @@ use Rattle.interval.proofs.Signed.{neg-plus, neg-minus, sum-is, difference-is, 
 use Rattle.interval.proofs.Signed.{lt-halves, floor-below, floor-above}
 use Rattle.exact.specs.Fraction.{_≤f_, _<f_, _≈f_, whole, decimal, _+f_, neg, _−f_, _·f_, inv, _÷f_}
 use Rattle.exact.specs.Reported.{Scale, ten, over, reported}
-use Rattle.exact.specs.Depth.{Within, Positive}
+use Rattle.exact.specs.Depth.{Positive}
 use Rattle.exact.proofs.Order.{trans≤, refl≈}
 use Rattle.exact.proofs.Products.{cong·}
 
@@ -118,10 +118,6 @@ module _ (a z : ℤ) {c : ℕ} (hc : 0 < c) (u v w : Scale) where
   quotient-high h = trans≤ (as-product .to) (product-high a (pos (v .count)) z u divisor w h)
 
 -- ---- reported pairs
-
-pub reported-within : {i j : Interval} (u : Scale) → j .lower ≤ℤ i .lower → i .upper ≤ℤ j .upper → Within (reported u i) (reported u j)
-unfolding reported
-reported-within u l h = record { low = over≤ u l; high = over≤ u h }
 
 pub reported-positive : (i : Interval) (u : Scale) → pos 0 <ℤ i .lower → Positive (reported u i)
 unfolding reported whole over

@@ -8,3 +8,4 @@ pub mod Pi
 pub mod Reported
 pub mod Depth
 pub mod Answered
+pub mod Examples

@@ -3,7 +3,7 @@ use lib.IntN.{ℤ, _*ℤ_}
 use lib.Signed.{_≤ℤ_}
 use Rattle.interval.specs.Operations.{cornersOf}
 use Rattle.interval.specs.declared.Interval.{Interval}
-use Rattle.interval.proofs.Choice.{≤ℤ-trans, min-cases, max-cases, min-left, min-right, max-left, max-right}
+use Rattle.interval.proofs.Choice.{≤ℤ-trans, min-left, min-right, max-left, max-right}
 
 -- a property of each product: lower and lower, lower and upper, upper and lower, upper and upper
 pub record Corners (P : ℤ → Type 0) (a b : Interval) : Type 0 where
@@ -32,14 +32,3 @@ module _ (a b : Interval) where
         third = ≤ℤ-trans (max-left _ _) (max-right _ _);
         fourth = ≤ℤ-trans (max-right _ _) (max-right _ _);
       }
-
-  -- what holds of each product holds of the corners
-  pub corners-lower : (P : ℤ → Type 0) → Corners P a b → P (cornersOf a b .lower)
-  unfolding cornersOf
-  corners-lower P c =
-      min-cases P _ _ (λ _. min-cases P _ _ (λ _. c .first) (λ _. c .second)) (λ _. min-cases P _ _ (λ _. c .third) (λ _. c .fourth))
-
-  pub corners-upper : (P : ℤ → Type 0) → Corners P a b → P (cornersOf a b .upper)
-  unfolding cornersOf
-  corners-upper P c =
-      max-cases P _ _ (λ _. max-cases P _ _ (λ _. c .fourth) (λ _. c .third)) (λ _. max-cases P _ _ (λ _. c .second) (λ _. c .first))

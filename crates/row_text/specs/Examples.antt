@@ -1,27 +1,20 @@
 -- Texts worked by hand: rows of the sample of document 01 as each program prints them.
 use Prim.Native.Nat.{ℕ}
-use mathlib.Core.Path.{_≡_, refl}
-use mathlib.Core.List.{[], _∷_, map}
+use mathlib.Core.{Path.{_≡_, refl}, List.{[], _∷_, map}}
 use lib.IntN.{pos}
 use Rattle.text.specs.Text.{bytes}
-use Rattle.interval.specs.Whole.{ceilDiv}
-use Rattle.interval.specs.Operations.{natural}
-use Rattle.writing.specs.Decimal.{digitsIn, digitCount, lastDigits, decimal, signed}
-use Rattle.writing.specs.Text.{moreFields, parted, ended, textOf}
-use Rattle.row.specs.declared.Row.{Row}
-use Rattle.row.specs.declared.Verdict.{Verdict}
-use Rattle.row.specs.declared.Verdict.the-variants.{Safe, Unsafe, Undecided}
-use Rattle.row.specs.Verdict.{verdictNumber}
+use Rattle.interval.specs.{Whole.{ceilDiv}, Operations.{natural}}
+use Rattle.writing.specs.{Decimal.{digitsIn, digitCount, lastDigits, decimal, signed}, Text.{moreFields, parted, ended, textOf}}
+use Rattle.row.specs.{declared.{Row.{Row}, Verdict.{Verdict, the-variants.{Safe, Unsafe, Undecided}}}, Verdict.{verdictNumber}}
 use Rattle.row.specs.Row.{numbers}
 use Rattle.margin.specs.Margin.{margin, inRange, comparable, fourMargins, marginsOf}
 use Rattle.fields.specs.Listed.{listed}
-use Rattle.row_text.specs.Verdict.{word, verdictNames, verdictFields}
-use Rattle.row_text.specs.Rows.{rowNames, rowFields}
+use Rattle.row_text.specs.{Verdict.{word, verdictNames, verdictFields}, Rows.{rowNames, rowFields}}
 use Rattle.row_text.specs.Margins.{marginNames, twoMargins, marginFields}
 
 -- a row of station 7 with a season, a verdict and the size of document 01's sample, 17 since request (c) of document 02; its ends tell
 -- the columns apart
-abbrev sampleRow : ℕ → Verdict → Row
+abbrev pub sampleRow : ℕ → Verdict → Row
 sampleRow season verdict =
     record {
       station = pos 7;

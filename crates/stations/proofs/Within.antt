@@ -12,7 +12,6 @@ use Rattle.text.proofs.Clash.{clash}
 use Rattle.row.specs.declared.Row.{Row}
 use Rattle.sheet.specs.declared.Answer.{Answer}
 use Rattle.sheet.specs.declared.Answer.the-variants as sheet
-use Rattle.sheet.specs.Table.{Answered}
 use Rattle.stations.specs.declared.Summed.{Summed}
 use Rattle.stations.specs.declared.Summed.the-variants.{Summary, Refused}
 use Rattle.stations.specs.Summary.{stations, rowsOf, stationLength, stationNumbers, summaryOf, filled}
@@ -53,10 +52,6 @@ module _ {s : List ℕ} {rowsBefore rowsAfter before after : List ℤ} {r : Summ
   tables : Summarised s n rowsBefore rowsAfter before after
   unfolding TablesAfter
   tables = rw e at (a .tables-are)
-
-  -- the rows are those of the sheet's own question
-  pub rows-of-sheet : Answered s rowsBefore rowsAfter (sheet.Rows n)
-  rows-of-sheet = tables .rows
 
   pub summary-within : stationLength * m ≤ length after
   unfolding summaryAnswer summaryOf
