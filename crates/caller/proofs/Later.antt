@@ -1,23 +1,16 @@
 -- Less fault current cannot upset a released yard.
 use Prim.Native.Nat.{ℕ, _≤_}
-use mathlib.Core.Path.{refl, sym}
-use mathlib.Core.Bool.{Bool, false}
+use mathlib.Core.{Path.{refl, sym}, Bool.{Bool, false}}
 use Rattle.text.proofs.Clash.{clash}
-use Rattle.case.specs.declared.Case.{Case}
-use Rattle.case.proofs.Bounds.{record-bounds}
-use Rattle.hocsimbur.proofs.Answers.{row-told, row-sound}
-use Rattle.hocsimbur.proofs.LessFault.{row-stays-safe}
-use Rattle.caller.specs.Release.{Released}
-use Rattle.caller.specs.Later.{StaysReleased}
+use Rattle.case.{specs.declared.Case.{Case}, proofs.Bounds.{record-bounds}}
+use Rattle.hocsimbur.proofs.{Answers.{row-told, row-sound}, LessFault.{row-stays-safe}}
+use Rattle.caller.specs.{Release.{Released}, Later.{StaysReleased}}
 
 module _ {c : Case} {fault : ℕ} where
   -- nothing is answered of a current that is out of range or higher
   pub not-less : (100 ≤ fault → fault ≤ c .fault → ⊥) → StaysReleased c fault false
   not-less n =
-      record {
-        safe = λ e. clash cc;
-        none-held-back = λ low less row e s. absurd (n low less);
-      }
+      record { safe = λ e. clash cc; none-held-back = λ low less row e s. absurd (n low less) }
 
   pub stays-released : {r : Bool} → 100 ≤ fault → fault ≤ c .fault → Released c r → StaysReleased c fault r
   stays-released low less h =

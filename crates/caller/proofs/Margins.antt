@@ -2,18 +2,10 @@
 use Prim.Native.Nat.{ℕ}
 use mathlib.Core.Path.{_≡_, refl, sym, _∙_}
 use Rattle.text.proofs.Clash.{clash}
-use Rattle.case.specs.declared.Case.{Case}
-use Rattle.case.proofs.Bounds.{record-bounds}
-use Rattle.row.specs.declared.Row.{Row}
-use Rattle.row.specs.Row.{numbers}
-use Rattle.margin.specs.declared.Compared.{Compared}
-use Rattle.margin.specs.declared.Compared.the-variants.{None}
-use Rattle.margin.specs.Margin.{marginsOf}
-use Rattle.margin.proofs.Right.{right-margins}
-use Rattle.hocsimbur.specs.declared.RowAnswer.{RowAnswer}
-use Rattle.hocsimbur.specs.declared.RowAnswer.the-variants.{Is, Refused}
-use Rattle.hocsimbur.specs.Asked.{RowAnswered}
-use Rattle.hocsimbur.proofs.Answers.{row-sound}
+use Rattle.case.{specs.declared.Case.{Case}, proofs.Bounds.{record-bounds}}
+use Rattle.row.specs.{declared.Row.{Row}, Row.{numbers}}
+use Rattle.margin.{specs.{declared.Compared.{Compared, the-variants.{None}}, Margin.{marginsOf}}, proofs.Right.{right-margins}}
+use Rattle.hocsimbur.{specs.{declared.RowAnswer.{RowAnswer, the-variants.{Is, Refused}}, Asked.{RowAnswered}}, proofs.Answers.{row-sound}}
 use Rattle.caller.specs.Margins.{MarginsTold}
 
 module _ {c : Case} {a : RowAnswer} (h : RowAnswered c a) where

@@ -1,27 +1,16 @@
 -- A right row that is safe is so of the exact values; what is no safe row is not released.
 use Prim.Native.Nat.{ℕ}
-use mathlib.Core.Path.{_≡_, refl, sym, _∙_}
-use mathlib.Core.Bool.{true, false}
+use mathlib.Core.{Path.{_≡_, refl, sym, _∙_}, Bool.{true, false}}
 use Rattle.text.proofs.Clash.{clash}
 use Rattle.case.specs.declared.Case.{Case}
-use Rattle.row.specs.declared.Row.{Row}
-use Rattle.row.specs.declared.Verdict.{Verdict}
-use Rattle.row.specs.declared.Verdict.the-variants.{Safe, Unsafe, Undecided}
-use Rattle.row.specs.Row.{RightRow}
-use Rattle.hocsimbur.specs.declared.RowAnswer.{RowAnswer}
-use Rattle.hocsimbur.specs.declared.RowAnswer.the-variants.{Is, Refused}
-use Rattle.hocsimbur.specs.Asked.{RightAnswer, rowAnswer, RowAnswered}
+use Rattle.row.specs.{declared.{Row.{Row}, Verdict.{Verdict, the-variants.{Safe, Unsafe, Undecided}}}, Row.{RightRow}}
+use Rattle.hocsimbur.specs.{declared.RowAnswer.{RowAnswer, the-variants.{Is, Refused}}, Asked.{RightAnswer, rowAnswer, RowAnswered}}
 use Rattle.caller.specs.Release.{Released}
 
 -- not released, where no row of the answer is safe
 held : (c : Case) → ((row : Row) → rowAnswer c ≡ Is row → row .verdict ≡ Safe → ⊥) → Released c false
 held c none =
-    record {
-      safe = λ e. clash cc;
-      touch = λ e. clash cc;
-      step = λ e. clash cc;
-      none-held-back = λ row e s. absurd (none row e s);
-    }
+    record { safe = λ e. clash cc; touch = λ e. clash cc; step = λ e. clash cc; none-held-back = λ row e s. absurd (none row e s) }
 
 module _ {c : Case} {r : RowAnswer} (a : RowAnswered c r) where
   pub refused-held : {number line column : ℕ} → r ≡ Refused number line column → Released c false

@@ -1,15 +1,10 @@
 -- A released yard with the fault current of a later study. Request (n) of document 02: "Planners ask whether a later fault study can upset
 -- a released design."
 use Prim.Native.Nat.{ℕ, _≤_}
-use mathlib.Core.Path.{_≡_}
-use mathlib.Core.Bool.{Bool, true}
-use Rattle.case.specs.declared.Case.{Case}
-use Rattle.case.specs.Fault.{withFault}
-use Rattle.row.specs.declared.Row.{Row}
-use Rattle.row.specs.declared.Verdict.the-variants.{Safe}
-use Rattle.hocsimbur.specs.declared.RowAnswer.{RowAnswer}
-use Rattle.hocsimbur.specs.declared.RowAnswer.the-variants.{Is}
-use Rattle.hocsimbur.specs.Asked.{rowAnswer, RowAnswered, AnsweredWith}
+use mathlib.Core.{Path.{_≡_}, Bool.{Bool, true}}
+use Rattle.case.specs.{declared.Case.{Case}, Fault.{withFault}}
+use Rattle.row.specs.declared.{Row.{Row}, Verdict.the-variants.{Safe}}
+use Rattle.hocsimbur.specs.{declared.RowAnswer.{RowAnswer, the-variants.{Is}}, Asked.{rowAnswer, RowAnswered, AnsweredWith}}
 
 -- what stays released is answered safe with that current, and no yard answered safe is held back where the current is less
 pub record StaysReleased (c : Case) (fault : ℕ) (r : Bool) : Type 0 where

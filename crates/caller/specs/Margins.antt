@@ -3,11 +3,8 @@ use Prim.Native.Nat.{ℕ}
 use mathlib.Core.Path.{_≡_}
 use Rattle.case.specs.declared.Case.{Case}
 use Rattle.row.specs.declared.Row.{Row}
-use Rattle.margin.specs.declared.Compared.{Compared}
-use Rattle.margin.specs.declared.Compared.the-variants.{None}
-use Rattle.margin.specs.Meaning.{Right}
-use Rattle.hocsimbur.specs.declared.RowAnswer.the-variants.{Is, Refused}
-use Rattle.hocsimbur.specs.Asked.{rowAnswer}
+use Rattle.margin.specs.{declared.Compared.{Compared, the-variants.{None}}, Meaning.{Right}}
+use Rattle.hocsimbur.specs.{declared.RowAnswer.the-variants.{Is, Refused}, Asked.{rowAnswer}}
 
 -- right of the exact values where the case has a row, and none where it is refused
 pub record MarginsTold (c : Case) (r : Compared) : Type 0 where

@@ -1,15 +1,12 @@
 -- A yard that may be released is answered safe and safe of its exact voltages, and no yard answered safe is held back.
-use mathlib.Core.Path.{_≡_}
-use mathlib.Core.Bool.{Bool, true}
+use mathlib.Core.{Path.{_≡_}, Bool.{Bool, true}}
 use Rattle.exact.specs.Exact.{AtOrBelow}
 use Rattle.case.specs.declared.Case.{Case}
 use Rattle.formulas.specs.Mesh as Mesh
 use Rattle.formulas.specs.Step as Step
 use Rattle.formulas.specs.Tolerable.{tolerableTouch, tolerableStep}
-use Rattle.row.specs.declared.Row.{Row}
-use Rattle.row.specs.declared.Verdict.the-variants.{Safe}
-use Rattle.hocsimbur.specs.declared.RowAnswer.the-variants.{Is}
-use Rattle.hocsimbur.specs.Asked.{rowAnswer, AnsweredWith}
+use Rattle.row.specs.declared.{Row.{Row}, Verdict.the-variants.{Safe}}
+use Rattle.hocsimbur.specs.{declared.RowAnswer.the-variants.{Is}, Asked.{rowAnswer, AnsweredWith}}
 
 pub record Released (c : Case) (r : Bool) : Type 0 where
   pub safe : r ≡ true → AnsweredWith Safe (rowAnswer c)

@@ -1,26 +1,18 @@
 -- The text of a sheet that is carried over: it fits, and it is what the conversion leaves in a buffer with room for the longest text.
 use Prim.Native.Nat.{ℕ, _≤_}
-use mathlib.Core.Path.{_≡_, refl, sym, _∙_}
-use mathlib.Core.List.{List, _++_}
+use mathlib.Core.{Path.{_≡_, refl, sym, _∙_}, List.{List, _++_}}
 use native.Mathlib.Omega.{arith}
 use lib.ListN.{length, drop}
 use borrow.Author.Tests.{le-ltb}
-use Rattle.case.specs.declared.Form.{Form}
-use Rattle.case.specs.Parts.{formOf}
-use Rattle.judgement.specs.declared.Judgement.{Judgement}
-use Rattle.judgement.specs.declared.Judgement.the-variants.{Lines, Refused}
-use Rattle.judgement.specs.Limits.{mostBytes}
-use Rattle.judgement.specs.Sheet.{judgement}
+use Rattle.case.specs.{declared.Form.{Form}, Parts.{formOf}}
+use Rattle.judgement.specs.{declared.Judgement.{Judgement, the-variants.{Lines, Refused}}, Limits.{mostBytes}, Sheet.{judgement}}
 use Rattle.writing.specs.Put.{Put}
-use Rattle.conversion.specs.declared.Carried.{Carried}
-use Rattle.conversion.specs.declared.Carried.the-variants as carried
-use Rattle.conversion.specs.Values.{other}
-use Rattle.conversion.specs.Sheet.{casesIn}
+use Rattle.conversion.specs.{declared.Carried.{Carried}, Values.{other}, Sheet.{casesIn}}
 use Rattle.conversion.specs.Answer.{changes, carriedText, roomAnswer, refusedOr, answer, bufferAfter, Answered}
 use Rattle.conversion.proofs.RoundTrip.{carried-short}
-use Rattle.fields.specs.Refusal.{refusedText, unlessRefused}
+use Rattle.conversion.specs.declared.Carried.the-variants as carried
+use Rattle.fields.{specs.Refusal.{refusedText, unlessRefused}, proofs.Refusals.{answer-fits}}
 use Rattle.carry_text.specs.Carried.{carryText}
-use Rattle.fields.proofs.Refusals.{answer-fits}
 
 module _ (form : Form) (s : List ℕ) where
   abbrev source : Judgement

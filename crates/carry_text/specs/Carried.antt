@@ -3,12 +3,9 @@
 -- column 0".
 use Prim.Native.Nat.{ℕ}
 use mathlib.Core.List.{List}
-use Rattle.case.specs.declared.Form.{Form}
-use Rattle.case.specs.Parts.{formOf}
+use Rattle.case.specs.{declared.Form.{Form}, Parts.{formOf}}
 use Rattle.judgement.specs.Sheet.{judgement}
-use Rattle.conversion.specs.Values.{other}
-use Rattle.conversion.specs.Sheet.{casesIn}
-use Rattle.conversion.specs.Answer.{changes, carriedText}
+use Rattle.conversion.specs.{Values.{other}, Sheet.{casesIn}, Answer.{changes, carriedText}}
 use Rattle.fields.specs.Refusal.{unlessRefused}
 
 unfoldable pub carryText : Form → List ℕ → List ℕ

@@ -1,18 +1,11 @@
 -- A case without disagreement: layer and thick are both 0 or both not 0, and so are rods, rodlen and place.
 use Prim.Native.Nat.{ℕ, zero, suc, _≤_}
-use mathlib.Core.Path.{_≡_, refl, sym, _∙_}
-use mathlib.Core.Bool.{Bool, true, false, cond, _&&_, false≢true}
-use mathlib.Core.Logic.{_⊎_, inl, inr}
-use mathlib.Core.List.{List}
+use mathlib.Core.{Path.{_≡_, refl, sym, _∙_}, Bool.{Bool, true, false, cond, _&&_, false≢true}, Logic.{_⊎_, inl, inr}, List.{List}}
 use native.Mathlib.Omega.{arith}
 use lib.Dec.{eqb·suc-zero}
-use Rattle.text.proofs.Clash.{clash}
-use Rattle.case.specs.declared.Case.{Case}
-use Rattle.case.specs.declared.Finding.the-variants.{Sound, Disagreement}
-use Rattle.text.specs.Text.{same}
-use Rattle.case.specs.Columns.{columns, nameIndex, named}
-use Rattle.case.specs.Case.{values}
-use Rattle.case.specs.Check.{agree, disagreement}
+use Rattle.text.{specs.Text.{same}, proofs.Clash.{clash}}
+use Rattle.case.specs.{declared.{Case.{Case}, Finding.the-variants.{Sound, Disagreement}}, Columns.{columns, nameIndex, named}}
+use Rattle.case.specs.{Case.{values}, Check.{agree, disagreement}}
 
 -- both 0 or both not 0
 abbrev pub Agree : ℕ → ℕ → Type 0
@@ -45,8 +38,7 @@ agreements at c h =
   where
     go : (p : Bool) → agree (c .layer) (c .thick) ≡ p → (q : Bool) → agree (c .rods) (c .rodlen) ≡ q
         → (r : Bool) → agree (c .rods) (c .place) ≡ r
-        → cond p (cond (q && r) Sound (Disagreement (named columns at "rods"))) (Disagreement (named columns at "layer")) ≡ Sound
-        → Agreed c
+        → cond p (cond (q && r) Sound (Disagreement (named columns at "rods"))) (Disagreement (named columns at "layer")) ≡ Sound → Agreed c
     go true e true f true g k =
         record { layer = agreed (c .layer) (c .thick) e; rodlen = agreed (c .rods) (c .rodlen) f; place = agreed (c .rods) (c .place) g }
     go true e true f false g k = clash cc

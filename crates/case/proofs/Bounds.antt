@@ -1,28 +1,16 @@
 -- A case in which the checks find no fault is within its bounds.
-use Prim.Native.Nat.{ℕ, zero, suc, _+_, _≤_, _<_}
-use Prim.Native.String.{String}
-use mathlib.Core.Path.{_≡_, refl, ap}
-use mathlib.Core.Bool.{Bool, true, false, cond, _&&_, _||_}
-use mathlib.Core.Logic.{_⊎_, inl, inr, ⊎-elim}
-use mathlib.Core.List.{List}
+use Prim.Native.{Nat.{ℕ, zero, suc, _+_, _≤_, _<_}, String.{String}}
+use mathlib.Core.{Path.{_≡_, refl, ap}, Bool.{Bool, true, false, cond, _&&_, _||_}, Logic.{_⊎_, inl, inr, ⊎-elim}, List.{List}}
 use native.Mathlib.Omega.{arith}
-use lib.ListN.{length, getD}
-use lib.Dec.{T, leb, eqb, leb→le, eqb→eq}
+use lib.{ListN.{length, getD}, Dec.{T, leb, eqb, leb→le, eqb→eq}}
 use mir.Facts.{and-yes, or-yes}
-use Rattle.text.proofs.Clash.{clash}
-use Rattle.case.specs.declared.Case.{Case}
-use Rattle.case.specs.declared.Finding.{Finding}
-use Rattle.case.specs.declared.Finding.the-variants.{Sound, OutOfRange, Disagreement}
-use Rattle.text.specs.Text.{bytes, same}
-use Rattle.case.specs.Columns.{columns, inRange, nameIndex, named}
-use Rattle.case.specs.Case.{values}
+use Rattle.text.{specs.Text.{bytes, same}, proofs.Clash.{clash}}
+use Rattle.case.specs.declared.{Case.{Case}, Finding.{Finding, the-variants.{Sound, OutOfRange, Disagreement}}}
+use Rattle.case.specs.{Columns.{columns, inRange, nameIndex, named}, Case.{values}}
 use Rattle.case.specs.Check.{outOfRange, disagreement, finding, caseFinding, countFrom, ownPlaces, recordFinding, judgedBy}
-use Rattle.case.specs.Check.{recordJudged}
+use Rattle.case.specs.{Check.{recordJudged}, Parts.{rangeAt}, Bounds.{Placed, Between, Bare, Layered, Rodless, Rodded, Bounds}}
 use Rattle.case.specs.declared.Judged.the-variants as judged
-use Rattle.case.specs.Parts.{rangeAt}
-use Rattle.case.specs.Bounds.{Placed, Between, Bare, Layered, Rodless, Rodded, Bounds}
-use Rattle.case.proofs.Ranges.{InRange, in-range, in-range-at, some-columns}
-use Rattle.case.proofs.Agreement.{Agree, Agreed, agreements}
+use Rattle.case.proofs.{Ranges.{InRange, in-range, in-range-at, some-columns}, Agreement.{Agree, Agreed, agreements}}
 
 -- ---- the two tests of a sound case
 

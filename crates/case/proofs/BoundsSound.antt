@@ -1,22 +1,15 @@
 -- A case within its bounds is one in which the checks of a record find no fault: the converse of `record-bounds`.
 use Prim.Native.Nat.{ℕ, zero, suc, _≤_}
-use mathlib.Core.Path.{_≡_, refl, _∙_}
-use mathlib.Core.Bool.{true, _&&_, _||_}
-use mathlib.Core.Logic.{_⊎_, inl, inr}
+use mathlib.Core.{Path.{_≡_, refl, _∙_}, Bool.{true, _&&_, _||_}, Logic.{_⊎_, inl, inr}}
 use native.Mathlib.Omega.{arith}
 use lib.Dec.{T, leb, eqb, le→leb, eqb·suc-zero}
 use borrow.Author.Tests.{eq-eqb}
 use mir.Facts.{yes-and}
-use Rattle.case.specs.declared.Case.{Case}
-use Rattle.case.specs.declared.Finding.the-variants as found
-use Rattle.case.specs.declared.Judged.the-variants.{Sound}
-use Rattle.case.specs.Columns.{columns, inRange}
-use Rattle.case.specs.Case.{values}
+use Rattle.case.specs.{declared.{Case.{Case}, Judged.the-variants.{Sound}}, Columns.{columns, inRange}, Case.{values}}
 use Rattle.case.specs.Check.{outOfRange, agree, disagreement, finding, caseFinding, ownPlaces, recordFinding, judgedBy, recordJudged}
 use Rattle.case.specs.Bounds.{Between, Bare, Layered, Rodless, Rodded, Bounds}
-use Rattle.case.proofs.Tests.{passed, or-right, _then_}
-use Rattle.case.proofs.Ranges.{InRange, in-range-at}
-use Rattle.case.proofs.RangeNumbers.{in-ranges}
+use Rattle.case.specs.declared.Finding.the-variants as found
+use Rattle.case.proofs.{Tests.{passed, or-right, _then_}, Ranges.{InRange, in-range-at}, RangeNumbers.{in-ranges}}
 use Rattle.case.proofs.Agreement.{disagreement-is}
 
 -- ---- the three kinds of range

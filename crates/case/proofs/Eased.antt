@@ -1,11 +1,7 @@
 -- A case with another fault current, split, shock time and body, under another key, is within its bounds where these are in their ranges.
 use Prim.Native.Nat.{ℕ}
-use mathlib.Core.Path.{_≡_}
-use mathlib.Core.Logic.{_⊎_, inl, inr}
-use Rattle.case.specs.declared.Case.{Case}
-use Rattle.case.specs.Key.{underKey}
-use Rattle.case.specs.Eased.{eased}
-use Rattle.case.specs.Bounds.{Between, Bare, Layered, Rodless, Rodded, Bounds}
+use mathlib.Core.{Path.{_≡_}, Logic.{_⊎_, inl, inr}}
+use Rattle.case.specs.{declared.Case.{Case}, Key.{underKey}, Eased.{eased}, Bounds.{Between, Bare, Layered, Rodless, Rodded, Bounds}}
 
 module _ (c : Case) (station season fault split shock body : ℕ) where
   abbrev other : Case
@@ -20,8 +16,7 @@ module _ (c : Case) (station season fault split shock body : ℕ) where
   rodded (inr l) = inr (record { rods = l .rods; rodlen = l .rodlen; place = l .place })
 
   pub eased-bounds : Bounds c → Between 1 station 65535 → Between 1 season 4 → Between 100 fault 80000 → Between 1 split 1000
-      → Between 9 shock 3000
-      → (body ≡ 50) ⊎ (body ≡ 70) → Bounds other
+      → Between 9 shock 3000 → (body ≡ 50) ⊎ (body ≡ 70) → Bounds other
   eased-bounds b k s f p t w =
       record {
         station = k;

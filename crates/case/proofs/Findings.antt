@@ -1,18 +1,14 @@
 -- The finding of a form's values by what its parts find.
 use Prim.Native.Nat.{ℕ, _+_, _≤_}
-use mathlib.Core.Path.{_≡_, refl, sym, _∙_}
-use mathlib.Core.Bool.{true, false, cond, _&&_}
-use mathlib.Core.List.{List}
+use mathlib.Core.{Path.{_≡_, refl, sym, _∙_}, Bool.{true, false, cond, _&&_}, List.{List}}
 use native.Mathlib.Omega.{arith}
 use lib.ListN.{length, getD}
 use borrow.Author.Tests.{eq-eqb, ne-eqb}
 use Rattle.text.specs.Text.{same}
-use Rattle.case.specs.declared.Form.{Form as CodeForm}
-use Rattle.case.specs.declared.Form.the-variants.{Present, Former}
+use Rattle.case.specs.declared.Form.{Form as CodeForm, the-variants.{Present, Former}}
 use Rattle.case.specs.declared.Finding.the-variants.{Sound, OutOfRange, Disagreement}
 use Rattle.case.specs.Columns.{Form, columns, formerColumns, nameCount, name-count, former-name-count, nameIndex, named}
-use Rattle.case.specs.Check.{outOfRange, agree, disagreement, finding}
-use Rattle.case.specs.Parts.{formOf, rodsPlace, RodsPlace}
+use Rattle.case.specs.{Check.{outOfRange, agree, disagreement, finding}, Parts.{formOf, rodsPlace, RodsPlace}}
 
 -- the places that must agree are within each form
 pub rods-place : (form : CodeForm) → RodsPlace form (rodsPlace form)

@@ -1,15 +1,9 @@
 -- The search for the leftmost column out of range, from the last name of a form to the first: what holds when the names from k on are done.
 use Prim.Native.Nat.{ℕ, zero, suc, _-_, _≤_, _<_}
-use mathlib.Core.Path.{_≡_}
-use mathlib.Core.Bool.{Bool, cond}
-use mathlib.Core.List.{List}
-use native.Mathlib.Numerals.{sub-one}
-use native.Mathlib.Omega.{arith}
-use lib.ListN.{length, getD, drop, drop-of-length-le}
-use lib.Seq.{drop-cons}
-use Rattle.case.specs.Columns.{Form, inRange}
-use Rattle.case.specs.Check.{leftOf, outOfRange}
-use Rattle.case.specs.Parts.{rangeAt, noColumn}
+use mathlib.Core.{Path.{_≡_}, Bool.{Bool, cond}, List.{List}}
+use native.Mathlib.{Numerals.{sub-one}, Omega.{arith}}
+use lib.{ListN.{length, getD, drop, drop-of-length-le}, Seq.{drop-cons}}
+use Rattle.case.specs.{Columns.{Form, inRange}, Check.{leftOf, outOfRange}, Parts.{rangeAt, noColumn}}
 
 pub record Leftmost (form : Form) (at v : List ℕ) (c k : ℕ) : Type 0 where
   pub columns-all : length at ≡ length form

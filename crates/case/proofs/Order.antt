@@ -1,7 +1,6 @@
 -- Columns with their names in order have each a name of its own.
 use Prim.Native.Nat.{ℕ}
-use mathlib.Core.Path.{sym, ap, _∙_}
-use mathlib.Core.List.{List}
+use mathlib.Core.{Path.{sym, ap, _∙_}, List.{List}}
 use native.Mathlib.Omega.{arith}
 use lib.ListN.{getD}
 use Rattle.case.specs.Order.{Distinct, Ordered}

@@ -1,16 +1,12 @@
 -- The places of a form's columns among those of both forms: what one test over the whole table says of each place.
 use Prim.Native.Nat.{ℕ, zero, suc, _<_}
-use mathlib.Core.Path.{_≡_, refl, ap}
-use mathlib.Core.Bool.{Bool, true, _&&_}
-use mathlib.Core.List.{List, [], _∷_, map}
+use mathlib.Core.{Path.{_≡_, refl, ap}, Bool.{Bool, true, _&&_}, List.{List, [], _∷_, map}}
 use native.Mathlib.Omega.{arith}
-use lib.Dec.{T, ltb, ltb→lt}
-use lib.ListN.{length, getD, List·getD-append}
+use lib.{Dec.{T, ltb, ltb→lt}, ListN.{length, getD, List·getD-append}}
 use mir.Facts.{and-yes}
 use Rattle.text.proofs.Clash.{clash}
 use Rattle.case.specs.Columns.{Column, Form, columns, nameCount, name-count, formerColumns, allColumns, allCount}
-use Rattle.case.specs.Parts.{noColumn, rangeAt, formOf, SameColumn}
-use Rattle.case.specs.declared.Form.the-variants.{Present, Former}
+use Rattle.case.specs.{Parts.{noColumn, rangeAt, formOf, SameColumn}, declared.Form.the-variants.{Present, Former}}
 
 -- every place is below a count
 allBelow : ℕ → List ℕ → Bool

@@ -1,18 +1,12 @@
 -- The ranges as three numbers each: a value between the first two, or the third, is in the range.
 use Prim.Native.Nat.{ℕ, zero, suc, _+_, _≤_, _<_}
-use mathlib.Core.Path.{_≡_, refl, sym, _∙_}
-use mathlib.Core.Bool.{Bool, true, false, _&&_, _||_, or-comm}
-use mathlib.Core.List.{List, [], _∷_}
-use native.Mathlib.Decide.{ℕ-discrete, decLt}
-use native.Mathlib.Omega.{arith}
-use lib.ListN.{length, getD}
-use lib.Dec.{leb, eqb}
+use mathlib.Core.{Path.{_≡_, refl, sym, _∙_}, Bool.{Bool, true, false, _&&_, _||_, or-comm}, List.{List, [], _∷_}}
+use native.Mathlib.{Decide.{ℕ-discrete, decLt}, Omega.{arith}}
+use lib.{ListN.{length, getD}, Dec.{leb, eqb}}
 use borrow.Author.Tests.{eq-eqb, ne-eqb, le-leb, lt-leb}
 use Rattle.text.proofs.Clash.{clash}
-use Rattle.case.specs.Columns.{Range, from, zeroOr, either, inRange, Form, columns, nameCount, name-count}
-use Rattle.case.specs.Columns.{allColumns, allCount, all-count}
-use Rattle.case.specs.Check.{outOfRange}
-use Rattle.case.specs.Parts.{rangeAt, lowOf, highOf, otherOf, passes, InRanges}
+use Rattle.case.specs.Columns.{Range, from, zeroOr, either, inRange, Form, columns, nameCount, name-count, allColumns, allCount}
+use Rattle.case.specs.{Columns.{all-count}, Check.{outOfRange}, Parts.{rangeAt, lowOf, highOf, otherOf, passes, InRanges}}
 use Rattle.case.proofs.Places.{first-range}
 
 or-false : (a : Bool) → (a || false) ≡ a

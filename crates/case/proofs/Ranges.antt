@@ -1,15 +1,10 @@
 -- Where no column is at fault, every value is in its range.
 use Prim.Native.Nat.{ℕ, zero, suc, _≤_, _<_}
-use mathlib.Core.Path.{_≡_, refl}
-use mathlib.Core.Bool.{Bool, true, false, cond}
-use mathlib.Core.List.{List, [], _∷_}
+use mathlib.Core.{Path.{_≡_, refl}, Bool.{Bool, true, false, cond}, List.{List, [], _∷_}}
 use native.Mathlib.Omega.{arith}
-use lib.ListN.{length, getD}
-use lib.Dec.{T, leb, eqb}
+use lib.{ListN.{length, getD}, Dec.{T, leb, eqb}}
 use Rattle.text.proofs.Clash.{clash}
-use Rattle.case.specs.Columns.{Form, inRange}
-use Rattle.case.specs.Check.{leftOf, outOfRange}
-use Rattle.case.specs.Parts.{rangeAt}
+use Rattle.case.specs.{Columns.{Form, inRange}, Check.{leftOf, outOfRange}, Parts.{rangeAt}}
 
 -- every value of the list passes the test of its column
 abbrev pub InRange : Form → List ℕ → Type 0

@@ -1,6 +1,5 @@
 -- Tests joined by 'or', a test as an equation, and proofs joined to a product.
-use mathlib.Core.Path.{_≡_, refl}
-use mathlib.Core.Bool.{Bool, true, false, _||_}
+use mathlib.Core.{Path.{_≡_, refl}, Bool.{Bool, true, false, _||_}}
 use lib.Dec.{T}
 
 pub or-left : (a b : Bool) → T a → T (a || b)

@@ -1,8 +1,6 @@
 -- What the checks leave of a sound case: consequences of the table of names, proved in proofs/Bounds.antt.
 use Prim.Native.Nat.{ℕ, _≤_, _<_}
-use mathlib.Core.Path.{_≡_}
-use mathlib.Core.Logic.{_⊎_}
-use mathlib.Core.List.{List}
+use mathlib.Core.{Path.{_≡_}, Logic.{_⊎_}, List.{List}}
 use lib.ListN.{length, getD}
 use Rattle.case.specs.declared.Case.{Case}
 

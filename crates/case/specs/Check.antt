@@ -1,16 +1,10 @@
 -- The checks of the values of a form, and of one case: refusals 5 and 6. Document 01, 'The sheet' and 'The result table'.
 use Prim.Native.Nat.{ℕ, zero, suc}
-use mathlib.Core.Bool.{Bool, cond, not, _&&_}
-use mathlib.Core.List.{List, [], _∷_}
-use lib.ListN.{length}
-use lib.Dec.{leb, eqb}
-use Rattle.case.specs.declared.Case.{Case}
-use Rattle.case.specs.declared.Finding.{Finding}
-use Rattle.case.specs.declared.Finding.the-variants.{Sound, OutOfRange, Disagreement}
-use Rattle.case.specs.declared.Judged.{Judged}
+use mathlib.Core.{Bool.{Bool, cond, not, _&&_}, List.{List, [], _∷_}}
+use lib.{ListN.{length}, Dec.{leb, eqb}}
+use Rattle.case.specs.declared.{Case.{Case}, Finding.{Finding, the-variants.{Sound, OutOfRange, Disagreement}}, Judged.{Judged}}
+use Rattle.case.specs.{Columns.{Form, columns, inRange, named}, Case.{values}}
 use Rattle.case.specs.declared.Judged.the-variants as judged
-use Rattle.case.specs.Columns.{Form, columns, inRange, named}
-use Rattle.case.specs.Case.{values}
 
 -- Below, `at` lists for each name of a form the column, from 1, in which it stands, and `v` the values in the form's order.
 

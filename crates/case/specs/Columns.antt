@@ -1,11 +1,7 @@
 -- The table of names. Document 01, 'The sheet'.
-use Prim.Native.Nat.{ℕ, zero, suc, _+_}
-use Prim.Native.String.{String}
-use mathlib.Core.Bool.{Bool, cond, _&&_, _||_}
-use mathlib.Core.Path.{_≡_, refl}
-use mathlib.Core.List.{List, [], _∷_, _++_}
-use lib.ListN.{length, getD}
-use lib.Dec.{leb, eqb}
+use Prim.Native.{Nat.{ℕ, zero, suc, _+_}, String.{String}}
+use mathlib.Core.{Bool.{Bool, cond, _&&_, _||_}, Path.{_≡_, refl}, List.{List, [], _∷_, _++_}}
+use lib.{ListN.{length, getD}, Dec.{leb, eqb}}
 use Rattle.text.specs.Text.{bytes, same}
 
 -- the three kinds of range: "1..4", "0 or 20..300", "50 or 70"

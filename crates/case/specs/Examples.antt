@@ -1,12 +1,9 @@
 -- The checks of a record computed on examples.
 use Prim.Native.Nat.{ℕ}
-use mathlib.Core.Path.{_≡_, refl}
-use mathlib.Core.List.{List, [], _∷_, map}
+use mathlib.Core.{Path.{_≡_, refl}, List.{List, [], _∷_, map}}
 use Rattle.text.specs.Text.{same}
-use Rattle.case.specs.declared.Finding.{Finding}
-use Rattle.case.specs.declared.Finding.the-variants.{Sound, OutOfRange, Disagreement}
-use Rattle.case.specs.Columns.{columns, inRange, nameIndex, named}
-use Rattle.case.specs.Case.{caseOf}
+use Rattle.case.specs.declared.Finding.{Finding, the-variants.{Sound, OutOfRange, Disagreement}}
+use Rattle.case.specs.{Columns.{columns, inRange, nameIndex, named}, Case.{caseOf}}
 use Rattle.case.specs.Check.{leftOf, outOfRange, agree, disagreement, finding, caseFinding, countFrom, ownPlaces, recordFinding}
 
 -- the finding of the record of some values

@@ -1,7 +1,6 @@
 -- The names of the columns of a header, by their indices: the other way round from the columns of the names.
 use Prim.Native.Nat.{ℕ, _+_, _-_, _<_}
-use mathlib.Core.Path.{_≡_}
-use mathlib.Core.List.{List}
+use mathlib.Core.{Path.{_≡_}, List.{List}}
 use lib.ListN.{length, getD}
 
 -- each of n columns has a name of its own

@@ -1,14 +1,9 @@
 -- What the parts of the checks promise, by the table of names.
 use Prim.Native.Nat.{ℕ, _+_, _≤_, _<_}
-use mathlib.Core.Path.{_≡_}
-use mathlib.Core.Bool.{Bool, true, _&&_, _||_}
-use mathlib.Core.List.{List, []}
-use lib.Dec.{leb, eqb}
-use lib.ListN.{length, getD}
-use Rattle.case.specs.Columns.{Range, from, zeroOr, either, inRange, Column, Form, columns, nameCount, formerColumns}
-use Rattle.case.specs.Columns.{allColumns, allCount}
-use Rattle.case.specs.declared.Form.{Form as CodeForm}
-use Rattle.case.specs.declared.Form.the-variants.{Present, Former}
+use mathlib.Core.{Path.{_≡_}, Bool.{Bool, true, _&&_, _||_}, List.{List, []}}
+use lib.{Dec.{leb, eqb}, ListN.{length, getD}}
+use Rattle.case.specs.Columns.{Range, from, zeroOr, either, inRange, Column, Form, columns, nameCount, formerColumns, allColumns}
+use Rattle.case.specs.{Columns.{allCount}, declared.Form.{Form as CodeForm, the-variants.{Present, Former}}}
 
 -- past the table's end
 abbrev pub noColumn : Column

@@ -2,10 +2,7 @@
 use Prim.Native.Nat.{ℕ, _+_, _*_, _^_, _≤_, _<_}
 use mathlib.Core.List.{List, [], _∷_}
 use native.Mathlib.Omega.{arith}
-use Rattle.interval.specs.Operations.{natural}
-use Rattle.interval.specs.Span.{Span}
-use Rattle.interval.proofs.Span.{span-natural}
-use Rattle.interval.proofs.Rules.{Rule, _≼_, Kept}
+use Rattle.interval.{specs.{Operations.{natural}, Span.{Span}}, proofs.{Span.{span-natural}, Rules.{Rule, _≼_, Kept}}}
 use Rattle.case.specs.Bounds.{Between}
 use Rattle.conductors.specs.Weights.{roots, rootOf}
 use Rattle.conductors.proofs.Rules.{at-count}

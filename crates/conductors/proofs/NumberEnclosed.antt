@@ -1,43 +1,24 @@
 -- The ends of n and Ki include the exact values' ends. The spacing D stands in Lp and in √area and cancels in their quotient.
 use Prim.Native.Nat.{ℕ, _+_, _*_, _/_, _^_, _≤_, _<_}
 use mathlib.Core.Path.{_≡_, refl, ap}
-use native.Mathlib.Omega.{arith}
-use native.Mathlib.Nat.{mul-div-mul-left, mul-le-mul-right, mul-lt-mul-of-pos-right, mul-pos as nat-pos}
-use Rattle.interval.specs.Root.{IsRoot}
-use Rattle.interval.proofs.Natural.{point-natural, natural-scaled, natural-outward, natural-quotient}
-use Rattle.interval.proofs.Choice.{pos≤}
+use native.Mathlib.{Omega.{arith}, Nat.{mul-div-mul-left, mul-le-mul-right, mul-lt-mul-of-pos-right, mul-pos as nat-pos}}
+use Rattle.interval.specs.{Root.{IsRoot}, Whole.{ceilDiv}, Operations.{natural, point, quotientOf}}
+use Rattle.interval.proofs.{Natural.{point-natural, natural-scaled, natural-outward, natural-quotient}, Choice.{pos≤}}
 use Rattle.interval.proofs.Rounding.{floorDiv-below, ceilDiv-above, ceilDiv-cancel}
-use Rattle.exact.proofs.Powers.{square}
-use lib.Dec.{eqb, lit≤, lit<}
-use lib.IntN.{pos}
-use Rattle.interval.specs.Whole.{ceilDiv}
-use Rattle.interval.specs.Operations.{natural, point, quotientOf}
-use Rattle.exact.specs.Fraction.{_≤f_, _<f_, _≈f_, whole, decimal, _+f_, _·f_, inv, _÷f_}
-use Rattle.exact.specs.Exact.{exactly, _·x_, _÷x_}
-use Rattle.exact.specs.Reported.{ten, over}
-use Rattle.exact.proofs.Order.{trans≤, refl≈, sym≈, trans≈, le-of-lt, whole-pos}
-use Rattle.exact.proofs.Products.{cong·}
-use Rattle.exact.proofs.Quotients.{clamped}
-use Rattle.exact.proofs.Divisors.{cong÷, expand}
-use Rattle.exact.proofs.Consistency.{consistent-exactly, consistent-product}
-use Rattle.exact.proofs.Reported.{decimal-over}
-use Rattle.enclosure.specs.Enclosure.{Encloses}
-use Rattle.enclosure.specs.SquareRoot.{squareRoot}
-use Rattle.enclosure.proofs.SquareRoot.{square-root}
-use Rattle.enclosure.proofs.Basics.{encloses-count, encloses-whole, encloses-decimal}
-use Rattle.enclosure.proofs.Sums.{encloses-sum, encloses-times}
-use Rattle.enclosure.proofs.Quotients.{encloses-quotient}
-use Rattle.enclosure.proofs.Roots.{encloses-root}
-use Rattle.case.specs.declared.Case.{Case}
-use Rattle.case.specs.Bounds.{Bounds}
+use Rattle.exact.specs.{Fraction.{_≤f_, _<f_, _≈f_, whole, decimal, _+f_, _·f_, inv, _÷f_}, Exact.{exactly, _·x_, _÷x_}}
+use Rattle.exact.{specs.Reported.{ten, over}, proofs.{Powers.{square}, Order.{trans≤, refl≈, sym≈, trans≈, le-of-lt, whole-pos}}}
+use Rattle.exact.proofs.{Products.{cong·}, Quotients.{clamped}, Divisors.{cong÷, expand}}
+use Rattle.exact.proofs.{Consistency.{consistent-exactly, consistent-product}, Reported.{decimal-over}}
+use lib.{Dec.{eqb, lit≤, lit<}, IntN.{pos}}
+use Rattle.enclosure.{specs.{Enclosure.{Encloses}, SquareRoot.{squareRoot}}, proofs.SquareRoot.{square-root}}
+use Rattle.enclosure.proofs.{Basics.{encloses-count, encloses-whole, encloses-decimal}, Sums.{encloses-sum, encloses-times}}
+use Rattle.enclosure.proofs.{Quotients.{encloses-quotient}, Roots.{encloses-root}, Multiples.{encloses-rounded, encloses-multiple}}
+use Rattle.case.specs.{declared.Case.{Case}, Bounds.{Bounds}}
 use Rattle.formulas.specs.Lengths.{D, Lx, Ly, Lc, Lp, area, √area, na, nb, n, Ki}
-use Rattle.formulas.proofs.Conductors.{by-both, quantity-√area, quantity-divisor, quantity-nb, quantity-n}
-use Rattle.formulas.proofs.Positive.{Lp-pos, na-pos}
-use Rattle.enclosure.proofs.Multiples.{encloses-rounded, encloses-multiple}
+use Rattle.formulas.proofs.{Conductors.{by-both, quantity-√area, quantity-divisor, quantity-nb, quantity-n}, Positive.{Lp-pos, na-pos}}
 use Rattle.conductors.specs.Counts.{Counts, spacings, halfPerimeter, meshes}
 use Rattle.conductors.specs.Number.{ratioLow, ratioHigh, meshRoot, nbEnds, productEnds, nEnds, KiEnds}
-use Rattle.conductors.proofs.Table.{roots-known}
-use Rattle.conductors.proofs.NumberSpans.{half-bounds, mesh-root-is}
+use Rattle.conductors.proofs.{Table.{roots-known}, NumberSpans.{half-bounds, mesh-root-is}}
 
 pub counts : {c : Case} → Bounds c → Counts (c .across) (c .along)
 counts b = record { across = b .across; along = b .along }

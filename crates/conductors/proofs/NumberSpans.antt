@@ -1,20 +1,14 @@
 -- Sizes and widths of n and Ki, from the test.
 use Prim.Native.Nat.{ℕ, _+_, _-_, _*_, _/_, _^_, _≤_, _<_}
-use mathlib.Core.Path.{_≡_}
-use mathlib.Core.Bool.{Bool, true, false, cond}
-use native.Mathlib.Omega.{arith}
-use native.Mathlib.Nat.{mul-le-mul}
-use lib.Dec.{eqb}
-use lib.IntN.{pos}
-use Rattle.interval.specs.Whole.{ceilDiv}
-use Rattle.interval.specs.Operations.{natural, point, scaledOf}
-use Rattle.interval.specs.Span.{Span}
+use mathlib.Core.{Path.{_≡_}, Bool.{Bool, true, false, cond}}
+use native.Mathlib.{Omega.{arith}, Nat.{mul-le-mul}}
+use lib.{Dec.{eqb}, IntN.{pos}}
+use Rattle.interval.specs.{Whole.{ceilDiv}, Operations.{natural, point, scaledOf}, Span.{Span}}
 use Rattle.interval.proofs.Natural.{point-natural, natural-sum, natural-scaled, natural-outward}
 use Rattle.interval.proofs.Span.{span-natural, span-wider, span-scaled}
 use Rattle.enclosure.proofs.SquareRoot.{square-root-is}
 use Rattle.case.specs.Bounds.{Between}
-use Rattle.conductors.specs.Counts.{Counts, spacings, halfPerimeter, meshes}
-use Rattle.conductors.specs.Number.{meshRoot, nbEnds, productEnds, nEnds, KiEnds}
+use Rattle.conductors.specs.{Counts.{Counts, spacings, halfPerimeter, meshes}, Number.{meshRoot, nbEnds, productEnds, nEnds, KiEnds}}
 use Rattle.conductors.proofs.Table.{rootAt, nbLow, nbHigh, nLow, nHigh, roots-known, number-known}
 
 less : {n : ℕ} → Between 2 n 25 → Between 1 (n - 1) 24

@@ -1,10 +1,7 @@
 -- Rules that a test computes, at every count from 2 to 25, and at every two counts.
 use Prim.Native.Nat.{ℕ, zero, suc, _+_, _-_, _<_}
-use mathlib.Core.Path.{_≡_}
-use mathlib.Core.Bool.{Bool, true, _&&_}
-use mathlib.Core.List.{List}
-use native.Mathlib.Omega.{arith}
-use native.Mathlib.Decide.{decLt}
+use mathlib.Core.{Path.{_≡_}, Bool.{Bool, true, _&&_}, List.{List}}
+use native.Mathlib.{Omega.{arith}, Decide.{decLt}}
 use lib.Dec.{T}
 use mir.Facts.{and-yes}
 use Rattle.interval.proofs.Rules.{Rule, kept, Kept, lits}

@@ -1,24 +1,15 @@
 -- What depends on the two counts alone, at all 576 pairs of counts: one computed test of n, Ki, ln(8/(π(2n−1))) and the exponent of the
 -- inner weight.
 use Prim.Native.Nat.{ℕ, zero, suc, _+_, _-_, _*_, _/_, _^_, min, _≤_, _<_}
-use mathlib.Core.Path.{_≡_}
-use mathlib.Core.Bool.{false, cond}
-use mathlib.Core.List.{List, [], _∷_}
-use native.Mathlib.Omega.{arith}
-use native.Mathlib.Decide.{decLe}
+use mathlib.Core.{Path.{_≡_}, Bool.{false, cond}, List.{List, [], _∷_}}
+use native.Mathlib.{Omega.{arith}, Decide.{decLe}}
 use lib.Dec.{eqb}
-use Rattle.interval.specs.Root.{IsRoot}
-use Rattle.interval.specs.Whole.{ceilDiv}
-use Rattle.interval.proofs.Rules.{Rule, _≼_, Kept}
-use Rattle.exact.specs.Fraction.{choose}
-use Rattle.exact.specs.Exponential.{leastFrom}
+use Rattle.interval.{specs.{Root.{IsRoot}, Whole.{ceilDiv}}, proofs.Rules.{Rule, _≼_, Kept}}
+use Rattle.exact.specs.{Fraction.{choose}, Exponential.{leastFrom}}
 use Rattle.enclosure.specs.Pi.{πBelow, πAbove}
-use Rattle.logarithm.specs.Series.{squareOf, powerOf, termOf, termsOf}
-use Rattle.logarithm.specs.Ends.{doublings, nearOf, endOf}
+use Rattle.logarithm.specs.{Series.{squareOf, powerOf, termOf, termsOf}, Ends.{doublings, nearOf, endOf}}
 use Rattle.logarithm.proofs.KnownHalvings.{lowBy, highBy}
-use Rattle.conductors.specs.Counts.{Counts, spacings, halfPerimeter, meshes}
-use Rattle.conductors.specs.Number.{ratioLow, ratioHigh}
-use Rattle.conductors.specs.Weights.{eight}
+use Rattle.conductors.specs.{Counts.{Counts, spacings, halfPerimeter, meshes}, Number.{ratioLow, ratioHigh}, Weights.{eight}}
 use Rattle.conductors.proofs.Rules.{at-counts}
 
 -- ---- what is computed
@@ -111,8 +102,7 @@ spreadRules p s q t e f =
 
 -- of 2n from p to q in 10^−7, with 10^7 2^m for each, of its logarithm from g to k, and of the exponent from e to f
 exponentRules : (p s q t g k e f : ℕ) → List Rule
-exponentRules p s q t g k e f =
-    isHalved p s (isHalved q t ((g ≼ k) ∷ (65536 ≼ e) ∷ (e ≼ f) ∷ (f ≼ e + 95) ∷ (f ≼ 1400000000) ∷ []))
+exponentRules p s q t g k e f = isHalved p s (isHalved q t ((g ≼ k) ∷ (65536 ≼ e) ∷ (e ≼ f) ∷ (f ≼ e + 95) ∷ (f ≼ 1400000000) ∷ []))
 
 -- ---- at each two counts
 
@@ -219,14 +209,7 @@ module _ {a b : ℕ} (h : Counts a b) where
   unfolding numberRulesAt numberRules
   number-known =
       let k = kept-number .at in
-      record {
-        least = k 0;
-        order = k 1;
-        near = k 2;
-        most = k 3;
-        by-length = k 4;
-        by-na = k 5;
-      }
+      record { least = k 0; order = k 1; near = k 2; most = k 3; by-length = k 4; by-na = k 5 }
 
   kept-spread : Kept (spreadRulesAt a b)
   unfolding computed spreadRulesAt

@@ -2,18 +2,12 @@
 use Prim.Native.Nat.{ℕ, _*_, _≤_}
 use mathlib.Core.List.{[], _∷_}
 use native.Mathlib.Nat.{le-trans}
-use lib.Dec.{lit≤}
-use lib.IntN.{pos}
-use Rattle.interval.specs.declared.Interval.{Interval}
-use Rattle.interval.specs.Operations.{point, differenceOf, scaledOf, quotientOf}
-use Rattle.interval.specs.Span.{Span}
-use Rattle.interval.proofs.Span.{span-scaled}
-use Rattle.interval.proofs.Negated.{span-less}
-use Rattle.interval.proofs.Rules.{_≼_, Kept, lits}
+use lib.{Dec.{lit≤}, IntN.{pos}}
+use Rattle.interval.specs.{declared.Interval.{Interval}, Operations.{point, differenceOf, scaledOf, quotientOf}, Span.{Span}}
+use Rattle.interval.proofs.{Span.{span-scaled}, Negated.{span-less}, Rules.{_≼_, Kept, lits}}
 use Rattle.interval.proofs.NumeralSpans.{numeral-natural, numeral-point, numeral-product, numeral-quotient}
 use Rattle.enclosure.proofs.Constants.{π-span}
-use Rattle.logarithm.specs.Ends.{most, Inside, lnPair}
-use Rattle.logarithm.proofs.Pairs.{pair-span}
+use Rattle.logarithm.{specs.Ends.{most, Inside, lnPair}, proofs.Pairs.{pair-span}}
 use Rattle.conductors.specs.Weights.{eight, oddEnds, innerExponent, ln2Ends, halfExponent}
 
 -- the logarithm of a pair over q, for ratios up to 64

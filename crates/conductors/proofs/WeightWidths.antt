@@ -1,36 +1,21 @@
 -- Widths of what depends on n, at all pairs of counts: the test's numbers are those of the named ends.
 use Prim.Native.Nat.{ℕ, _+_, _-_, _*_, _^_, _≤_, _<_}
-use mathlib.Core.Path.{_≡_, _∙_}
-use mathlib.Core.Bool.{false}
-use mathlib.Core.List.{[], _∷_}
-use native.Mathlib.Omega.{arith}
-use native.Mathlib.Nat.{mul-le-mul-left, le-trans, le-of-mul-le-mul-right}
-use lib.Pow.{pow-pos}
-use lib.Dec.{eqb, lit≤, lit<}
-use Rattle.interval.specs.declared.Interval.{Interval}
-use Rattle.interval.specs.Operations.{natural}
-use Rattle.interval.specs.Span.{Span}
+use mathlib.Core.{Path.{_≡_, _∙_}, Bool.{false}, List.{[], _∷_}}
+use native.Mathlib.{Omega.{arith}, Nat.{mul-le-mul-left, le-trans, le-of-mul-le-mul-right}}
+use lib.{Pow.{pow-pos}, Dec.{eqb, lit≤, lit<}}
+use Rattle.interval.specs.{declared.Interval.{Interval}, Operations.{natural}, Span.{Span}}
 use Rattle.interval.proofs.Natural.{point-natural, natural-difference, natural-scaled, natural-product, natural-quotient}
-use Rattle.interval.proofs.Rounding.{floorDiv-falls}
-use Rattle.interval.proofs.Span.{floor≤ceil, span-natural, span-wider}
-use Rattle.interval.proofs.Negated.{span-less}
-use Rattle.interval.proofs.Rules.{_≼_, Kept, lits}
-use Rattle.interval.proofs.NumeralSpans.{numeral-point, numeral-product, numeral-quotient, numeral-wider}
+use Rattle.interval.proofs.{Rounding.{floorDiv-falls}, Span.{floor≤ceil, span-natural, span-wider}, Negated.{span-less}}
+use Rattle.interval.proofs.{Rules.{_≼_, Kept, lits}, NumeralSpans.{numeral-point, numeral-product, numeral-quotient, numeral-wider}}
 use Rattle.enclosure.specs.Pi.{πBelow, πAbove, πEnds}
-use Rattle.logarithm.specs.Ends.{lnPair}
-use Rattle.logarithm.proofs.KnownHalvings.{up-by, ln-up}
-use Rattle.exponential.specs.Ends.{billion, most, halvingsOf, expPair}
-use Rattle.exponential.proofs.Sizes.{halvings-parts}
-use Rattle.exponential.proofs.Span.{exp-span}
+use Rattle.logarithm.{specs.Ends.{lnPair}, proofs.KnownHalvings.{up-by, ln-up}}
+use Rattle.exponential.{specs.Ends.{billion, most, halvingsOf, expPair}, proofs.{Sizes.{halvings-parts}, Span.{exp-span}}}
 use Rattle.formulas.proofs.Conductors.{by-place}
-use Rattle.conductors.specs.Counts.{Counts}
-use Rattle.conductors.specs.Number.{nEnds}
+use Rattle.conductors.specs.{Counts.{Counts}, Number.{nEnds}}
 use Rattle.conductors.specs.Weights.{eight, oddEnds, innerExponent, innerEnds, halfExponent, halfPowerEnds}
 use Rattle.conductors.proofs.Table.{halved, Halved, nLow, nHigh, oddLow, oddHigh, lnLow, lnHigh, exponentLow, exponentHigh}
-use Rattle.conductors.proofs.Table.{number-known, spread-known, exponent-known}
-use Rattle.conductors.proofs.NumberSpans.{n-least, n-is, n-more}
-use Rattle.conductors.proofs.WeightSpans.{ln2-span}
-use Rattle.conductors.proofs.LineRoots.{line-root-span}
+use Rattle.conductors.proofs.{Table.{number-known, spread-known, exponent-known}, NumberSpans.{n-least, n-is, n-more}}
+use Rattle.conductors.proofs.{WeightSpans.{ln2-span}, LineRoots.{line-root-span}}
 
 -- the ends of a logarithm whose halvings are known
 halved-from : {p s : ℕ} → Halved p s → s ≤ p
@@ -45,8 +30,7 @@ known-log {p} {q} {s} h hp hq =
 
 -- the width of e^−q from that of q: 2^j is at most 1 and 4q
 power-span : {i : Interval} {l h w : ℕ} (width : ℕ) → Span i l h w
-    → Kept ((65536 ≼ l) ∷ (h ≼ most) ∷ (5 * w * billion + 20 * (4 * h + billion) ≼ width * billion) ∷ [])
-    → Span (expPair i) 0 billion width
+    → Kept ((65536 ≼ l) ∷ (h ≼ most) ∷ (5 * w * billion + 20 * (4 * h + billion) ≼ width * billion) ∷ []) → Span (expPair i) 0 billion width
 unfolding expPair natural
 power-span {w = w} width s k =
     let j = halvingsOf (s .b) in

@@ -1,50 +1,25 @@
 -- The ends of what depends on n include the exact values' ends. Each line follows its formula's line.
 use Prim.Native.Nat.{ℕ, _+_, _*_, _≤_, _<_}
-use mathlib.Core.Path.{_≡_, refl}
-use mathlib.Core.Bool.{false}
-use native.Mathlib.Omega.{arith}
-use native.Mathlib.Nat.{le-trans}
+use mathlib.Core.{Path.{_≡_, refl}, Bool.{false}}
+use native.Mathlib.{Omega.{arith}, Nat.{le-trans}}
 use lib.Dec.{eqb, lit≤}
-use Rattle.interval.specs.declared.Interval.{Interval}
-use Rattle.interval.specs.Operations.{natural, scaledOf}
-use Rattle.interval.specs.Span.{Span}
-use Rattle.interval.proofs.Span.{span-divisor}
-use Rattle.exact.specs.Fraction.{whole, _·f_, top}
-use Rattle.exact.specs.Exact.{exactly, _−x_, _·x_, _÷x_, minus}
-use Rattle.exact.specs.Root.{root}
-use Rattle.exact.specs.Pi.{π}
-use Rattle.exact.specs.Logarithm.{ln}
-use Rattle.exact.specs.Exponential.{exp}
-use Rattle.exact.specs.Depth.{workDepth}
-use Rattle.exact.specs.Reported.{ten}
-use Rattle.exact.proofs.Consistency.{consistent-difference}
-use Rattle.exact.proofs.Logarithm.{ln-exactly, consistent-ln}
-use Rattle.exact.proofs.Computed.{within-ln-two}
+use Rattle.interval.{specs.{declared.Interval.{Interval}, Operations.{natural, scaledOf}, Span.{Span}}, proofs.Span.{span-divisor}}
+use Rattle.exact.specs.{Fraction.{whole, _·f_, top}, Exact.{exactly, _−x_, _·x_, _÷x_, minus}, Root.{root}, Pi.{π}, Logarithm.{ln}}
+use Rattle.exact.{specs.{Exponential.{exp}, Depth.{workDepth}, Reported.{ten}}, proofs.Consistency.{consistent-difference}}
+use Rattle.exact.proofs.{Logarithm.{ln-exactly, consistent-ln}, Computed.{within-ln-two}}
 use Rattle.exact.proofs.Quantity.{quantity-π, quantity-product, quantity-quotient}
-use Rattle.enclosure.specs.Enclosure.{Encloses}
-use Rattle.enclosure.proofs.Basics.{encloses-whole}
-use Rattle.enclosure.proofs.Sums.{encloses-difference, encloses-times}
-use Rattle.enclosure.proofs.Products.{encloses-product}
-use Rattle.enclosure.proofs.Quotients.{encloses-quotient}
-use Rattle.enclosure.proofs.Roots.{encloses-root-of}
-use Rattle.enclosure.proofs.Constants.{π-encloses}
-use Rattle.logarithm.specs.Ends.{Inside, lnPair}
-use Rattle.logarithm.proofs.Pairs.{ln-pair-encloses, ln-over-encloses}
+use Rattle.enclosure.{specs.Enclosure.{Encloses}, proofs.{Basics.{encloses-whole}, Sums.{encloses-difference, encloses-times}}}
+use Rattle.enclosure.proofs.{Products.{encloses-product}, Quotients.{encloses-quotient}, Roots.{encloses-root-of}, Constants.{π-encloses}}
+use Rattle.logarithm.{specs.Ends.{Inside, lnPair}, proofs.Pairs.{ln-pair-encloses, ln-over-encloses}}
 use Rattle.exponential.proofs.Encloses.{power-encloses}
-use Rattle.case.specs.declared.Case.{Case}
-use Rattle.case.specs.Bounds.{Bounds}
-use Rattle.formulas.specs.Lengths.{n}
-use Rattle.formulas.specs.Mesh.{innerWeight}
-use Rattle.formulas.proofs.Conductors.{by-both, quantity-n}
+use Rattle.case.specs.{declared.Case.{Case}, Bounds.{Bounds}}
+use Rattle.formulas.{specs.{Lengths.{n}, Mesh.{innerWeight}}, proofs.Conductors.{by-both, quantity-n}}
 use Rattle.formulas.proofs.Quantities.{one, two, twice-n, quantity-odd, quantity-line-root, consistent-inner, consistent-half-exponent}
 use Rattle.conductors.specs.Number.{nEnds}
 use Rattle.conductors.specs.Weights.{eight, oddEnds, spreadEnds, innerExponent, rootOf, innerEnds, ln2Ends, halfExponent}
 use Rattle.conductors.specs.Weights.{halfPowerEnds}
-use Rattle.conductors.proofs.NumberSpans.{n-span}
-use Rattle.conductors.proofs.WeightSpans.{twice-span, odd-span}
-use Rattle.conductors.proofs.LineRoots.{root-known, line-root-span}
-use Rattle.conductors.proofs.WeightWidths.{exponent-span, half-exponent-span}
-use Rattle.conductors.proofs.NumberEnclosed.{counts, n-encloses}
+use Rattle.conductors.proofs.{NumberSpans.{n-span}, WeightSpans.{twice-span, odd-span}, LineRoots.{root-known, line-root-span}}
+use Rattle.conductors.proofs.{WeightWidths.{exponent-span, half-exponent-span}, NumberEnclosed.{counts, n-encloses}}
 
 -- 4m² is a whole number
 squares-top : (m : ℕ) → top (whole 4 ·f whole m ·f whole m) ≡ 4 * (m * m)

@@ -1,11 +1,8 @@
 -- The ends of n and Ki, from the two counts alone, by whole numbers. Names for the free part: callers use their laws.
 use Prim.Native.Nat.{ℕ, _+_, _*_, _/_, _^_}
 use mathlib.Core.Bool.{cond}
-use lib.Dec.{eqb}
-use lib.IntN.{pos}
-use Rattle.interval.specs.declared.Interval.{Interval}
-use Rattle.interval.specs.Whole.{ceilDiv}
-use Rattle.interval.specs.Operations.{natural, point, sumOf, scaledOf, outwardOf}
+use lib.{Dec.{eqb}, IntN.{pos}}
+use Rattle.interval.specs.{declared.Interval.{Interval}, Whole.{ceilDiv}, Operations.{natural, point, sumOf, scaledOf, outwardOf}}
 use Rattle.enclosure.specs.SquareRoot.{squareRoot}
 use Rattle.conductors.specs.Counts.{spacings, halfPerimeter, meshes}
 

@@ -1,23 +1,14 @@
 -- The claim about a sheet and its buffer, from what was read, found and written.
 use Prim.Native.Nat.{ℕ}
-use mathlib.Core.Path.{_≡_, refl, sym, _∙_}
-use mathlib.Core.Bool.{Bool, true, false, cond}
-use mathlib.Core.List.{List, _++_}
-use lib.Dec.{leb}
-use lib.ListN.{length, drop}
+use mathlib.Core.{Path.{_≡_, refl, sym, _∙_}, Bool.{Bool, true, false, cond}, List.{List, _++_}}
+use lib.{Dec.{leb}, ListN.{length, drop}}
 use borrow.Author.Tests.{lt-ltb, le-ltb, leb-true, leb-false}
 use Rattle.text.proofs.Clash.{clash}
-use Rattle.case.specs.declared.Form.{Form}
-use Rattle.case.specs.Parts.{formOf}
-use Rattle.judgement.specs.declared.Judgement.{Judgement}
+use Rattle.case.specs.{declared.Form.{Form}, Parts.{formOf}}
+use Rattle.judgement.specs.{declared.Judgement.{Judgement}, Sheet.{judgement}}
 use Rattle.judgement.specs.declared.Judgement.the-variants as judged
-use Rattle.judgement.specs.Sheet.{judgement}
-use Rattle.writing.specs.Put.{WrittenFirst}
-use Rattle.writing.specs.declared.Written.{Written}
-use Rattle.writing.specs.declared.Written.the-variants.{Short, Count}
-use Rattle.conversion.specs.declared.Carried.the-variants.{Bytes, Refused}
-use Rattle.conversion.specs.Values.{other}
-use Rattle.conversion.specs.Sheet.{casesIn}
+use Rattle.writing.specs.{Put.{WrittenFirst}, declared.Written.{Written, the-variants.{Short, Count}}}
+use Rattle.conversion.specs.{declared.Carried.the-variants.{Bytes, Refused}, Values.{other}, Sheet.{casesIn}}
 use Rattle.conversion.specs.Answer.{changes, carriedText, roomAnswer, refusedOr, answer, bufferAfter, Answered}
 
 module _ (form : Form) (s before : List ℕ) {j : Judgement} (judged-is : j ≡ judgement (formOf (other form)) s) where

@@ -1,21 +1,13 @@
 -- Lines of values carried to a form one after the other: what holds when i of n are.
 use Prim.Native.Nat.{ℕ, _+_, _*_, _-_, _≤_, _<_}
-use mathlib.Core.Path.{_≡_, refl, sym, ap, _∙_}
-use mathlib.Core.Logic.{_⊎_, inl, inr}
-use mathlib.Core.List.{List, [], map}
-use native.Mathlib.Nat.{eq-or-lt-of-le}
-use native.Mathlib.Omega.{arith}
+use mathlib.Core.{Path.{_≡_, refl, sym, ap, _∙_}, Logic.{_⊎_, inl, inr}, List.{List, [], map}}
+use native.Mathlib.{Nat.{eq-or-lt-of-le}, Omega.{arith}}
 use lib.ListN.{length, getD, take, drop, length-map}
-use Rattle.tables.specs.Parts.{partAt, partsOf, Written}
-use Rattle.tables.proofs.Writing.{part-before, part-kept}
+use Rattle.tables.{specs.Parts.{partAt, partsOf, Written}, proofs.Writing.{part-before, part-kept}}
 use Rattle.tables.proofs.Parts.{parts-length, parts-at, parts-are}
-use Rattle.case.specs.declared.Form.{Form}
-use Rattle.case.specs.declared.Form.the-variants.{Present, Former}
-use Rattle.case.specs.Columns.{name-count, former-name-count}
-use Rattle.case.specs.Parts.{formOf}
+use Rattle.case.specs.{declared.Form.{Form, the-variants.{Present, Former}}, Columns.{name-count, former-name-count}, Parts.{formOf}}
 use Rattle.judgement.proofs.StoredLines.{map-at}
-use Rattle.conversion.specs.Values.{other, presentValues, formerValues, carried}
-use Rattle.conversion.specs.Parts.{Converted}
+use Rattle.conversion.specs.{Values.{other, presentValues, formerValues, carried}, Parts.{Converted}}
 
 -- the values of a case in a form are as many as its names
 pub carried-count : (form : Form) (v : List ℕ) → length (carried form v) ≡ length (formOf form)

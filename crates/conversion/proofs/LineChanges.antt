@@ -1,19 +1,12 @@
 -- What document 01's own form cannot say, line by line: the search for the first such line.
 use Prim.Native.Nat.{ℕ, suc, _+_, _≤_, _<_}
-use mathlib.Core.Path.{_≡_, refl, sym, _∙_}
-use mathlib.Core.Bool.{Bool, true, false, cond, _&&_, and-false}
-use mathlib.Core.List.{List, []}
-use native.Mathlib.Numerals.{add-one}
-use native.Mathlib.Omega.{arith}
-use lib.Dec.{eqb}
-use lib.ListN.{length, getD, drop, drop-of-length-le}
-use lib.Seq.{drop-cons}
+use mathlib.Core.{Path.{_≡_, refl, sym, _∙_}, Bool.{Bool, true, false, cond, _&&_, and-false}, List.{List, []}}
+use native.Mathlib.{Numerals.{add-one}, Omega.{arith}}
+use lib.{Dec.{eqb}, ListN.{length, getD, drop, drop-of-length-le}, Seq.{drop-cons}}
 use borrow.Author.Tests.{eq-eqb, ne-eqb}
-use Rattle.text.proofs.Clash.{clash}
-use Rattle.text.specs.Text.{same}
+use Rattle.text.{specs.Text.{same}, proofs.Clash.{clash}}
 use Rattle.case.specs.Columns.{columns, nameIndex, named}
-use Rattle.judgement.specs.declared.Judgement.{Judgement}
-use Rattle.judgement.specs.declared.Judgement.the-variants.{Lines, Refused}
+use Rattle.judgement.specs.declared.Judgement.{Judgement, the-variants.{Lines, Refused}}
 use Rattle.conversion.specs.Answer.{lineChange, changesFrom}
 
 -- ---- one line, by the places of its values

@@ -1,25 +1,16 @@
 -- The line of names of a form, put name by name.
 use Prim.Native.Nat.{ℕ, zero, suc, _+_, _≤_, _<_}
-use mathlib.Core.Path.{_≡_, refl, ap, subst, _∙_}
-use mathlib.Core.Bool.{cond}
-use mathlib.Core.List.{List, [], _∷_, _++_, map}
-use native.Mathlib.Numerals.{add-one}
-use native.Mathlib.Omega.{arith}
-use lib.Dec.{ltb, lit≤, leb·suc-zero, leb·suc-suc}
-use lib.ListN.{length, take, drop, set, drop-of-length-le, length-append}
+use mathlib.Core.{Path.{_≡_, refl, ap, subst, _∙_}, Bool.{cond}, List.{List, [], _∷_, _++_, map}}
+use native.Mathlib.{Numerals.{add-one}, Omega.{arith}}
+use lib.{Dec.{ltb, lit≤, leb·suc-zero, leb·suc-suc}, ListN.{length, take, drop, set, drop-of-length-le, length-append}}
 use lib.Seq.{drop-cons, take-append-seam}
 use borrow.Author.Tests.{le-leb}
 use Rattle.tables.specs.Parts.{partsOf}
-use Rattle.case.specs.declared.Form.{Form as CodeForm}
-use Rattle.case.specs.declared.Form.the-variants.{Present, Former}
-use Rattle.case.specs.Columns.{Form, columns, formerColumns, name-count, former-name-count}
-use Rattle.case.specs.Parts.{noColumn, formOf}
+use Rattle.case.specs.declared.Form.{Form as CodeForm, the-variants.{Present, Former}}
+use Rattle.case.specs.{Columns.{Form, columns, formerColumns, name-count, former-name-count}, Parts.{noColumn, formOf}}
 use Rattle.header.specs.Parts.{nameAt}
-use Rattle.writing.specs.Text.{moreFields, parted, ended, textOf, valueLine}
-use Rattle.writing.specs.Put.{Put, WrittenFirst}
-use Rattle.writing.specs.declared.Written.{Written}
-use Rattle.writing.proofs.Filling.{Filling, filling-start, text-room, text-step, byte-room, byte-step, filling-end}
-use Rattle.writing.proofs.Sheet.{sheet-parts}
+use Rattle.writing.specs.{Text.{moreFields, parted, ended, textOf, valueLine}, Put.{Put, WrittenFirst}, declared.Written.{Written}}
+use Rattle.writing.proofs.{Filling.{Filling, filling-start, text-room, text-step, byte-room, byte-step, filling-end}, Sheet.{sheet-parts}}
 use Rattle.conversion.specs.Sheet.{namesLine, sheetOf}
 
 -- ---- the names one after the other
@@ -116,8 +107,7 @@ sheet-text form vs = sheet-parts (map (λ c. c .name) (formOf form)) vs
 
 -- what was written is the sheet of the lines, where the line of names and the count of names have other names
 pub form-written : {k : ℕ} {line before after : List ℕ} {r : Written} (form : CodeForm) (n : ℕ) (values : List ℕ) → k ≡ length (formOf form)
-    → line ≡ namesLine (formOf form)
-    → WrittenFirst (line ++ textOf (map valueLine (partsOf k n values))) before after r
+    → line ≡ namesLine (formOf form) → WrittenFirst (line ++ textOf (map valueLine (partsOf k n values))) before after r
     → WrittenFirst (sheetOf (formOf form) (partsOf (length (formOf form)) n values)) before after r
 form-written {k} {line} {before} {after} {r} form n values e l w =
     subst (λ (t : List ℕ). WrittenFirst t before after r)

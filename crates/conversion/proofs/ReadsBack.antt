@@ -1,41 +1,25 @@
 -- A sheet of sound cases reads back: it is accepted by its own form, and its cases are those written. One law for both forms.
 use Prim.Native.Nat.{ℕ, zero, suc, _+_, _*_, _-_, _≤_, _<_}
-use mathlib.Core.Path.{_≡_, refl, ap, _∙_}
-use mathlib.Core.Bool.{true, false}
-use mathlib.Core.List.{List, [], _∷_, _++_, map, append-nil}
-use native.Mathlib.Nat.{mul-le-mul}
-use native.Mathlib.Omega.{arith}
-use lib.Dec.{leb}
-use lib.ListN.{length, getD, length-append, length-map}
-use lib.Seq.{getD-append-add}
+use mathlib.Core.{Path.{_≡_, refl, ap, _∙_}, Bool.{true, false}, List.{List, [], _∷_, _++_, map, append-nil}}
+use native.Mathlib.{Nat.{mul-le-mul}, Omega.{arith}}
+use lib.{Dec.{leb}, ListN.{length, getD, length-append, length-map}, Seq.{getD-append-add}}
 use borrow.Author.Tests.{eq-eqb, ne-eqb, le-leb, lt-leb, le-ltb, leb-true}
 use Rattle.text.specs.Text.{linesOf, fieldsOf, same}
-use Rattle.case.specs.declared.Form.{Form as CodeForm}
-use Rattle.case.specs.declared.Form.the-variants.{Present, Former}
+use Rattle.case.specs.declared.Form.{Form as CodeForm, the-variants.{Present, Former}}
+use Rattle.case.specs.{Columns.{columns, formerColumns, nameCount, nameIndex}, Check.{countFrom}, Parts.{formOf}}
+use Rattle.case.proofs.{Findings.{form-most}, Values.{entries-from}}
 use Rattle.case.specs.declared.Finding.the-variants as found
-use Rattle.case.specs.Columns.{columns, formerColumns, nameCount, nameIndex}
-use Rattle.case.specs.Check.{countFrom}
-use Rattle.case.specs.Parts.{formOf}
-use Rattle.case.proofs.Findings.{form-most}
-use Rattle.case.proofs.Values.{entries-from}
 use Rattle.header.specs.Header.{noColumns, fresh, wrongName, columnsFrom, columnsOf}
 use Rattle.line.specs.Line.{wrongForm, lineValues}
-use Rattle.judgement.specs.declared.Judgement.{Judgement}
-use Rattle.judgement.specs.declared.Judgement.the-variants.{Lines}
-use Rattle.judgement.specs.declared.LineFinding.the-variants as line
-use Rattle.judgement.specs.Limits.{today, mostBytes, mostLines}
-use Rattle.judgement.specs.Refusal.{lineJudgement}
-use Rattle.judgement.specs.Findings.{orFinding, repeats, lineFinding}
+use Rattle.judgement.specs.{declared.Judgement.{Judgement, the-variants.{Lines}}, Limits.{today, mostBytes, mostLines}}
+use Rattle.judgement.specs.{Refusal.{lineJudgement}, Findings.{orFinding, repeats, lineFinding}}
 use Rattle.judgement.specs.Sheet.{names, valueLines, badText, linesJudgement, valuesJudgement, namesJudgement, judgementWithin, judgement}
-use Rattle.writing.specs.Decimal.{decimal}
-use Rattle.writing.specs.Text.{moreFields, parted, ended, textOf, valueLine, sheetText, lacks, allLack, allValues}
-use Rattle.writing.proofs.Decimal.{decimal-is-value}
-use Rattle.writing.proofs.ReadBack.{both}
-use Rattle.writing.proofs.Sheet.{Names, sheet-lines, line-fields, line-numbers, sheet-back}
+use Rattle.judgement.specs.declared.LineFinding.the-variants as line
+use Rattle.writing.specs.{Decimal.{decimal}, Text.{moreFields, parted, ended, textOf, valueLine, sheetText, lacks, allLack, allValues}}
+use Rattle.writing.proofs.{Decimal.{decimal-is-value}, ReadBack.{both}, Sheet.{Names, sheet-lines, line-fields, line-numbers, sheet-back}}
 use Rattle.writing.proofs.Lengths.{sheet-most}
 use Rattle.conversion.specs.Sheet.{casesIn, sheetOf}
-use Rattle.conversion.proofs.NamesLine.{some-names}
-use Rattle.conversion.proofs.Soundness.{Sound, sound-small, values-sound}
+use Rattle.conversion.proofs.{NamesLine.{some-names}, Soundness.{Sound, sound-small, values-sound}}
 use Rattle.conversion.proofs.SoundCases.{SoundCases, all-lines}
 
 -- ---- the line of names

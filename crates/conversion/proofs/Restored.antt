@@ -1,24 +1,14 @@
 -- There and back restores every value. Document 02 (e): "there and back restores every value".
 use Prim.Native.Nat.{ℕ, suc}
-use mathlib.Core.Path.{_≡_, refl, sym, ap, _∙_}
-use mathlib.Core.Bool.{Bool, true, false, cond, _&&_}
-use mathlib.Core.List.{List, [], _∷_, map}
+use mathlib.Core.{Path.{_≡_, refl, sym, ap, _∙_}, Bool.{Bool, true, false, cond, _&&_}, List.{List, [], _∷_, map}}
 use native.Mathlib.Omega.{arith}
-use lib.Dec.{eqb}
-use lib.ListN.{length, getD}
+use lib.{Dec.{eqb}, ListN.{length, getD}}
 use borrow.Author.Tests.{eq-eqb, eqb-true}
-use Rattle.text.proofs.Clash.{clash}
-use Rattle.text.specs.Text.{same}
-use Rattle.case.specs.declared.Form.{Form as CodeForm}
-use Rattle.case.specs.declared.Form.the-variants.{Present, Former}
-use Rattle.case.specs.Columns.{columns, formerColumns, nameIndex, named}
-use Rattle.case.specs.Check.{countFrom}
-use Rattle.case.specs.Parts.{formOf}
-use Rattle.case.proofs.Values.{entries-from}
-use Rattle.judgement.specs.declared.Judgement.{Judgement}
-use Rattle.judgement.specs.declared.Judgement.the-variants.{Lines, Refused}
-use Rattle.conversion.specs.Values.{other, presentValues, formerValues, carried}
-use Rattle.conversion.specs.Answer.{lineChange, changesFrom, changes}
+use Rattle.text.{specs.Text.{same}, proofs.Clash.{clash}}
+use Rattle.case.specs.{declared.Form.{Form as CodeForm, the-variants.{Present, Former}}, Columns.{columns, formerColumns, nameIndex, named}}
+use Rattle.case.{specs.{Check.{countFrom}, Parts.{formOf}}, proofs.Values.{entries-from}}
+use Rattle.judgement.specs.declared.Judgement.{Judgement, the-variants.{Lines, Refused}}
+use Rattle.conversion.specs.{Values.{other, presentValues, formerValues, carried}, Answer.{lineChange, changesFrom, changes}}
 use Rattle.conversion.proofs.SoundCases.{SoundCases}
 
 -- ---- what document 01's own form can say of a case
@@ -36,8 +26,7 @@ same-line {m} n next v e =
     (eqb (getD v 21 0) 60) refl e
   where
     go : (a : Bool) → eqb (getD v 5 0) (getD v 6 0) ≡ a → (b : Bool) → eqb (getD v 6 0) (getD v 7 0) ≡ b → (c : Bool)
-        → eqb (getD v 12 0) (getD v 13 0) ≡ c
-        → (d : Bool) → eqb (getD v 21 0) 60 ≡ d
+        → eqb (getD v 12 0) (getD v 13 0) ≡ c → (d : Bool) → eqb (getD v 21 0) 60 ≡ d
         → cond (a && b) (cond c (cond d next (Refused 11 n 0)) (Refused 10 n 0)) (Refused 9 n 0) ≡ Lines m → Same v × (next ≡ Lines m)
     go true p true q true r true t h =
         let x = eqb-true (getD v 5 0) (getD v 6 0) p in

@@ -1,25 +1,15 @@
 -- Every accepted sheet carried over: the carried sheet is accepted by its form with a line for each case, its cases are the carried ones in
 -- their order, and carried back it has the cases of the source. Document 02 (e).
 use Prim.Native.Nat.{ℕ, _≤_}
-use mathlib.Core.Path.{_≡_, refl, ap, _∙_}
-use mathlib.Core.List.{List, [], map}
+use mathlib.Core.{Path.{_≡_, refl, ap, _∙_}, List.{List, [], map}}
 use native.Mathlib.Omega.{arith}
 use lib.ListN.{length, length-map}
-use Rattle.case.specs.declared.Form.{Form}
-use Rattle.case.specs.declared.Form.the-variants.{Present, Former}
-use Rattle.case.specs.Parts.{formOf}
-use Rattle.judgement.specs.declared.Judgement.the-variants.{Lines}
-use Rattle.judgement.specs.Limits.{mostBytes}
-use Rattle.judgement.specs.Sheet.{names, judgement}
-use Rattle.judgement.specs.Accepted.{Accepted}
-use Rattle.judgement.proofs.Accepted.{accepted}
-use Rattle.judgement.proofs.StoredLines.{values-count}
-use Rattle.conversion.specs.Values.{other, carried}
-use Rattle.conversion.specs.Sheet.{casesIn}
-use Rattle.conversion.specs.Answer.{changes, carriedText}
+use Rattle.case.specs.{declared.Form.{Form, the-variants.{Present, Former}}, Parts.{formOf}}
+use Rattle.judgement.specs.{declared.Judgement.the-variants.{Lines}, Limits.{mostBytes}, Sheet.{names, judgement}, Accepted.{Accepted}}
+use Rattle.judgement.proofs.{Accepted.{accepted}, StoredLines.{values-count}}
+use Rattle.conversion.specs.{Values.{other, carried}, Sheet.{casesIn}, Answer.{changes, carriedText}}
 use Rattle.conversion.proofs.SoundCases.{SoundCases, accepted-cases, carried-cases}
-use Rattle.conversion.proofs.ReadsBack.{names-are, text-short, cases-back, accepted-back}
-use Rattle.conversion.proofs.Restored.{restored, nothing-left-out}
+use Rattle.conversion.proofs.{ReadsBack.{names-are, text-short, cases-back, accepted-back}, Restored.{restored, nothing-left-out}}
 
 other-twice : (form : Form) → other (other form) ≡ form
 unfolding other

@@ -1,33 +1,19 @@
 -- The cases of an accepted sheet: each is sound, and none has the station and season of an earlier one. Carried over they are so in the
 -- other form.
 use Prim.Native.Nat.{ℕ, suc}
-use mathlib.Core.Path.{_≡_, refl, _∙_}
-use mathlib.Core.Bool.{Bool, true, false, cond}
-use mathlib.Core.List.{List, [], _∷_, map}
-use lib.Dec.{eqb}
-use lib.ListN.{length, length-map}
+use mathlib.Core.{Path.{_≡_, refl, _∙_}, Bool.{Bool, true, false, cond}, List.{List, [], _∷_, map}}
+use lib.{Dec.{eqb}, ListN.{length, length-map}}
 use borrow.Author.Tests.{eq-eqb}
-use Rattle.text.proofs.Clash.{clash}
-use Rattle.text.specs.Text.{fieldsOf, same}
-use Rattle.case.specs.declared.Form.{Form as CodeForm}
-use Rattle.case.specs.declared.Form.the-variants.{Present, Former}
-use Rattle.case.specs.declared.Finding.{Finding}
+use Rattle.text.{specs.Text.{fieldsOf, same}, proofs.Clash.{clash}}
+use Rattle.case.specs.declared.{Form.{Form as CodeForm, the-variants.{Present, Former}}, Finding.{Finding}}
+use Rattle.case.specs.{Columns.{Form, columns, formerColumns, nameIndex, named}, Check.{finding}, Bounds.{Placed}, Parts.{formOf}}
 use Rattle.case.specs.declared.Finding.the-variants as found
-use Rattle.case.specs.Columns.{Form, columns, formerColumns, nameIndex, named}
-use Rattle.case.specs.Check.{finding}
-use Rattle.case.specs.Bounds.{Placed}
-use Rattle.case.specs.Parts.{formOf}
 use Rattle.line.specs.Line.{wrongForm, lineValues}
-use Rattle.judgement.specs.declared.Judgement.{Judgement}
-use Rattle.judgement.specs.declared.Judgement.the-variants.{Lines}
+use Rattle.judgement.specs.{declared.Judgement.{Judgement, the-variants.{Lines}}, Findings.{orFinding, sameKey, repeats, lineFinding}}
+use Rattle.judgement.{specs.{Sheet.{valueLines, linesJudgement}, Accepted.{Accepted}}, proofs.LineJudged.{sound-line}}
 use Rattle.judgement.specs.declared.LineFinding.the-variants as line
-use Rattle.judgement.specs.Findings.{orFinding, sameKey, repeats, lineFinding}
-use Rattle.judgement.specs.Sheet.{valueLines, linesJudgement}
-use Rattle.judgement.specs.Accepted.{Accepted}
-use Rattle.judgement.proofs.LineJudged.{sound-line}
 use Rattle.writing.specs.Text.{allLines}
-use Rattle.conversion.specs.Values.{other, presentValues, formerValues, carried}
-use Rattle.conversion.specs.Sheet.{casesIn}
+use Rattle.conversion.specs.{Values.{other, presentValues, formerValues, carried}, Sheet.{casesIn}}
 use Rattle.conversion.proofs.Soundness.{Sound, sound-values, sound-small, carried-sound}
 
 -- after the cases of earlier lines

@@ -1,25 +1,17 @@
 -- Values that the checks of a form find sound: every value in its range, and those that must agree do. The columns of the names do not
 -- matter.
 use Prim.Native.Nat.{ℕ, _≤_}
-use mathlib.Core.Path.{_≡_, refl}
-use mathlib.Core.Logic.{_⊎_, inl, inr}
-use mathlib.Core.Bool.{Bool, true, false, cond, _&&_}
-use mathlib.Core.List.{List, [], _∷_, _++_, map}
+use mathlib.Core.{Path.{_≡_, refl}, Logic.{_⊎_, inl, inr}, Bool.{Bool, true, false, cond, _&&_}, List.{List, [], _∷_, _++_, map}}
 use native.Mathlib.Omega.{arith}
-use lib.Dec.{T, leb, eqb, leb→le, eqb→eq}
-use lib.ListN.{length, getD, take, drop}
+use lib.{Dec.{T, leb, eqb, leb→le, eqb→eq}, ListN.{length, getD, take, drop}}
 use borrow.Author.Tests.{le-leb, eqb-true}
 use mir.Facts.{and-yes, or-yes}
-use Rattle.text.proofs.Clash.{clash}
-use Rattle.text.specs.Text.{same}
-use Rattle.case.specs.declared.Form.{Form as CodeForm}
-use Rattle.case.specs.declared.Form.the-variants.{Present, Former}
-use Rattle.case.specs.declared.Finding.the-variants as found
+use Rattle.text.{specs.Text.{same}, proofs.Clash.{clash}}
+use Rattle.case.specs.declared.Form.{Form as CodeForm, the-variants.{Present, Former}}
 use Rattle.case.specs.Columns.{Range, from, zeroOr, either, Form, inRange, columns, formerColumns, nameIndex, named}
-use Rattle.case.specs.Check.{leftOf, outOfRange, agree, disagreement, finding}
-use Rattle.case.specs.Bounds.{Placed}
-use Rattle.case.specs.Parts.{rangeAt, formOf}
+use Rattle.case.specs.{Check.{leftOf, outOfRange, agree, disagreement, finding}, Bounds.{Placed}, Parts.{rangeAt, formOf}}
 use Rattle.case.proofs.Ranges.{InRange, in-range, in-range-at, some-columns}
+use Rattle.case.specs.declared.Finding.the-variants as found
 use Rattle.writing.specs.Text.{allValues}
 use Rattle.conversion.specs.Values.{other, presentValues, formerValues, carried}
 

@@ -1,20 +1,11 @@
 -- What a sheet carried over is, or why it is refused. Document 02 (e).
 use Prim.Native.Nat.{ℕ, suc}
-use mathlib.Core.Path.{_≡_}
-use mathlib.Core.Bool.{cond, _&&_}
-use mathlib.Core.List.{List, [], _∷_, _++_, map}
-use lib.Dec.{eqb, ltb}
-use lib.ListN.{length, drop}
-use Rattle.case.specs.declared.Form.{Form}
-use Rattle.case.specs.declared.Form.the-variants.{Present, Former}
-use Rattle.case.specs.Columns.{columns, named}
-use Rattle.case.specs.Parts.{formOf}
-use Rattle.judgement.specs.declared.Judgement.{Judgement}
+use mathlib.Core.{Path.{_≡_}, Bool.{cond, _&&_}, List.{List, [], _∷_, _++_, map}}
+use lib.{Dec.{eqb, ltb}, ListN.{length, drop}}
+use Rattle.case.specs.{declared.Form.{Form, the-variants.{Present, Former}}, Columns.{columns, named}, Parts.{formOf}}
+use Rattle.judgement.specs.{declared.Judgement.{Judgement}, Sheet.{judgement}}
 use Rattle.judgement.specs.declared.Judgement.the-variants as judged
-use Rattle.judgement.specs.Sheet.{judgement}
-use Rattle.conversion.specs.declared.Carried.{Carried}
-use Rattle.conversion.specs.declared.Carried.the-variants.{Bytes, Refused}
-use Rattle.conversion.specs.Values.{other, carried}
+use Rattle.conversion.specs.{declared.Carried.{Carried, the-variants.{Bytes, Refused}}, Values.{other, carried}}
 use Rattle.conversion.specs.Sheet.{casesIn, sheetOf}
 
 -- ---- "On the way back a line is then refused, with its line and column 0"

@@ -1,20 +1,14 @@
 -- Document 01's sample sheet carried over, and lines that cannot go back. Document 02 (e).
 use Prim.Native.Nat.{ℕ}
-use mathlib.Core.Path.{_≡_, refl}
-use mathlib.Core.List.{List, [], _∷_, _++_, map}
-use Rattle.text.specs.Text.{bytes, onFirst, linesOf, fieldsOf, same}
-use Rattle.text.specs.Value.{numberFrom, valueOf}
-use Rattle.case.specs.declared.Form.the-variants.{Present}
-use Rattle.case.specs.Columns.{columns, formerColumns, nameIndex, named}
-use Rattle.case.specs.Parts.{formOf}
+use mathlib.Core.{Path.{_≡_, refl}, List.{List, [], _∷_, _++_, map}}
+use Rattle.text.specs.{Text.{bytes, onFirst, linesOf, fieldsOf, same}, Value.{numberFrom, valueOf}}
+use Rattle.case.specs.{declared.Form.the-variants.{Present}, Columns.{columns, formerColumns, nameIndex, named}, Parts.{formOf}}
 use Rattle.header.specs.Header.{noColumns, columnsFrom, columnsOf}
 use Rattle.line.specs.Line.{lineValues}
-use Rattle.judgement.specs.declared.Judgement.the-variants.{Refused, Lines}
-use Rattle.judgement.specs.Sheet.{names, valueLines}
+use Rattle.judgement.specs.{declared.Judgement.the-variants.{Refused, Lines}, Sheet.{names, valueLines}}
 use Rattle.writing.specs.Decimal.{digitsIn, digitCount, lastDigits, decimal}
 use Rattle.writing.specs.Text.{moreFields, parted, ended, textOf, valueLine, sheetText}
-use Rattle.conversion.specs.Values.{other, presentValues, formerValues, carried}
-use Rattle.conversion.specs.Sheet.{casesIn, sheetOf}
+use Rattle.conversion.specs.{Values.{other, presentValues, formerValues, carried}, Sheet.{casesIn, sheetOf}}
 use Rattle.conversion.specs.Answer.{lineChange, changesFrom, carriedText}
 
 -- document 01's sample, its columns in another order

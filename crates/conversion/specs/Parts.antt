@@ -1,10 +1,8 @@
 -- What the parts of carrying a sheet over promise.
 use Prim.Native.Nat.{ℕ}
-use mathlib.Core.Path.{_≡_}
-use mathlib.Core.List.{List, map}
+use mathlib.Core.{Path.{_≡_}, List.{List, map}}
 use lib.ListN.{length}
-use Rattle.case.specs.declared.Form.{Form}
-use Rattle.case.specs.Parts.{formOf}
+use Rattle.case.specs.{declared.Form.{Form}, Parts.{formOf}}
 use Rattle.tables.specs.Parts.{partsOf}
 use Rattle.conversion.specs.Values.{other, carried}
 

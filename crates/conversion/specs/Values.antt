@@ -1,11 +1,8 @@
 -- The values of a case in either form. Document 02 (e): "with ms copied to the three times, lines to both counts, and hz 60, columns in
 -- document 01's order with new ones in place of the old and hz last. It must also go back, to document 01's own names and order".
-use Prim.Native.Nat.{ℕ}
-use Prim.Native.String.{String}
+use Prim.Native.{Nat.{ℕ}, String.{String}}
 use mathlib.Core.List.{List, [], _∷_}
-use Rattle.case.specs.declared.Form.{Form}
-use Rattle.case.specs.declared.Form.the-variants.{Present, Former}
-use Rattle.case.specs.Columns.{columns, formerColumns, named}
+use Rattle.case.specs.{declared.Form.{Form, the-variants.{Present, Former}}, Columns.{columns, formerColumns, named}}
 
 -- the form that a sheet is carried from
 unfoldable pub other : Form → Form

@@ -1,33 +1,17 @@
 -- The grid current: where its ends lie, how far they are apart, and what they enclose.
 use Prim.Native.Nat.{ℕ, _+_, _*_, _/_, _^_, _≤_, _<_}
 use mathlib.Core.Path.{refl}
-use native.Mathlib.Omega.{arith}
-use native.Mathlib.Nat.{mul-le-mul, mul-le-mul-right}
-use lib.Dec.{lit<}
-use lib.IntN.{pos}
-use Rattle.interval.specs.Whole.{ceilDiv}
-use Rattle.interval.specs.Operations.{natural, scaledOf}
-use Rattle.interval.specs.Span.{Span, Relative}
-use Rattle.interval.proofs.Natural.{natural-scaled, natural-outward}
-use Rattle.interval.proofs.Rounding.{floorDiv-above, ceilDiv-below}
-use Rattle.interval.proofs.Span.{span-wider, span-scaled}
-use Rattle.interval.proofs.Rules.{lits}
-use Rattle.interval.proofs.NumeralSpans.{numeral-outward}
-use Rattle.exact.specs.Fraction.{_≈f_, whole, decimal, _+f_, neg, _−f_, _·f_}
-use Rattle.exact.specs.Reported.{ten, over, reported, AtMost, Reports}
-use Rattle.enclosure.specs.Enclosure.{Encloses}
-use Rattle.enclosure.proofs.Basics.{encloses-outward}
-use Rattle.enclosure.proofs.Multiples.{encloses-multiple}
-use Rattle.enclosure.proofs.Reporting.{reports}
-use Rattle.case.specs.declared.Case.{Case}
-use Rattle.case.specs.Bounds.{Between, Bounds}
-use Rattle.formulas.specs.Current.{IG}
-use Rattle.formulas.specs.Width.{μA, billionths, currentWidth}
-use Rattle.formulas.proofs.Decrement.{consistent-Df}
+use native.Mathlib.{Omega.{arith}, Nat.{mul-le-mul, mul-le-mul-right}}
+use lib.{Dec.{lit<}, IntN.{pos}}
+use Rattle.interval.specs.{Whole.{ceilDiv}, Operations.{natural, scaledOf}, Span.{Span, Relative}}
+use Rattle.interval.proofs.{Natural.{natural-scaled, natural-outward}, Rounding.{floorDiv-above, ceilDiv-below}}
+use Rattle.interval.proofs.{Span.{span-wider, span-scaled}, Rules.{lits}, NumeralSpans.{numeral-outward}}
+use Rattle.exact.specs.{Fraction.{_≈f_, whole, decimal, _+f_, neg, _−f_, _·f_}, Reported.{ten, over, reported, AtMost, Reports}}
+use Rattle.enclosure.{specs.Enclosure.{Encloses}, proofs.{Basics.{encloses-outward}, Multiples.{encloses-multiple}, Reporting.{reports}}}
+use Rattle.case.specs.{declared.Case.{Case}, Bounds.{Between, Bounds}}
+use Rattle.formulas.{specs.{Current.{IG}, Width.{μA, billionths, currentWidth}}, proofs.Decrement.{consistent-Df}}
 use Rattle.formulas.proofs.Quantities.{quantity-IG}
-use Rattle.decrement.specs.Ends.{factorEnds}
-use Rattle.decrement.proofs.Widths.{factor-span}
-use Rattle.decrement.proofs.Right.{encloses-Df}
+use Rattle.decrement.{specs.Ends.{factorEnds}, proofs.{Widths.{factor-span}, Right.{encloses-Df}}}
 use Rattle.current.specs.Ends.{currentEnds, upperFactor}
 
 -- a to b, from 10^9 and at most 500 apart, times k over 10^6 and rounded to L and U

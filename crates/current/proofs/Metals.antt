@@ -5,9 +5,7 @@ use borrow.Author.Tests.{le-leb}
 use Rattle.text.proofs.Clash.{clash}
 use Rattle.case.specs.Bounds.{Between}
 use Rattle.formulas.specs.Size as Size
-use Rattle.current.specs.Metal.{constantOf}
-use Rattle.current.specs.declared.metal.Constant.{Constant}
-use Rattle.current.specs.declared.metal.Constant.the-variants.{Kf, Unknown}
+use Rattle.current.specs.{Metal.{constantOf}, declared.metal.Constant.{Constant, the-variants.{Kf, Unknown}}}
 
 module _ {m : ℕ} (b : Between 1 m 11) where
   known : constantOf m ≡ Kf (Size.Kf m)

@@ -4,11 +4,8 @@ use Prim.Native.Nat.{ℕ, _*_, _≤_}
 use mathlib.Core.Path.{_≡_, refl}
 use lib.Dec.{lit<}
 use Rattle.interval.proofs.Below.{Below, below-more, below-outward}
-use Rattle.case.specs.declared.Case.{Case}
-use Rattle.case.specs.Bounds.{Bounds}
-use Rattle.case.specs.Eased.{eased}
-use Rattle.decrement.specs.Ends.{exponentEnds, ratioEnds, restEnds, squareEnds, factorEnds}
-use Rattle.decrement.proofs.Widths.{factor-span}
+use Rattle.case.specs.{declared.Case.{Case}, Bounds.{Bounds}, Eased.{eased}}
+use Rattle.decrement.{specs.Ends.{exponentEnds, ratioEnds, restEnds, squareEnds, factorEnds}, proofs.Widths.{factor-span}}
 use Rattle.current.specs.Ends.{currentEnds}
 
 module _ {c : Case} (b : Bounds c) (fault split shock body : ℕ) (enters : fault * split ≤ c .fault * c .split) where

@@ -1,26 +1,17 @@
 -- The smallest number for the rounded square is the conductor size.
 use Prim.Native.Nat.{ℕ, _*_, _<_}
 use mathlib.Core.Path.{_≡_, ap}
-use native.Mathlib.Omega.{arith}
-use native.Mathlib.Decide.{decLt}
+use native.Mathlib.{Omega.{arith}, Decide.{decLt}}
 use Rattle.case.specs.declared.Case.{Case}
-use Rattle.formulas.specs.Size.{duty, size}
+use Rattle.formulas.{specs.Size.{duty, size}, proofs.Size.{size-enough, size-least}}
 use Rattle.exact.proofs.Powers.{square}
-use Rattle.formulas.proofs.Size.{size-enough, size-least}
 use Rattle.current.specs.Size.{squareLoad, IsSmallest}
 use Rattle.current.proofs.SquareLoad.{load-low, load-high}
 
 module _ (c : Case) (f r : ℕ) (s : IsSmallest (squareLoad (duty c f) (c .wire)) r) where
   not-below : r < size c f → ⊥
   not-below h =
-      omega (
-        arith,
-        s .enough,
-        load-low (duty c f) (c .wire),
-        size-least c f r h,
-        square r,
-        ap (λ t. t * c .wire) (square (duty c f)),
-      )
+      omega (arith, s .enough, load-low (duty c f) (c .wire), size-least c f r h, square r, ap (λ t. t * c .wire) (square (duty c f)))
 
   not-above : size c f < r → ⊥
   not-above h =

@@ -1,8 +1,7 @@
 -- The square of I·Kf times t by three parts: it fits 64 bits, and rounding up four times rounds up once.
 use Prim.Native.Nat.{ℕ, _+_, _*_, _/_, _%_, _^_, _≤_, _<_}
 use mathlib.Core.Path.{_≡_}
-use native.Mathlib.Omega.{arith}
-use native.Mathlib.Nat.{mul-le-mul, div-add-mod'}
+use native.Mathlib.{Omega.{arith}, Nat.{mul-le-mul, div-add-mod'}}
 use lib.Dec.{lit<}
 use Rattle.interval.proofs.Rounding.{ceilDiv-above, ceilDiv-below, ceilDiv-by}
 use Rattle.current.specs.Size.{carriedOf, squareOf, Parts, squareLoad}
@@ -31,13 +30,11 @@ part-small {p} {q} {ms} hp hq hm =
 -- ---- the value: p is a part, l what is carried from it
 
 sum-low : (p0 p1 p2 p3 p4 l1 l2 l3 l4 : ℕ) → p0 + 0 ≤ l1 * 1000000 → p1 + l1 ≤ l2 * 1000000 → p2 + l2 ≤ l3 * 1000000
-    → p3 + l3 ≤ l4 * 1000000
-    → p4 * 10 ^ 24 + p3 * 10 ^ 18 + p2 * 10 ^ 12 + p1 * 10 ^ 6 + p0 ≤ (p4 + l4) * 10 ^ 24
+    → p3 + l3 ≤ l4 * 1000000 → p4 * 10 ^ 24 + p3 * 10 ^ 18 + p2 * 10 ^ 12 + p1 * 10 ^ 6 + p0 ≤ (p4 + l4) * 10 ^ 24
 sum-low p0 p1 p2 p3 p4 l1 l2 l3 l4 a b c d = omega arith
 
 sum-high : (p0 p1 p2 p3 p4 l1 l2 l3 l4 : ℕ) → l1 * 1000000 < p0 + 0 + 1000000 → l2 * 1000000 < p1 + l1 + 1000000
-    → l3 * 1000000 < p2 + l2 + 1000000
-    → l4 * 1000000 < p3 + l3 + 1000000
+    → l3 * 1000000 < p2 + l2 + 1000000 → l4 * 1000000 < p3 + l3 + 1000000
     → (p4 + l4) * 10 ^ 24 < p4 * 10 ^ 24 + p3 * 10 ^ 18 + p2 * 10 ^ 12 + p1 * 10 ^ 6 + p0 + 10 ^ 24
 sum-high p0 p1 p2 p3 p4 l1 l2 l3 l4 a b c d = omega arith
 

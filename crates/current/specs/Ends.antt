@@ -2,8 +2,7 @@
 -- their laws.
 use Prim.Native.Nat.{ℕ, _*_, _^_}
 use lib.IntN.{natAbs}
-use Rattle.interval.specs.declared.Interval.{Interval}
-use Rattle.interval.specs.Operations.{outwardOf, scaledOf}
+use Rattle.interval.specs.{declared.Interval.{Interval}, Operations.{outwardOf, scaledOf}}
 use Rattle.case.specs.declared.Case.{Case}
 use Rattle.decrement.specs.Ends.{factorEnds}
 

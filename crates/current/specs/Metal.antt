@@ -3,8 +3,7 @@ use Prim.Native.Nat.{ℕ}
 use mathlib.Core.Bool.{cond, _&&_}
 use lib.Dec.{leb}
 use Rattle.formulas.specs.Size as Size
-use Rattle.current.specs.declared.metal.Constant.{Constant}
-use Rattle.current.specs.declared.metal.Constant.the-variants.{Kf, Unknown}
+use Rattle.current.specs.declared.metal.Constant.{Constant, the-variants.{Kf, Unknown}}
 
 -- "Each metal has its own Kf constant": the metals are numbered from 1 to 11
 unfoldable pub constantOf : ℕ → Constant

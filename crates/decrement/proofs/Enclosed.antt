@@ -3,47 +3,23 @@
 use Prim.Native.Nat.{ℕ, _+_, _*_, _/_, _^_, _≤_, _<_}
 use mathlib.Core.Path.{refl, ap}
 use native.Mathlib.Omega.{arith}
-use lib.Dec.{lit≤}
-use lib.IntN.{pos, natAbs}
-use Rattle.interval.specs.declared.Interval.{Interval}
-use Rattle.interval.specs.Whole.{ceilDiv}
-use Rattle.interval.specs.Operations.{natural, outwardOf, scaledOf, productOf}
-use Rattle.interval.specs.Span.{Span}
-use Rattle.interval.proofs.Natural.{natural-scaled, natural-outward}
-use Rattle.interval.proofs.Rounding.{floorDiv-below, ceilDiv-above}
-use Rattle.interval.proofs.Span.{span-divisor}
-use Rattle.exact.specs.Fraction.{Fraction, _≤f_, _<f_, _≈f_, whole, decimal, _·f_, inv, _÷f_}
-use Rattle.exact.specs.Exact.{Exact, exactly, _·x_, _÷x_}
-use Rattle.exact.specs.Pi.{π}
-use Rattle.exact.specs.Root.{root}
-use Rattle.exact.specs.Depth.{workDepth, Proper, SameEnds}
-use Rattle.exact.specs.Reported.{ten, over}
-use Rattle.exact.proofs.Order.{le-of-lt, refl≈, sym≈, trans≈, nonneg}
-use Rattle.exact.proofs.Powers.{square}
+use lib.{Dec.{lit≤}, IntN.{pos, natAbs}}
+use Rattle.interval.specs.{declared.Interval.{Interval}, Whole.{ceilDiv}, Operations.{natural, outwardOf, scaledOf, productOf}, Span.{Span}}
+use Rattle.interval.proofs.{Natural.{natural-scaled, natural-outward}, Rounding.{floorDiv-below, ceilDiv-above}, Span.{span-divisor}}
+use Rattle.exact.specs.{Fraction.{Fraction, _≤f_, _<f_, _≈f_, whole, decimal, _·f_, inv, _÷f_}, Exact.{Exact, exactly, _·x_, _÷x_}, Pi.{π}}
+use Rattle.exact.specs.{Root.{root}, Depth.{workDepth, Proper, SameEnds}, Reported.{ten, over}}
+use Rattle.exact.proofs.{Order.{le-of-lt, refl≈, sym≈, trans≈, nonneg}, Powers.{square}}
 use Rattle.exact.proofs.Products.{mul-comm, mul-assoc, mul-one, mul-nonneg, mul-pos, cong·}
-use Rattle.exact.proofs.Quotients.{clamped, inv-pos, inv-nonneg, mul-inv, split-inv}
-use Rattle.exact.proofs.Divisors.{inv-cong, cong÷, expand}
-use Rattle.exact.proofs.Consistency.{proper-at, consistent-exactly}
-use Rattle.exact.proofs.Positive.{positive-upper}
-use Rattle.exact.proofs.KnownEnds.{same-refl, same-sym, same-trans, quotient-ends, scaled-ends}
-use Rattle.exact.proofs.Fractions.{exactly-same, exactly-product}
-use Rattle.exact.proofs.Alike.{product-same, quotient-product}
-use Rattle.exact.proofs.Factors.{product-turned, product-grouped, factors-exchanged}
+use Rattle.exact.proofs.{Quotients.{clamped, inv-pos, inv-nonneg, mul-inv, split-inv}, Divisors.{inv-cong, cong÷, expand}}
+use Rattle.exact.proofs.{Consistency.{proper-at, consistent-exactly}, Positive.{positive-upper}}
+use Rattle.exact.proofs.{KnownEnds.{same-refl, same-sym, same-trans, quotient-ends, scaled-ends}, Fractions.{exactly-same, exactly-product}}
+use Rattle.exact.proofs.{Alike.{product-same, quotient-product}, Factors.{product-turned, product-grouped, factors-exchanged}}
 use Rattle.exact.proofs.Quantity.{Quantity, quantity-exactly, quantity-quotient, quantity-π}
-use Rattle.enclosure.specs.Enclosure.{Encloses}
-use Rattle.enclosure.specs.SquareRoot.{squareRoot}
-use Rattle.enclosure.specs.Pi.{πBelow, πAbove, πEnds}
-use Rattle.enclosure.proofs.SquareRoot.{square-root}
-use Rattle.enclosure.proofs.Basics.{encloses-same, encloses-whole}
-use Rattle.enclosure.proofs.Sums.{encloses-sum, encloses-difference}
-use Rattle.enclosure.proofs.Products.{encloses-product}
-use Rattle.enclosure.proofs.Quotients.{encloses-quotient}
-use Rattle.enclosure.proofs.Multiples.{encloses-rounded}
-use Rattle.enclosure.proofs.Roots.{encloses-root}
-use Rattle.enclosure.proofs.Constants.{π-encloses}
+use Rattle.enclosure.{specs.{Enclosure.{Encloses}, SquareRoot.{squareRoot}, Pi.{πBelow, πAbove, πEnds}}, proofs.SquareRoot.{square-root}}
+use Rattle.enclosure.proofs.{Basics.{encloses-same, encloses-whole}, Sums.{encloses-sum, encloses-difference}, Products.{encloses-product}}
+use Rattle.enclosure.proofs.{Quotients.{encloses-quotient}, Multiples.{encloses-rounded}, Roots.{encloses-root}, Constants.{π-encloses}}
 use Rattle.exponential.proofs.Encloses.{power-encloses}
-use Rattle.case.specs.declared.Case.{Case}
-use Rattle.case.specs.Bounds.{Bounds}
+use Rattle.case.specs.{declared.Case.{Case}, Bounds.{Bounds}}
 use Rattle.formulas.specs.Decrement.{Ta, tf, Df}
 use Rattle.formulas.proofs.Decrement.{exponent, ratio, rest, offset, underRoot, two-pos, xr-pos, tf-pos, twice-pos, quantity-turns}
 use Rattle.formulas.proofs.Decrement.{quantity-Ta, quantity-ratio, quantity-exponent, consistent-power, consistent-rest, consistent-offset}
@@ -59,8 +35,7 @@ divide-pos q h = mul-pos h (inv-pos q)
 -- q/y times y
 undone : (q : Fraction) {y : Fraction} → whole 0 <f y → q ÷f y ·f y ≈f q
 unfolding _÷f_
-undone q {y} h =
-    trans≈ (mul-assoc q (inv y) y) (trans≈ (cong· (refl≈ q) (trans≈ (mul-comm (inv y) y) (mul-inv h))) (mul-one q))
+undone q {y} h = trans≈ (mul-assoc q (inv y) y) (trans≈ (cong· (refl≈ q) (trans≈ (mul-comm (inv y) y) (mul-inv h))) (mul-one q))
 
 -- p/(q/y) is (p/q) y
 double-divided : (p : Fraction) {q y : Fraction} → whole 0 <f q → whole 0 <f y → p ÷f (q ÷f y) ≈f (p ÷f q) ·f y

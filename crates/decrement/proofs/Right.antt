@@ -3,19 +3,12 @@ use Prim.Native.Nat.{ℕ, _+_, _≤_}
 use native.Mathlib.Omega.{arith}
 use lib.Dec.{lit≤}
 use Rattle.interval.specs.Operations.{natural}
-use Rattle.exact.specs.Fraction.{decimal, _+f_, neg, _−f_}
-use Rattle.exact.specs.Reported.{ten, over, reported, AtMost, Reports}
-use Rattle.enclosure.specs.Enclosure.{Encloses}
-use Rattle.enclosure.proofs.Reporting.{reports}
-use Rattle.case.specs.declared.Case.{Case}
-use Rattle.case.specs.Bounds.{Bounds}
-use Rattle.formulas.specs.Decrement.{Df}
-use Rattle.formulas.specs.Width.{billionths, factorWidth}
-use Rattle.formulas.proofs.Decrement.{consistent-Df}
+use Rattle.exact.specs.{Fraction.{decimal, _+f_, neg, _−f_}, Reported.{ten, over, reported, AtMost, Reports}}
+use Rattle.enclosure.{specs.Enclosure.{Encloses}, proofs.Reporting.{reports}}
+use Rattle.case.specs.{declared.Case.{Case}, Bounds.{Bounds}}
+use Rattle.formulas.{specs.{Decrement.{Df}, Width.{billionths, factorWidth}}, proofs.Decrement.{consistent-Df}}
 use Rattle.decrement.specs.Ends.{factorEnds}
-use Rattle.decrement.proofs.Enclosed.{factor-encloses}
-use Rattle.decrement.proofs.Spans.{exponent-span}
-use Rattle.decrement.proofs.Widths.{square-span, factor-span}
+use Rattle.decrement.proofs.{Enclosed.{factor-encloses}, Spans.{exponent-span}, Widths.{square-span, factor-span}}
 
 within-allowed : (a b : ℕ) → b ≤ a + 500 → AtMost (factorWidth (reported billionths (natural a b))) (reported billionths (natural a b))
 unfolding factorWidth billionths reported ten over natural decimal _+f_ _−f_ neg

@@ -1,30 +1,16 @@
 -- Sizes and widths of the exponent 2tf/Ta, of 2 over it, and of 1 − e^(−2tf/Ta).
 use Prim.Native.Nat.{ℕ, _+_, _-_, _*_, _/_, _^_, _≤_, _<_}
 use mathlib.Core.Path.{_≡_, sym, ap, _∙_}
-use native.Mathlib.Omega.{arith}
-use native.Mathlib.Nat.{mul-le-mul, mul-le-mul-right, le-of-suc-le-suc, lt-of-mul-lt-mul-right}
-use lib.Dec.{lit≤, lit<}
-use lib.IntN.{natAbs}
-use Rattle.interval.specs.declared.Interval.{Interval}
-use Rattle.interval.specs.Whole.{ceilDiv}
-use Rattle.interval.specs.Operations.{natural, outwardOf, scaledOf}
-use Rattle.interval.specs.Span.{Span, Relative}
-use Rattle.interval.specs.Wide.{Wide}
-use Rattle.interval.proofs.Natural.{point-natural, natural-difference, natural-scaled, natural-outward}
+use native.Mathlib.{Omega.{arith}, Nat.{mul-le-mul, mul-le-mul-right, le-of-suc-le-suc, lt-of-mul-lt-mul-right}}
+use lib.{Dec.{lit≤, lit<}, IntN.{natAbs}}
+use Rattle.interval.specs.{declared.Interval.{Interval}, Whole.{ceilDiv}, Operations.{natural, outwardOf, scaledOf}, Span.{Span, Relative}}
+use Rattle.interval.{specs.Wide.{Wide}, proofs.Natural.{point-natural, natural-difference, natural-scaled, natural-outward}}
 use Rattle.interval.proofs.Rounding.{floorDiv-above, ceilDiv-below, ceilDiv-above, ceilDiv-by}
-use Rattle.interval.proofs.Span.{span-wider, span-scaled, span-outward, span-quotient}
-use Rattle.interval.proofs.Negated.{span-difference}
-use Rattle.interval.proofs.Relatives.{relative-span}
-use Rattle.interval.proofs.WideProduct.{wide-fits}
-use Rattle.interval.proofs.Rules.{lits}
-use Rattle.interval.proofs.NumeralSpans.{numeral-point}
-use Rattle.enclosure.specs.Pi.{πBelow, πAbove, πEnds}
-use Rattle.enclosure.proofs.Constants.{π-span}
-use Rattle.exponential.specs.Ends.{billion, halvingsOf, endOf, expEnds, expPair}
-use Rattle.exponential.proofs.Sizes.{halvings-parts}
-use Rattle.exponential.proofs.Span.{exp-span}
-use Rattle.case.specs.declared.Case.{Case}
-use Rattle.case.specs.Bounds.{Between, Bounds}
+use Rattle.interval.proofs.{Span.{span-wider, span-scaled, span-outward, span-quotient}, Negated.{span-difference}}
+use Rattle.interval.proofs.{Relatives.{relative-span}, WideProduct.{wide-fits}, Rules.{lits}, NumeralSpans.{numeral-point}}
+use Rattle.enclosure.{specs.Pi.{πBelow, πAbove, πEnds}, proofs.Constants.{π-span}}
+use Rattle.exponential.{specs.Ends.{billion, halvingsOf, endOf, expEnds, expPair}, proofs.{Sizes.{halvings-parts}, Span.{exp-span}}}
+use Rattle.case.specs.{declared.Case.{Case}, Bounds.{Between, Bounds}}
 use Rattle.formulas.proofs.Decrement.{hz-bounds}
 use Rattle.decrement.specs.Ends.{exponentEnds, ratioEnds, restEnds}
 

@@ -1,23 +1,15 @@
 -- Sizes and widths of the decrement factor and of its square.
 use Prim.Native.Nat.{ℕ, zero, suc, _+_, _-_, _*_, _/_, _^_, _≤_, _<_}
 use mathlib.Core.Path.{_≡_, refl}
-use native.Mathlib.Omega.{arith}
-use native.Mathlib.Nat.{mul-le-mul, mul-le-mul-left, mul-le-mul-right, le-of-mul-le-mul-right, lt-of-not-le}
+use native.Mathlib.{Omega.{arith}, Nat.{mul-le-mul, mul-le-mul-left, mul-le-mul-right, le-of-mul-le-mul-right, lt-of-not-le}}
 use native.Mathlib.Decide.{decLe}
 use lib.Dec.{lit≤, lit<}
-use Rattle.interval.specs.Root.{IsRoot}
-use Rattle.interval.specs.Operations.{natural, productOf}
-use Rattle.interval.specs.Span.{Span}
-use Rattle.interval.proofs.Rounding.{floorDiv-above}
-use Rattle.interval.proofs.Span.{span-natural, span-sum, span-product}
-use Rattle.interval.proofs.Rules.{lits}
-use Rattle.interval.proofs.NumeralSpans.{numeral-point, numeral-wider}
-use Rattle.enclosure.specs.SquareRoot.{squareRoot}
-use Rattle.enclosure.proofs.SquareRoot.{square-root}
+use Rattle.interval.{specs.{Root.{IsRoot}, Operations.{natural, productOf}, Span.{Span}}, proofs.Rounding.{floorDiv-above}}
+use Rattle.interval.proofs.{Span.{span-natural, span-sum, span-product}, Rules.{lits}, NumeralSpans.{numeral-point, numeral-wider}}
+use Rattle.enclosure.{specs.SquareRoot.{squareRoot}, proofs.SquareRoot.{square-root}}
 use Rattle.exponential.specs.Ends.{billion, halvingsOf, argumentOf, nestedOf, seriesOf, inverseOf, squaredOf, endOf}
 use Rattle.exponential.proofs.Sizes.{halvings-reach, halvings-least, nested-size, series-least}
-use Rattle.case.specs.declared.Case.{Case}
-use Rattle.case.specs.Bounds.{Bounds}
+use Rattle.case.specs.{declared.Case.{Case}, Bounds.{Bounds}}
 use Rattle.decrement.specs.Ends.{ratioEnds, restEnds, squareEnds, factorEnds}
 use Rattle.decrement.proofs.Spans.{exponentLow, exponentHigh, ratioHigh, powerWidth, restHigh, low-to, low-high, ends-near}
 use Rattle.decrement.proofs.Spans.{ratio-high, ratio-most, ratio-span, power-width, rest-high-is, rest-high-span, rest-most}
@@ -27,8 +19,7 @@ use Rattle.decrement.proofs.Spans.{ratio-high, ratio-most, ratio-span, 
 -- its width: that of e^−q, w, grows with q as 2/q falls
 share-near : (a r w : ℕ) → a ≤ 2261946710880 → r * a < 2 * 10 ^ 18 + a → r ≤ 14147106094 → w * billion ≤ 31 * billion + 82 * a
     → billion * 207 + r * w ≤ 810 * billion
-share-near a r w h p q k =
-    le-of-mul-le-mul-right {k = billion} (omega (arith, h, p, q, mul-le-mul-left r k)) (lit< tt)
+share-near a r w h p q k = le-of-mul-le-mul-right {k = billion} (omega (arith, h, p, q, mul-le-mul-left r k)) (lit< tt)
 
 -- ---- its size
 
@@ -139,8 +130,7 @@ module _ {c : Case} (h : Bounds c) where
 
   pub square-span : Span (squareEnds c) billion 5000000009 811
   unfolding squareEnds
-  square-span =
-      numeral-wider (span-sum (numeral-point billion {l = billion} {h = billion} (lits tt)) product-span) (lits tt)
+  square-span = numeral-wider (span-sum (numeral-point billion {l = billion} {h = billion} (lits tt)) product-span) (lits tt)
 
   -- from 1 to √5, and at most 500 billionths wide
   pub factor-span : Span (factorEnds c) billion 2236068000 500

@@ -2,24 +2,12 @@
 use Prim.Native.Nat.{_^_}
 use mathlib.Core.Path.{refl}
 use lib.Dec.{lit≤}
-use Rattle.exact.specs.Exact.{exactly, _·x_}
-use Rattle.exact.specs.Depth.{workDepth, Consistent, SameEnds}
-use Rattle.exact.specs.Reported.{ten}
-use Rattle.exact.proofs.Consistency.{proper-at}
-use Rattle.exact.proofs.KnownEnds.{same-refl, same-trans}
-use Rattle.exact.proofs.Alike.{product-same}
-use Rattle.exact.proofs.Factors.{product-turned, product-grouped}
+use Rattle.exact.{specs.{Exact.{exactly, _·x_}, Depth.{workDepth, Consistent, SameEnds}, Reported.{ten}}, proofs.Consistency.{proper-at}}
+use Rattle.exact.proofs.{KnownEnds.{same-refl, same-trans}, Alike.{product-same}, Factors.{product-turned, product-grouped}}
 use Rattle.exact.proofs.Quantity.{quantity-product}
-use Rattle.enclosure.specs.Enclosure.{Encloses}
-use Rattle.enclosure.proofs.Basics.{encloses-same}
-use Rattle.enclosure.proofs.Sums.{encloses-times}
-use Rattle.enclosure.proofs.Products.{encloses-product}
-use Rattle.case.specs.declared.Case.{Case}
-use Rattle.case.specs.Bounds.{Bounds}
-use Rattle.formulas.specs.Lengths.{ρ, Ki}
-use Rattle.formulas.specs.Current.{IG}
-use Rattle.formulas.specs.Width.{μA}
-use Rattle.formulas.proofs.Quantities.{quantity-ρ, quantity-Ki, quantity-IG}
+use Rattle.enclosure.{specs.Enclosure.{Encloses}, proofs.{Basics.{encloses-same}, Sums.{encloses-times}, Products.{encloses-product}}}
+use Rattle.case.specs.{declared.Case.{Case}, Bounds.{Bounds}}
+use Rattle.formulas.{specs.{Lengths.{ρ, Ki}, Current.{IG}, Width.{μA}}, proofs.Quantities.{quantity-ρ, quantity-Ki, quantity-IG}}
 use Rattle.current.proofs.GridCurrent.{current-encloses}
 use Rattle.conductors.proofs.NumberEnclosed.{Ki-encloses}
 use Rattle.drive.specs.Ends.{soilCurrent, driveEnds}

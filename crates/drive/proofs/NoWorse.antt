@@ -2,12 +2,9 @@
 use Prim.Native.Nat.{ℕ, _*_, _≤_}
 use lib.Dec.{lit<}
 use Rattle.interval.proofs.Below.{Below, below-scaled, below-product}
-use Rattle.case.specs.declared.Case.{Case}
-use Rattle.case.specs.Bounds.{Bounds}
-use Rattle.case.specs.Eased.{eased}
+use Rattle.case.specs.{declared.Case.{Case}, Bounds.{Bounds}, Eased.{eased}}
 use Rattle.current.proofs.NoWorse.{current-below}
-use Rattle.conductors.proofs.NumberSpans.{Ki-span}
-use Rattle.conductors.proofs.NumberEnclosed.{counts}
+use Rattle.conductors.proofs.{NumberSpans.{Ki-span}, NumberEnclosed.{counts}}
 use Rattle.drive.specs.Ends.{soilCurrent, driveEnds}
 
 module _ {c : Case} (b : Bounds c) (fault split shock body : ℕ) (enters : fault * split ≤ c .fault * c .split) where

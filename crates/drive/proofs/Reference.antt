@@ -2,26 +2,16 @@
 -- is at most 1.24 of it.
 use Prim.Native.Nat.{ℕ, _+_, _*_, _^_, _≤_, _<_}
 use mathlib.Core.Path.{_≡_, ap}
-use native.Mathlib.Omega.{arith}
-use native.Mathlib.Nat.{le-trans, mul-le-mul-left, mul-le-mul-right, le-of-mul-le-mul-right}
-use lib.Dec.{lit<}
-use lib.IntN.{pos}
+use native.Mathlib.{Omega.{arith}, Nat.{le-trans, mul-le-mul-left, mul-le-mul-right, le-of-mul-le-mul-right}}
+use lib.{Dec.{lit<}, IntN.{pos}}
 use Rattle.interval.specs.Operations.{natural}
-use Rattle.exact.specs.Fraction.{Fraction, _≤f_, _≈f_, whole, decimal, _+f_, _·f_, inv, _÷f_}
-use Rattle.exact.specs.Ends.{Ends}
-use Rattle.exact.specs.Reported.{ten, over, reported, AtMost}
-use Rattle.exact.proofs.Order.{trans≤, le-of-lt, refl≈, sym≈, trans≈}
-use Rattle.exact.proofs.Sums.{cong+, mono+, le+}
-use Rattle.exact.proofs.Products.{mul-assoc, mul≤, mul-left≤, mul-nonneg, cong·}
+use Rattle.exact.specs.{Fraction.{Fraction, _≤f_, _≈f_, whole, decimal, _+f_, _·f_, inv, _÷f_}, Ends.{Ends}}
+use Rattle.exact.{specs.Reported.{ten, over, reported, AtMost}, proofs.Order.{trans≤, le-of-lt, refl≈, sym≈, trans≈}}
+use Rattle.exact.proofs.{Sums.{cong+, mono+, le+}, Products.{mul-assoc, mul≤, mul-left≤, mul-nonneg, cong·}}
 use Rattle.exact.proofs.Quotients.{clamped, inv-nonneg, div≤}
-use Rattle.case.specs.declared.Case.{Case}
-use Rattle.case.specs.Bounds.{Bounds}
-use Rattle.formulas.specs.Lengths.{ρ, na}
-use Rattle.formulas.specs.Width.{μA, referenceKi}
-use Rattle.formulas.proofs.Positive.{decimal-nonneg, ρ-pos, na-pos}
-use Rattle.conductors.specs.Counts.{spacings, halfPerimeter}
-use Rattle.conductors.proofs.Table.{number-known}
-use Rattle.conductors.proofs.NumberSpans.{half-bounds}
+use Rattle.case.specs.{declared.Case.{Case}, Bounds.{Bounds}}
+use Rattle.formulas.{specs.{Lengths.{ρ, na}, Width.{μA, referenceKi}}, proofs.Positive.{decimal-nonneg, ρ-pos, na-pos}}
+use Rattle.conductors.{specs.Counts.{spacings, halfPerimeter}, proofs.{Table.{number-known}, NumberSpans.{half-bounds}}}
 use Rattle.conductors.proofs.NumberEnclosed.{counts, na-is}
 use Rattle.current.specs.Ends.{currentEnds}
 use Rattle.drive.proofs.Spans.{currentLow, currentHigh, current-is, current-order, low, low-below}
@@ -99,8 +89,7 @@ module _ {c : Case} (b : Bounds c) where
 
     -- the width that document 02 allows, from a share of the lower end over the length and an extra
     pub reference-width : {q share extra : Fraction} {A : Ends} → whole 0 ≤f share → share ·f decimal 124 2 ≤f decimal 1 5
-        → extra ≤f decimal 10 3
-        → q ≤f over (pos (low b)) (ten 9) ÷f len → AtMost (share ·f q +f extra) A
+        → extra ≤f decimal 10 3 → q ≤f over (pos (low b)) (ten 9) ÷f len → AtMost (share ·f q +f extra) A
         → AtMost (decimal 1 5 ·f (ρ c ·f referenceKi c ·f reported μA (currentEnds c) .upper ÷f len) +f decimal 10 3) A
     unfolding reference
     reference-width {share = share} n s e h w =

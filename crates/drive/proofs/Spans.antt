@@ -1,28 +1,17 @@
 -- Sizes and width of ρ·Ki·IG.
 use Prim.Native.Nat.{ℕ, _+_, _*_, _/_, _^_, _≤_, _<_}
 use mathlib.Core.Path.{_≡_}
-use native.Mathlib.Omega.{arith}
-use native.Mathlib.Nat.{mul-le-mul, mul-le-mul-left, mul-le-mul-right}
+use native.Mathlib.{Omega.{arith}, Nat.{mul-le-mul, mul-le-mul-left, mul-le-mul-right}}
 use lib.Dec.{lit≤, lit<}
-use Rattle.interval.specs.Whole.{ceilDiv}
-use Rattle.interval.specs.Operations.{natural}
-use Rattle.interval.specs.Span.{Span}
-use Rattle.interval.specs.Wide.{Wide}
-use Rattle.interval.proofs.Rounding.{floorDiv-below, floorDiv-above, ceilDiv-below, ceilDiv-by}
-use Rattle.interval.proofs.Natural.{natural-scaled, natural-product}
-use Rattle.interval.proofs.Span.{floor≤ceil, span-natural, span-wider, span-scaled}
-use Rattle.interval.proofs.Relatives.{relative-ends, relative-span}
+use Rattle.interval.specs.{Whole.{ceilDiv}, Operations.{natural}, Span.{Span}, Wide.{Wide}}
+use Rattle.interval.proofs.{Rounding.{floorDiv-below, floorDiv-above, ceilDiv-below, ceilDiv-by}, Natural.{natural-scaled, natural-product}}
+use Rattle.interval.proofs.{Span.{floor≤ceil, span-natural, span-wider, span-scaled}, Relatives.{relative-ends, relative-span}}
 use Rattle.interval.proofs.WideProduct.{wide-fits}
-use Rattle.case.specs.declared.Case.{Case}
-use Rattle.case.specs.Bounds.{Bounds}
-use Rattle.current.proofs.GridCurrent.{current-span, current-relative}
+use Rattle.case.specs.{declared.Case.{Case}, Bounds.{Bounds}}
+use Rattle.current.{specs.Ends.{currentEnds}, proofs.GridCurrent.{current-span, current-relative}}
 use Rattle.lengths.specs.Lengths.{sideOf, conductorLength}
-use Rattle.conductors.specs.Counts.{spacings}
-use Rattle.conductors.specs.Number.{KiEnds}
-use Rattle.conductors.proofs.Table.{nLow, nHigh, number-known}
-use Rattle.conductors.proofs.NumberSpans.{Ki-is, Ki-span}
+use Rattle.conductors.{specs.{Counts.{spacings}, Number.{KiEnds}}, proofs.{Table.{nLow, nHigh, number-known}, NumberSpans.{Ki-is, Ki-span}}}
 use Rattle.conductors.proofs.NumberEnclosed.{counts}
-use Rattle.current.specs.Ends.{currentEnds}
 use Rattle.drive.specs.Ends.{numberOf, soilCurrent, driveEnds}
 
 -- Ki times ρ·IG, rounded to A and B: k x and l y, with Ki's ends k to l at most 1/31,000,000 apart and the current's at most 1/2,000,000

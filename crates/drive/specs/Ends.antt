@@ -1,7 +1,6 @@
 -- The ends of ρ·Ki·IG, which mesh and step voltage share, by whole-number intervals. Names for the free part: callers use their laws.
 use Prim.Native.Nat.{_^_}
-use Rattle.interval.specs.declared.Interval.{Interval}
-use Rattle.interval.specs.Operations.{scaledOf, productOf}
+use Rattle.interval.specs.{declared.Interval.{Interval}, Operations.{scaledOf, productOf}}
 use Rattle.case.specs.declared.Case.{Case}
 use Rattle.current.specs.Ends.{currentEnds}
 use Rattle.conductors.specs.Number.{nEnds, KiEnds}

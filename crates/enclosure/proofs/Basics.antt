@@ -1,17 +1,11 @@
 -- What an interval encloses by itself: fractions, a wider interval, another scale.
 use Prim.Native.Nat.{ℕ, _*_}
 use mathlib.Core.Path.{_≡_}
-use lib.IntN.{ℤ, pos}
-use lib.Dec.{lit≤}
-use lib.Signed.{_≤ℤ_}
-use Rattle.interval.specs.Operations.{point, outwardOf}
-use Rattle.interval.specs.declared.Interval.{Interval}
-use Rattle.exact.specs.Fraction.{Fraction, _≤f_, _≈f_, whole, decimal}
-use Rattle.exact.specs.Exact.{Exact, exactly, Holds}
-use Rattle.exact.specs.Depth.{workDepth, Consistent, Within, Proper, SameEnds}
-use Rattle.exact.specs.Reported.{Scale, ten, over, reported}
-use Rattle.exact.proofs.Consistency.{proper-at}
-use Rattle.exact.proofs.Holding.{holds-depth}
+use lib.{IntN.{ℤ, pos}, Dec.{lit≤}, Signed.{_≤ℤ_}}
+use Rattle.interval.specs.{Operations.{point, outwardOf}, declared.Interval.{Interval}}
+use Rattle.exact.specs.{Fraction.{Fraction, _≤f_, _≈f_, whole, decimal}, Exact.{Exact, exactly, Holds}}
+use Rattle.exact.specs.{Depth.{workDepth, Consistent, Within, Proper, SameEnds}, Reported.{Scale, ten, over, reported}}
+use Rattle.exact.proofs.{Consistency.{proper-at}, Holding.{holds-depth}}
 use Rattle.exact.proofs.Inclusion.{within-exactly, within-same, within-trans, proper-within}
 use Rattle.enclosure.specs.Enclosure.{Encloses}
 use Rattle.enclosure.proofs.Counts.{over-le, over-floor, over-ceil, whole-count, decimal-count}
@@ -61,5 +55,4 @@ module _ {x : Exact} {u : Scale} {i : Interval} (w : Scale) where
   -- in a unit den times as coarse
   pub encloses-outward : (den : ℕ) → w .count * den ≡ u .count → Encloses x u i → Encloses x w (outwardOf i den)
   unfolding reported outwardOf
-  encloses-outward den s e =
-      encloses-within (record { low = over-floor (i .lower) u w den s; high = over-ceil (i .upper) u w den s }) e
+  encloses-outward den s e = encloses-within (record { low = over-floor (i .lower) u w den s; high = over-ceil (i .upper) u w den s }) e

@@ -1,19 +1,10 @@
 -- π and √20, computed.
 use mathlib.Core.Path.{refl}
 use lib.Dec.{lit<, lit≤}
-use Rattle.interval.specs.Operations.{natural}
-use Rattle.interval.specs.Span.{Span}
-use Rattle.interval.proofs.Rules.{lits}
-use Rattle.interval.proofs.NumeralSpans.{numeral-natural}
-use Rattle.exact.specs.Fraction.{whole, top}
-use Rattle.exact.specs.Exact.{exactly}
-use Rattle.exact.specs.Root.{root}
-use Rattle.exact.specs.Pi.{π}
-use Rattle.exact.specs.Reported.{ten, over, reported}
-use Rattle.exact.proofs.Computed.{within-π}
-use Rattle.exact.proofs.Inclusion.{within-trans}
-use Rattle.enclosure.specs.Enclosure.{Encloses}
-use Rattle.enclosure.specs.Pi.{πBelow, πAbove, πEnds}
+use Rattle.interval.{specs.{Operations.{natural}, Span.{Span}}, proofs.{Rules.{lits}, NumeralSpans.{numeral-natural}}}
+use Rattle.exact.specs.{Fraction.{whole, top}, Exact.{exactly}, Root.{root}, Pi.{π}, Reported.{ten, over, reported}}
+use Rattle.exact.proofs.{Computed.{within-π}, Inclusion.{within-trans}}
+use Rattle.enclosure.specs.{Enclosure.{Encloses}, Pi.{πBelow, πAbove, πEnds}}
 use Rattle.enclosure.proofs.Roots.{encloses-root-of}
 
 -- in 10^-9

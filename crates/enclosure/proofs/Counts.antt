@@ -1,19 +1,12 @@
 -- Counts of one unit against counts of another: scaled, rounded down and rounded up.
 use Prim.Native.Nat.{ℕ, zero, suc, _*_, _<_}
 use mathlib.Core.Path.{_≡_, ap, sym, _∙_}
-use native.Mathlib.Omega.{arith}
-use native.Mathlib.Nat.{mul-le-mul-right, le-of-mul-le-mul-right}
-use lib.IntN.{ℤ, pos, _*ℤ_}
-use lib.Signed.{_≤ℤ_}
-use Rattle.interval.specs.Signed.{plus, minus}
-use Rattle.interval.specs.Whole.{floorZ, ceilZ}
-use Rattle.interval.proofs.Signed.{scale-plus, scale-minus, halves-le}
+use native.Mathlib.{Omega.{arith}, Nat.{mul-le-mul-right, le-of-mul-le-mul-right}}
+use lib.{IntN.{ℤ, pos, _*ℤ_}, Signed.{_≤ℤ_}}
+use Rattle.interval.{specs.{Signed.{plus, minus}, Whole.{floorZ, ceilZ}}, proofs.Signed.{scale-plus, scale-minus, halves-le}}
 use Rattle.interval.proofs.Rounding.{ceil-above}
-use Rattle.exact.specs.Fraction.{Fraction, _≤f_, _≈f_, whole, decimal, _·f_}
-use Rattle.exact.specs.Reported.{Scale, ten, over}
-use Rattle.exact.proofs.Order.{sym≈, trans≈}
-use Rattle.exact.proofs.Products.{cong·}
-use Rattle.exact.proofs.Reported.{scaleProduct, over-down, over-mul}
+use Rattle.exact.{specs.{Fraction.{Fraction, _≤f_, _≈f_, whole, decimal, _·f_}, Reported.{Scale, ten, over}}, proofs.Order.{sym≈, trans≈}}
+use Rattle.exact.proofs.{Products.{cong·}, Reported.{scaleProduct, over-down, over-mul}}
 
 -- the order of counts is that of their values
 pub over-le : {a b : ℤ} (u : Scale) → over a u ≤f over b u → a ≤ℤ b
@@ -42,12 +35,7 @@ module _ (z : ℤ) (u w : Scale) (m : ℕ) (e : w .count * m ≡ u .count) where
   unfolding over
   over-ceil =
       let q : ℤ = ceilZ z m in
-      omega (
-        arith,
-        mul-le-mul-right (w .count) (ceil-above z (factor-positive u w e)),
-        scaled (plus q),
-        scaled (minus q),
-      )
+      omega (arith, mul-le-mul-right (w .count) (ceil-above z (factor-positive u w e)), scaled (plus q), scaled (minus q))
 
 -- ---- fractions as counts: `q ≈f over (pos n) u`
 

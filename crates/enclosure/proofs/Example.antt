@@ -2,21 +2,12 @@
 use Prim.Native.Nat.{ℕ, _*_, _≤_}
 use mathlib.Core.Path.{refl}
 use native.Mathlib.Omega.{arith}
-use lib.IntN.{pos}
-use lib.Signed.{_≤ℤ_}
-use Rattle.interval.specs.Operations.{point, quotientOf}
-use Rattle.interval.specs.Root.{RootEnds}
-use Rattle.interval.specs.declared.Interval.{Interval}
-use Rattle.exact.specs.Fraction.{whole, decimal}
-use Rattle.exact.specs.Exact.{exactly, _÷x_}
-use Rattle.exact.specs.Root.{root}
-use Rattle.exact.specs.Reported.{ten}
-use Rattle.exact.proofs.Consistency.{consistent-exactly}
-use Rattle.exact.proofs.Roots.{consistent-root}
+use lib.{IntN.{pos}, Signed.{_≤ℤ_}}
+use Rattle.interval.specs.{Operations.{point, quotientOf}, Root.{RootEnds}, declared.Interval.{Interval}}
+use Rattle.exact.specs.{Fraction.{whole, decimal}, Exact.{exactly, _÷x_}, Root.{root}, Reported.{ten}}
+use Rattle.exact.proofs.{Consistency.{consistent-exactly}, Roots.{consistent-root}}
 use Rattle.enclosure.specs.Enclosure.{Encloses}
-use Rattle.enclosure.proofs.Basics.{encloses-whole, encloses-decimal}
-use Rattle.enclosure.proofs.Quotients.{encloses-quotient}
-use Rattle.enclosure.proofs.Roots.{encloses-sqrt-even}
+use Rattle.enclosure.proofs.{Basics.{encloses-whole, encloses-decimal}, Quotients.{encloses-quotient}, Roots.{encloses-sqrt-even}}
 
 module _ (n ms : ℕ) {i : Interval} (r : RootEnds (ms * 10000000000000) i) (p : pos 1 ≤ℤ i .lower) where
   seconds : Encloses (root 2 (exactly (decimal ms 3))) (ten 8) i

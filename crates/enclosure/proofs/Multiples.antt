@@ -2,21 +2,12 @@
 use Prim.Native.Nat.{ℕ, _*_}
 use mathlib.Core.Path.{_≡_, ap}
 use native.Mathlib.Omega.{arith}
-use lib.Dec.{lit≤}
-use lib.IntN.{ℤ, pos, _*ℤ_}
-use Rattle.interval.specs.Signed.{plus, minus}
-use Rattle.interval.specs.Operations.{scaledOf}
-use Rattle.interval.specs.declared.Interval.{Interval}
+use lib.{Dec.{lit≤}, IntN.{ℤ, pos, _*ℤ_}}
+use Rattle.interval.specs.{Signed.{plus, minus}, Operations.{scaledOf}, declared.Interval.{Interval}}
 use Rattle.interval.proofs.Signed.{scale-plus, scale-minus}
-use Rattle.exact.specs.Fraction.{Fraction, _≤f_, _≈f_, whole, _·f_}
-use Rattle.exact.specs.Exact.{Exact, exactly, _·x_}
-use Rattle.exact.specs.Depth.{workDepth, Consistent}
-use Rattle.exact.specs.Reported.{Scale, over, reported}
-use Rattle.exact.proofs.Order.{trans≤, refl≈, sym≈, trans≈}
-use Rattle.exact.proofs.Products.{mul-left≤, cong·}
-use Rattle.exact.proofs.Consistency.{proper-at}
-use Rattle.exact.proofs.Inclusion.{within-trans, within-same}
-use Rattle.exact.proofs.KnownEnds.{scaled-ends}
+use Rattle.exact.specs.{Fraction.{Fraction, _≤f_, _≈f_, whole, _·f_}, Exact.{Exact, exactly, _·x_}, Depth.{workDepth, Consistent}}
+use Rattle.exact.{specs.Reported.{Scale, over, reported}, proofs.{Order.{trans≤, refl≈, sym≈, trans≈}, Products.{mul-left≤, cong·}}}
+use Rattle.exact.proofs.{Consistency.{proper-at}, Inclusion.{within-trans, within-same}, KnownEnds.{scaled-ends}}
 use Rattle.enclosure.specs.Enclosure.{Encloses}
 
 over-multiple : (z : ℤ) (k : ℕ) (u v w : Scale) → w .count ≡ v .count * u .count → over (z *ℤ pos k) w ≈f over (pos k) v ·f over z u

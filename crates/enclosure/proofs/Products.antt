@@ -1,21 +1,11 @@
 -- Products: each product of ends is between the least and the greatest, and rounding outward keeps that.
 use Prim.Native.Nat.{ℕ, _*_}
 use mathlib.Core.Path.{_≡_}
-use lib.Dec.{lit≤}
-use lib.IntN.{ℤ, _*ℤ_}
-use lib.Signed.{_≤ℤ_}
-use Rattle.interval.specs.Operations.{cornersOf, productOf}
-use Rattle.interval.specs.declared.Interval.{Interval}
-use Rattle.interval.proofs.Corners.{corners-below, corners-above}
-use Rattle.exact.specs.Fraction.{_≤f_, _·f_}
-use Rattle.exact.specs.Ends.{_·e_}
-use Rattle.exact.specs.Exact.{Exact, _·x_}
-use Rattle.exact.specs.Depth.{Consistent, Within}
-use Rattle.exact.specs.Reported.{Scale, over, reported}
-use Rattle.exact.proofs.Order.{trans≤}
-use Rattle.exact.proofs.Outcomes.{lower-of, upper-of}
-use Rattle.exact.proofs.Inclusion.{within-product, within-trans}
-use Rattle.exact.proofs.Reported.{scaleProduct, over≤, over-mul}
+use lib.{Dec.{lit≤}, IntN.{ℤ, _*ℤ_}, Signed.{_≤ℤ_}}
+use Rattle.interval.{specs.{Operations.{cornersOf, productOf}, declared.Interval.{Interval}}, proofs.Corners.{corners-below, corners-above}}
+use Rattle.exact.specs.{Fraction.{_≤f_, _·f_}, Ends.{_·e_}, Exact.{Exact, _·x_}, Depth.{Consistent, Within}}
+use Rattle.exact.{specs.Reported.{Scale, over, reported}, proofs.{Order.{trans≤}, Outcomes.{lower-of, upper-of}}}
+use Rattle.exact.proofs.{Inclusion.{within-product, within-trans}, Reported.{scaleProduct, over≤, over-mul}}
 use Rattle.enclosure.specs.Enclosure.{Encloses}
 use Rattle.enclosure.proofs.Basics.{encloses-outward}
 

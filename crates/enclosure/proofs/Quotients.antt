@@ -1,29 +1,15 @@
 -- Quotients by an interval above 0: each quotient of ends is between the least and the greatest, rounded outward.
 use Prim.Native.Nat.{ℕ, _*_, _<_}
 use mathlib.Core.Path.{_≡_, sym, ap, _∙_, subst}
-use native.Mathlib.Omega.{arith}
-use native.Mathlib.Nat.{mul-le-mul-right}
-use lib.Dec.{lit≤}
-use lib.IntN.{ℤ, pos, natAbs, _*ℤ_}
-use lib.Signed.{_≤ℤ_, _<ℤ_, pos-natAbs}
-use Rattle.interval.specs.Signed.{plus, minus}
-use Rattle.interval.specs.Whole.{floorZ, ceilZ}
-use Rattle.interval.specs.Operations.{quotientOf, hullOf, outwardOf, scaledOf}
+use native.Mathlib.{Omega.{arith}, Nat.{mul-le-mul-right}}
+use lib.{Dec.{lit≤}, IntN.{ℤ, pos, natAbs, _*ℤ_}, Signed.{_≤ℤ_, _<ℤ_, pos-natAbs}}
+use Rattle.interval.specs.{Signed.{plus, minus}, Whole.{floorZ, ceilZ}, Operations.{quotientOf, hullOf, outwardOf, scaledOf}}
 use Rattle.interval.specs.declared.Interval.{Interval}
-use Rattle.interval.proofs.Signed.{scale-plus, scale-minus, le-halves, halves-le, halves-lt, floor-below}
-use Rattle.interval.proofs.Rounding.{ceil-above}
-use Rattle.interval.proofs.Choice.{≤ℤ-trans, min-left, min-right, max-left, max-right}
-use Rattle.interval.proofs.Sizes.{size-positive, positive-natural}
-use Rattle.exact.specs.Fraction.{_≤f_, _÷f_}
-use Rattle.exact.specs.Ends.{_÷e_}
-use Rattle.exact.specs.Exact.{Exact, _÷x_}
-use Rattle.exact.specs.Depth.{Consistent, Within}
-use Rattle.exact.specs.Reported.{Scale, over, reported}
-use Rattle.exact.proofs.Order.{trans≤}
-use Rattle.exact.proofs.Quotients.{div≤}
-use Rattle.exact.proofs.Outcomes.{lower-of, upper-of}
-use Rattle.exact.proofs.Inclusion.{within-quotient, within-trans}
-use Rattle.exact.proofs.Reported.{over≤, quotient-low, quotient-high, reported-positive}
+use Rattle.interval.proofs.{Signed.{scale-plus, scale-minus, le-halves, halves-le, halves-lt, floor-below}, Rounding.{ceil-above}}
+use Rattle.interval.proofs.{Choice.{≤ℤ-trans, min-left, min-right, max-left, max-right}, Sizes.{size-positive, positive-natural}}
+use Rattle.exact.specs.{Fraction.{_≤f_, _÷f_}, Ends.{_÷e_}, Exact.{Exact, _÷x_}, Depth.{Consistent, Within}}
+use Rattle.exact.{specs.Reported.{Scale, over, reported}, proofs.{Order.{trans≤}, Quotients.{div≤}, Outcomes.{lower-of, upper-of}}}
+use Rattle.exact.proofs.{Inclusion.{within-quotient, within-trans}, Reported.{over≤, quotient-low, quotient-high, reported-positive}}
 use Rattle.enclosure.specs.Enclosure.{Encloses}
 use Rattle.enclosure.proofs.Basics.{encloses-ordered}
 

@@ -1,10 +1,6 @@
 -- A pair that encloses a consistent value, and is no wider than allowed, is a right report of it.
 use Rattle.interval.specs.declared.Interval.{Interval}
-use Rattle.exact.specs.Fraction.{Fraction}
-use Rattle.exact.specs.Ends.{Ends}
-use Rattle.exact.specs.Exact.{Exact}
-use Rattle.exact.specs.Reported.{Scale, reported, AtMost, Reports}
-use Rattle.exact.specs.Depth.{Consistent}
+use Rattle.exact.specs.{Fraction.{Fraction}, Ends.{Ends}, Exact.{Exact}, Reported.{Scale, reported, AtMost, Reports}, Depth.{Consistent}}
 use Rattle.enclosure.specs.Enclosure.{Encloses}
 use Rattle.enclosure.proofs.Basics.{holds, encloses-ordered}
 

@@ -1,13 +1,8 @@
 -- The span of a square root's pair, by squares.
 use Prim.Native.Nat.{ℕ, _+_, _*_, _≤_, _<_}
 use mathlib.Core.Path.{refl}
-use native.Mathlib.Omega.{arith}
-use native.Mathlib.Nat.{le-trans, mul-le-mul}
-use native.Mathlib.Decide.{decLe}
-use Rattle.interval.specs.Root.{IsRoot}
-use Rattle.interval.specs.Span.{Span}
-use Rattle.interval.proofs.Below.{Below}
-use Rattle.interval.proofs.Span.{span-natural}
+use native.Mathlib.{Omega.{arith}, Nat.{le-trans, mul-le-mul}, Decide.{decLe}}
+use Rattle.interval.{specs.{Root.{IsRoot}, Span.{Span}}, proofs.{Below.{Below}, Span.{span-natural}}}
 use Rattle.enclosure.specs.SquareRoot.{squareRoot, rootPair}
 use Rattle.enclosure.proofs.SquareRoot.{square-root}
 

@@ -1,22 +1,11 @@
 -- Roots: by powers of the ends, and square roots by what `root_ends` gives.
 use Prim.Native.Nat.{ℕ, _+_, _*_, _^_, _≤_, _<_}
 use mathlib.Core.Path.{_≡_}
-use native.Mathlib.Omega.{arith}
-use native.Mathlib.Nat.{mul-le-mul-right}
-use lib.Dec.{lit≤}
-use lib.IntN.{pos}
-use Rattle.interval.specs.Operations.{natural, point}
-use Rattle.interval.specs.Root.{RootEnds}
-use Rattle.interval.specs.declared.Interval.{Interval}
-use Rattle.interval.proofs.Natural.{point-natural}
-use Rattle.exact.specs.Fraction.{Fraction, top}
-use Rattle.exact.specs.Exact.{Exact, exactly}
-use Rattle.exact.specs.Depth.{workDepth}
-use Rattle.exact.specs.Root.{root}
-use Rattle.exact.specs.Reported.{Scale, over, reported}
-use Rattle.exact.proofs.Powers.{square}
-use Rattle.exact.proofs.Inclusion.{within-refl}
-use Rattle.exact.proofs.Roots.{root-within}
+use native.Mathlib.{Omega.{arith}, Nat.{mul-le-mul-right}}
+use lib.{Dec.{lit≤}, IntN.{pos}}
+use Rattle.interval.{specs.{Operations.{natural, point}, Root.{RootEnds}, declared.Interval.{Interval}}, proofs.Natural.{point-natural}}
+use Rattle.exact.specs.{Fraction.{Fraction, top}, Exact.{Exact, exactly}, Depth.{workDepth}, Root.{root}, Reported.{Scale, over, reported}}
+use Rattle.exact.proofs.{Powers.{square}, Inclusion.{within-refl}, Roots.{root-within}}
 use Rattle.enclosure.specs.Enclosure.{Encloses}
 
 -- the numerator of a count
@@ -38,13 +27,11 @@ encloses-root n {x} u {v} a b lo hi m h fits low high e =
 
 -- of a fraction, by its own numbers
 pub encloses-root-of : (n : ℕ) (q : Fraction) (u : Scale) (lo hi m : ℕ) → 1 ≤ n → u .count * m ≡ 10 ^ workDepth
-    → lo ^ n * q .den ≤ u .count ^ n * top q → u .count ^ n * top q < hi ^ n * q .den
-    → Encloses (root n (exactly q)) u (natural lo hi)
+    → lo ^ n * q .den ≤ u .count ^ n * top q → u .count ^ n * top q < hi ^ n * q .den → Encloses (root n (exactly q)) u (natural lo hi)
 unfolding natural exactly
 encloses-root-of n q u lo hi m h fits low high =
     record {
-      within =
-          root-within n u lo hi {A = exactly q workDepth} h low (exactly q) workDepth m fits high (within-refl (exactly q workDepth));
+      within = root-within n u lo hi {A = exactly q workDepth} h low (exactly q) workDepth m fits high (within-refl (exactly q workDepth));
     }
 
 -- ---- square roots: t is u² · n / v rounded down, and i has the root of t and the next number

@@ -1,21 +1,15 @@
 -- The whole part of a square root is the only number with its two properties.
 use Prim.Native.Nat.{ℕ, _+_, _*_, _≤_, _<_}
 use mathlib.Core.Path.{_≡_, refl}
-use native.Mathlib.Omega.{arith}
-use native.Mathlib.Nat.{mul-le-mul}
-use native.Mathlib.Decide.{decLt}
-use Rattle.interval.specs.declared.Interval.{Interval}
-use Rattle.interval.specs.Root.{IsRoot, RootEnds}
+use native.Mathlib.{Omega.{arith}, Nat.{mul-le-mul}, Decide.{decLt}}
+use Rattle.interval.specs.{declared.Interval.{Interval}, Root.{IsRoot, RootEnds}}
 use Rattle.exact.proofs.Greatest.{greatest-holds, greatest-next}
 use Rattle.enclosure.specs.SquareRoot.{squareRoot, rootPair}
 
 pub square-root : (x : ℕ) → IsRoot x (squareRoot x)
 unfolding squareRoot
 square-root x =
-    record {
-      low = greatest-holds (λ r. r * r) x x (omega arith);
-      high = omega (arith, greatest-next (λ r. r * r) x x (omega arith));
-    }
+    record { low = greatest-holds (λ r. r * r) x x (omega arith); high = omega (arith, greatest-next (λ r. r * r) x x (omega arith)) }
 
 -- two roots of one number
 root-unique : {x r s : ℕ} → IsRoot x r → IsRoot x s → r ≡ s

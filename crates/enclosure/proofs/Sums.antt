@@ -1,22 +1,14 @@
 -- Sums, differences and whole multiples.
 use Prim.Native.Nat.{ℕ}
 use lib.Dec.{lit≤}
-use Rattle.interval.specs.Operations.{sumOf, differenceOf, minusOf, scaledOf}
-use Rattle.interval.specs.declared.Interval.{Interval}
-use Rattle.exact.specs.Fraction.{whole}
-use Rattle.exact.specs.Ends.{minusEnds}
-use Rattle.exact.specs.Exact.{Exact, exactly, _+x_, _−x_, _·x_}
-use Rattle.exact.specs.Depth.{workDepth, Consistent, Within}
-use Rattle.exact.specs.Reported.{Scale, reported}
-use Rattle.exact.proofs.Order.{trans≤, nonneg}
-use Rattle.exact.proofs.Products.{mul-left≤}
-use Rattle.exact.proofs.Consistency.{proper-at}
+use Rattle.interval.specs.{Operations.{sumOf, differenceOf, minusOf, scaledOf}, declared.Interval.{Interval}}
+use Rattle.exact.specs.{Fraction.{whole}, Ends.{minusEnds}, Exact.{Exact, exactly, _+x_, _−x_, _·x_}, Depth.{workDepth, Consistent, Within}}
+use Rattle.exact.{specs.Reported.{Scale, reported}, proofs.{Order.{trans≤, nonneg}, Products.{mul-left≤}, Consistency.{proper-at}}}
 use Rattle.exact.proofs.Inclusion.{within-sum, within-difference, within-trans, within-same}
 use Rattle.exact.proofs.KnownEnds.{sumEnds, differenceEnds, sum-ends, difference-ends, scaled-ends}
 use Rattle.exact.proofs.Reported.{over-neg, over-sum, over-difference}
 use Rattle.enclosure.specs.Enclosure.{Encloses}
-use Rattle.enclosure.proofs.Counts.{over-times}
-use Rattle.enclosure.proofs.Basics.{encloses-proper}
+use Rattle.enclosure.proofs.{Counts.{over-times}, Basics.{encloses-proper}}
 
 module _ (u : Scale) (a b : Interval) where
   sum-within : Within (sumEnds (reported u a) (reported u b)) (reported u (sumOf a b))
@@ -25,8 +17,7 @@ module _ (u : Scale) (a b : Interval) where
 
   difference-within : Within (differenceEnds (reported u a) (reported u b)) (reported u (differenceOf a b))
   unfolding reported differenceOf
-  difference-within =
-      record { low = over-difference (a .lower) (b .upper) u .to; high = over-difference (a .upper) (b .lower) u .fro }
+  difference-within = record { low = over-difference (a .lower) (b .upper) u .to; high = over-difference (a .upper) (b .lower) u .fro }
 
 module _ {x y : Exact} {u : Scale} {a b : Interval} (cx : Consistent x) (cy : Consistent y) (ex : Encloses x u a)
     (ey : Encloses y u b) where

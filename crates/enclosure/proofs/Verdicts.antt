@@ -1,11 +1,7 @@
 -- Which of two values is above, by two intervals of one unit; and how far apart the reported ends are.
-use lib.Dec.{lit≤}
-use lib.Signed.{_≤ℤ_, _<ℤ_}
+use lib.{Dec.{lit≤}, Signed.{_≤ℤ_, _<ℤ_}}
 use Rattle.interval.specs.declared.Interval.{Interval}
-use Rattle.exact.specs.Exact.{Exact, Above, AtOrBelow}
-use Rattle.exact.specs.Depth.{Consistent}
-use Rattle.exact.specs.Reported.{Scale, reported}
-use Rattle.exact.proofs.Reported.{over≤, over<}
+use Rattle.exact.{specs.{Exact.{Exact, Above, AtOrBelow}, Depth.{Consistent}, Reported.{Scale, reported}}, proofs.Reported.{over≤, over<}}
 use Rattle.exact.proofs.Verdict.{at-or-below, above}
 use Rattle.enclosure.specs.Enclosure.{Encloses}
 use Rattle.enclosure.proofs.Basics.{holds}

@@ -1,7 +1,6 @@
 -- The ends of π in 10^−9.
 use Prim.Native.Nat.{ℕ}
-use Rattle.interval.specs.declared.Interval.{Interval}
-use Rattle.interval.specs.Operations.{natural}
+use Rattle.interval.specs.{declared.Interval.{Interval}, Operations.{natural}}
 
 -- rounded down and up
 abbrev pub πBelow : ℕ

@@ -1,7 +1,6 @@
 -- The whole part of a square root, and the pair of it and the next number.
 use Prim.Native.Nat.{ℕ, _+_, _*_}
-use Rattle.interval.specs.declared.Interval.{Interval}
-use Rattle.interval.specs.Operations.{natural}
+use Rattle.interval.specs.{declared.Interval.{Interval}, Operations.{natural}}
 use Rattle.exact.specs.Root.{greatestBelow}
 
 -- the greatest number whose square is not above x

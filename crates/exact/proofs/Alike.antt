@@ -1,17 +1,10 @@
 -- Operations on pairs with the same ends have the same ends; a quotient is a product by the inverse pair. All rests on one test: a pair
 -- that has each outcome among its points includes the combination.
-use Rattle.exact.specs.Fraction.{Fraction, _≤f_, _≈f_, _+f_, _·f_, inv, _÷f_}
-use Rattle.exact.specs.Ends.{Ends, combine, _+e_, _·e_, _÷e_}
+use Rattle.exact.specs.{Fraction.{Fraction, _≤f_, _≈f_, _+f_, _·f_, inv, _÷f_}, Ends.{Ends, combine, _+e_, _·e_, _÷e_}}
 use Rattle.exact.specs.Depth.{Within, Proper, Positive, SameEnds}
-use Rattle.exact.proofs.Order.{lt-of-lt-of-le}
-use Rattle.exact.proofs.Outcomes.{Outcomes, lower≤, ≤upper, lower-of, upper-of}
-use Rattle.exact.proofs.Sums.{cong+}
-use Rattle.exact.proofs.Products.{cong·}
-use Rattle.exact.proofs.Quotients.{inv≤}
-use Rattle.exact.proofs.Divisors.{inv-cong}
-use Rattle.exact.proofs.Points.{Point, point-same}
-use Rattle.exact.proofs.Inclusion.{same-within}
-use Rattle.exact.proofs.KnownEnds.{same-sym, same-trans}
+use Rattle.exact.proofs.{Order.{lt-of-lt-of-le}, Outcomes.{Outcomes, lower≤, ≤upper, lower-of, upper-of}, Sums.{cong+}}
+use Rattle.exact.proofs.{Products.{cong·}, Quotients.{inv≤}, Divisors.{inv-cong}, Points.{Point, point-same}}
+use Rattle.exact.proofs.{Inclusion.{same-within}, KnownEnds.{same-sym, same-trans}}
 
 -- ---- outcomes as points
 

@@ -2,10 +2,8 @@
 use Prim.Native.Nat.{ℕ, zero, suc, _+_, _*_}
 use mathlib.Core.Path.{_≡_, refl}
 use native.Mathlib.Omega.{arith}
-use Rattle.exact.specs.Fraction.{Fraction, _≤f_, whole, _−f_}
-use Rattle.exact.specs.Pi.{alternating}
-use Rattle.exact.proofs.Order.{refl≤, trans≤}
-use Rattle.exact.proofs.Sums.{mono−, minus≤, sub-nonneg}
+use Rattle.exact.specs.{Fraction.{Fraction, _≤f_, whole, _−f_}, Pi.{alternating}}
+use Rattle.exact.proofs.{Order.{refl≤, trans≤}, Sums.{mono−, minus≤, sub-nonneg}}
 
 double : ℕ → ℕ
 double zero = zero
@@ -45,8 +43,7 @@ doubles-cross : (t : ℕ → Fraction) → Falls t → (j k : ℕ) → alternati
 unfolding alternating double
 doubles-cross t h zero k = alternating-nonneg t h (suc (double k))
 doubles-cross t h (suc j) zero = mono− (refl≤ (t 0)) (alternating-nonneg (λ i. t (suc i)) (later h) (suc (double j)))
-doubles-cross t h (suc j) (suc k) =
-    mono− (refl≤ (t 0)) (mono− (refl≤ (t 1)) (doubles-cross (λ i. t (suc (suc i))) (later (later h)) j k))
+doubles-cross t h (suc j) (suc k) = mono− (refl≤ (t 0)) (mono− (refl≤ (t 1)) (doubles-cross (λ i. t (suc (suc i))) (later (later h)) j k))
 
 module _ (t : ℕ → Fraction) (h : Falls t) where
   pub alternating-cross : (j k : ℕ) → alternating t (2 * j) ≤f alternating t (2 * k + 1)

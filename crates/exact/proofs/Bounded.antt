@@ -2,21 +2,12 @@
 -- quotients.
 use Prim.Native.Nat.{ℕ, suc, _-_, _*_, _^_, _≤_, _<_}
 use mathlib.Core.Path.{_≡_, ap, _∙_}
-use native.Mathlib.Omega.{arith}
-use native.Mathlib.Nat.{pow-suc}
+use native.Mathlib.{Omega.{arith}, Nat.{pow-suc}}
 use lib.IntN.{pos}
-use Rattle.exact.specs.Fraction.{Fraction, _≤f_, whole, _·f_, _÷f_, top}
-use Rattle.exact.specs.Exact.{Exact, exactly, _·x_, _÷x_}
-use Rattle.exact.specs.Root.{root}
-use Rattle.exact.specs.Depth.{Consistent, PositiveAt}
-use Rattle.exact.specs.Reported.{ten, over}
-use Rattle.exact.proofs.Order.{trans≤}
-use Rattle.exact.proofs.Products.{mul-left≤}
-use Rattle.exact.proofs.Quotients.{mono÷}
-use Rattle.exact.proofs.Consistency.{proper-at}
-use Rattle.exact.proofs.KnownEnds.{scaled-ends, quotient-ends}
-use Rattle.exact.proofs.RootDigits.{not-above-lower, upper-not-above}
-use Rattle.exact.proofs.Roots.{growing-root}
+use Rattle.exact.specs.{Fraction.{Fraction, _≤f_, whole, _·f_, _÷f_, top}, Exact.{Exact, exactly, _·x_, _÷x_}, Root.{root}}
+use Rattle.exact.specs.{Depth.{Consistent, PositiveAt}, Reported.{ten, over}}
+use Rattle.exact.proofs.{Order.{trans≤}, Products.{mul-left≤}, Quotients.{mono÷}, Consistency.{proper-at}}
+use Rattle.exact.proofs.{KnownEnds.{scaled-ends, quotient-ends}, RootDigits.{not-above-lower, upper-not-above}, Roots.{growing-root}}
 use Rattle.exact.proofs.Positive.{positive-upper, AtLeast}
 
 -- a value whose upper ends are all at most a
@@ -28,12 +19,10 @@ pub record NotAbove (a : Fraction) (x : Exact) : Type 0 where
 pub not-above-times : {a : Fraction} {x : Exact} (q : Fraction) → whole 0 ≤f q → Consistent x → NotAbove a x
     → NotAbove (q ·f a) (exactly q ·x x)
 unfolding _·x_
-not-above-times q n c l =
-    record { most = λ k d. trans≤ (scaled-ends k n (proper-at c d) .uppers .to) (mul-left≤ n (l .most k d)) }
+not-above-times q n c l = record { most = λ k d. trans≤ (scaled-ends k n (proper-at c d) .uppers .to) (mul-left≤ n (l .most k d)) }
 
 pub at-least-quotient : {a b : Fraction} {x y : Exact} → whole 0 ≤f a → Consistent x → Consistent y → PositiveAt y → AtLeast a x
-    → NotAbove b y
-    → AtLeast (a ÷f b) (x ÷x y)
+    → NotAbove b y → AtLeast (a ÷f b) (x ÷x y)
 unfolding _÷x_
 at-least-quotient n cx cy p l m =
     record {

@@ -3,10 +3,8 @@
 use Prim.Native.Nat.{ℕ, _≤_}
 use Rattle.exact.specs.Fraction.{Fraction, _≤f_, _+f_, _−f_, _·f_, _÷f_, maxf}
 use Rattle.exact.specs.Ends.{Ends, combine, _+e_, _−e_, _·e_, _÷e_, minusEnds}
-use Rattle.exact.specs.Exact.{Exact, exactly, _+x_, _−x_, _·x_, _÷x_, minus}
-use Rattle.exact.specs.Depth.{Consistent, Proper, PositiveAt}
-use Rattle.exact.proofs.Order.{refl≤, trans≤, max-left, max-right, max-cases}
-use Rattle.exact.proofs.Sums.{neg≤}
+use Rattle.exact.specs.{Exact.{Exact, exactly, _+x_, _−x_, _·x_, _÷x_, minus}, Depth.{Consistent, Proper, PositiveAt}}
+use Rattle.exact.proofs.{Order.{refl≤, trans≤, max-left, max-right, max-cases}, Sums.{neg≤}}
 use Rattle.exact.proofs.Points.{Point, Pointwise, sum-point, difference-point, product-point, quotient-point}
 
 pub record Common (A B : Ends) : Type 0 where

@@ -1,9 +1,7 @@
 -- The greatest number at which a function is not above a limit: it is such a number, and the next one is not.
 use Prim.Native.Nat.{ℕ, zero, suc, _≤_, _<_}
 use mathlib.Core.Path.{_≡_}
-use native.Mathlib.Omega.{arith}
-use native.Mathlib.Nat.{lt-of-not-le, lt-of-le-of-lt}
-use native.Mathlib.Decide.{decLe}
+use native.Mathlib.{Omega.{arith}, Nat.{lt-of-not-le, lt-of-le-of-lt}, Decide.{decLe}}
 use Rattle.exact.specs.Root.{greatestBelow}
 use Rattle.exact.proofs.Order.{choose-cases}
 
@@ -11,8 +9,7 @@ module _ (f : ℕ → ℕ) (limit : ℕ) where
   pub greatest-holds : (most : ℕ) → f 0 ≤ limit → f (greatestBelow f limit most) ≤ limit
   unfolding greatestBelow
   greatest-holds zero h = h
-  greatest-holds (suc most) h =
-      choose-cases (λ r. f r ≤ limit) (decLe (f (suc most)) limit) (λ l. l) (λ _. greatest-holds most h)
+  greatest-holds (suc most) h = choose-cases (λ r. f r ≤ limit) (decLe (f (suc most)) limit) (λ l. l) (λ _. greatest-holds most h)
 
   pub greatest-next : (most : ℕ) → limit < f (suc most) → limit < f (suc (greatestBelow f limit most))
   unfolding greatestBelow

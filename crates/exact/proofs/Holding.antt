@@ -1,21 +1,16 @@
 -- Pairs that hold a value: what holds the parts of a formula, combined, holds the whole.
 use Prim.Native.Nat.{ℕ, _≤_}
-use Rattle.exact.specs.Fraction.{Fraction, _+f_, _÷f_}
-use Rattle.exact.specs.Ends.{Ends, combine, _+e_, _÷e_}
-use Rattle.exact.specs.Exact.{Exact, exactly, _+x_, _÷x_, Holds}
+use Rattle.exact.specs.{Fraction.{Fraction, _+f_, _÷f_}, Ends.{Ends, combine, _+e_, _÷e_}, Exact.{Exact, exactly, _+x_, _÷x_, Holds}}
 use Rattle.exact.specs.Depth.{Consistent, Within, Proper, Positive, PositiveAt}
-use Rattle.exact.proofs.Order.{trans≤}
-use Rattle.exact.proofs.Points.{Point, Pointwise, sum-point, quotient-point}
+use Rattle.exact.proofs.{Order.{trans≤}, Points.{Point, Pointwise, sum-point, quotient-point}}
 use Rattle.exact.proofs.Consistency.{Common, common, common-left, common-right, common-combine, proper-at}
 
 pub holds-wider : {A B : Ends} {x : Exact} → Within A B → Holds A x → Holds B x
-holds-wider w h =
-    record { left = λ k d. trans≤ (w .low) (h .left k d); right = λ k d. trans≤ (h .right k d) (w .high) }
+holds-wider w h = record { left = λ k d. trans≤ (w .low) (h .left k d); right = λ k d. trans≤ (h .right k d) (w .high) }
 
 -- the ends at one depth, and so any wider pair, hold a consistent value
 pub holds-depth : {x : Exact} {K : ℕ} {A : Ends} → Consistent x → 3 ≤ K → Within (x K) A → Holds A x
-holds-depth {K = K} c d w =
-    holds-wider w (record { left = λ k h. c .agree K k d h; right = λ k h. c .agree k K h d })
+holds-depth {K = K} c d w = holds-wider w (record { left = λ k h. c .agree K k d h; right = λ k h. c .agree k K h d })
 
 pub holds-exactly : {q : Fraction} {A : Ends} → Point q A → Holds A (exactly q)
 unfolding exactly

@@ -1,14 +1,9 @@
 -- Which outcomes the least and the greatest are, where the order of the ends or their signs are known.
 use Prim.Native.Nat.{ℕ}
-use Rattle.exact.specs.Fraction.{Fraction, _≤f_, whole, _+f_, _−f_, _·f_, inv, _÷f_}
-use Rattle.exact.specs.Ends.{Ends, combine, _+e_, _−e_, _·e_, _÷e_}
-use Rattle.exact.specs.Exact.{exactly}
-use Rattle.exact.specs.Depth.{Proper, Positive, SameEnds}
-use Rattle.exact.proofs.Order.{refl≤, trans≤, refl≈, sym≈, trans≈}
-use Rattle.exact.proofs.Outcomes.{Outcomes, lower≤, ≤upper, lower-of, upper-of}
-use Rattle.exact.proofs.Sums.{mono+, mono−, cong+, cong−}
-use Rattle.exact.proofs.Products.{mul≤, mul-left≤}
-use Rattle.exact.proofs.Quotients.{inv≤, inv-nonneg}
+use Rattle.exact.specs.{Fraction.{Fraction, _≤f_, whole, _+f_, _−f_, _·f_, inv, _÷f_}, Ends.{Ends, combine, _+e_, _−e_, _·e_, _÷e_}}
+use Rattle.exact.specs.{Exact.{exactly}, Depth.{Proper, Positive, SameEnds}}
+use Rattle.exact.proofs.{Order.{refl≤, trans≤, refl≈, sym≈, trans≈}, Outcomes.{Outcomes, lower≤, ≤upper, lower-of, upper-of}}
+use Rattle.exact.proofs.{Sums.{mono+, mono−, cong+, cong−}, Products.{mul≤, mul-left≤}, Quotients.{inv≤, inv-nonneg}}
 
 pub same-refl : (A : Ends) → SameEnds A A
 same-refl A = record { lowers = refl≈ (A .lower); uppers = refl≈ (A .upper) }
@@ -88,15 +83,13 @@ module _ {A B : Ends} (pa : Proper A) (pb : Proper B) where
       second : (a : Fraction) → a −f B .upper ≤f a −f B .lower
       second a = mono− (refl≤ a) (pb .proper)
 
-  pub product-ends : whole 0 ≤f A .lower → whole 0 ≤f B .lower
-      → SameEnds (A ·e B) (productEnds A B)
+  pub product-ends : whole 0 ≤f A .lower → whole 0 ≤f B .lower → SameEnds (A ·e B) (productEnds A B)
   unfolding _·e_
   product-ends na nb =
       rising-ends _·f_ A B (mul-left≤ na (pb .proper)) (mul≤ (trans≤ nb (pb .proper)) (pa .proper)) (mul≤ nb (pa .proper))
       (mul-left≤ (trans≤ na (pa .proper)) (pb .proper))
 
-  pub quotient-ends : whole 0 ≤f A .lower → Positive B
-      → SameEnds (A ÷e B) (quotientEnds A B)
+  pub quotient-ends : whole 0 ≤f A .lower → Positive B → SameEnds (A ÷e B) (quotientEnds A B)
   unfolding _÷e_ _÷f_
   quotient-ends na p =
       let i : inv (B .upper) ≤f inv (B .lower) = inv≤ (p .positive) (pb .proper) in
@@ -104,8 +97,7 @@ module _ {A B : Ends} (pa : Proper A) (pb : Proper B) where
       (mul-left≤ (trans≤ na (pa .proper)) i)
 
 -- q times any pair, for q not negative
-pub scaled-ends : {q : Fraction} {B : Ends} (k : ℕ) → whole 0 ≤f q → Proper B
-    → SameEnds (exactly q k ·e B) (scaledEnds q B)
+pub scaled-ends : {q : Fraction} {B : Ends} (k : ℕ) → whole 0 ≤f q → Proper B → SameEnds (exactly q k ·e B) (scaledEnds q B)
 unfolding _·e_ exactly
 scaled-ends {q} {B} k nq pb =
     rising-ends _·f_ (record { lower = q; upper = q }) B (mul-left≤ nq (pb .proper)) (refl≤ _) (refl≤ _) (mul-left≤ nq (pb .proper))

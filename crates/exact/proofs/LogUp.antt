@@ -1,22 +1,13 @@
 -- ln q for q ≥ 1, which is m ln 2 + ln (q / 2^m): not negative, growing with q across the halvings, and consistent.
 use Prim.Native.Nat.{ℕ, _^_, _<_}
-use mathlib.Core.Path.{_≡_}
-use mathlib.Core.Logic.{_⊎_, inl, inr}
-use native.Mathlib.Omega.{arith}
-use native.Mathlib.Nat.{eq-or-lt-of-le}
-use Rattle.exact.specs.Fraction.{Fraction, _≤f_, whole, _+f_, _·f_, _÷f_}
-use Rattle.exact.specs.Ends.{_·e_}
-use Rattle.exact.specs.Exact.{exactly, _+x_, _·x_}
-use Rattle.exact.specs.Logarithm.{lnNear, halvings, lnUp}
-use Rattle.exact.specs.Depth.{Consistent, Proper, SameEnds}
-use Rattle.exact.proofs.Order.{refl≤, trans≤, whole≤, nonneg}
-use Rattle.exact.proofs.Sums.{mono+, le+}
-use Rattle.exact.proofs.Products.{mul≤, mul-nonneg, suc-times}
-use Rattle.exact.proofs.Quotients.{div≤}
-use Rattle.exact.proofs.Consistency.{consistent-exactly, consistent-sum, consistent-product}
+use mathlib.Core.{Path.{_≡_}, Logic.{_⊎_, inl, inr}}
+use native.Mathlib.{Omega.{arith}, Nat.{eq-or-lt-of-le}}
+use Rattle.exact.specs.{Fraction.{Fraction, _≤f_, whole, _+f_, _·f_, _÷f_}, Ends.{_·e_}, Exact.{exactly, _+x_, _·x_}}
+use Rattle.exact.specs.{Logarithm.{lnNear, halvings, lnUp}, Depth.{Consistent, Proper, SameEnds}}
+use Rattle.exact.proofs.{Order.{refl≤, trans≤, whole≤, nonneg}, Sums.{mono+, le+}, Products.{mul≤, mul-nonneg, suc-times}}
+use Rattle.exact.proofs.{Quotients.{div≤}, Consistency.{consistent-exactly, consistent-sum, consistent-product}}
 use Rattle.exact.proofs.KnownEnds.{sumEnds, scaledEnds, same-refl, same-trans, same-sum, sum-ends, scaled-ends, scaled-proper}
-use Rattle.exact.proofs.Growing.{Rises, nought}
-use Rattle.exact.proofs.LogArgument.{near-rises, near-proper, near-nonneg, consistent-near}
+use Rattle.exact.proofs.{Growing.{Rises, nought}, LogArgument.{near-rises, near-proper, near-nonneg, consistent-near}}
 use Rattle.exact.proofs.Halvings.{halvings≤, reduced-low, reduced-high}
 
 one≤two : whole 1 ≤f whole 2

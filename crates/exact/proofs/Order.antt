@@ -3,8 +3,7 @@ use Prim.Native.Nat.{ℕ, _≤_, _<_}
 use mathlib.Core.Logic.{_⊎_, inl, inr}
 use native.Mathlib.Omega.{arith}
 use native.Mathlib.Nat.{mul-le-mul-right, mul-lt-mul-of-pos-right, le-of-mul-le-mul-right, lt-of-mul-lt-mul-right, lt-of-not-le}
-use Rattle.exact.specs.Fraction.{Fraction, _≤f_, _<f_, _≈f_, whole, decLef, choose, minf, maxf}
-use Rattle.exact.specs.Ends.{least, greatest}
+use Rattle.exact.specs.{Fraction.{Fraction, _≤f_, _<f_, _≈f_, whole, decLef, choose, minf, maxf}, Ends.{least, greatest}}
 
 pub refl≤ : (a : Fraction) → a ≤f a
 refl≤ a = omega arith
@@ -107,13 +106,11 @@ pub record Each (P : Fraction → Type 0) (a b c d : Fraction) : Type 0 where
 module _ (P : Fraction → Type 0) {a b c d : Fraction} (e : Each P a b c d) where
   pub least-of : P (least a b c d)
   unfolding least
-  least-of =
-      min-cases P (λ h. min-cases P (λ h. e .first) (λ h. e .second)) (λ h. min-cases P (λ h. e .third) (λ h. e .fourth))
+  least-of = min-cases P (λ h. min-cases P (λ h. e .first) (λ h. e .second)) (λ h. min-cases P (λ h. e .third) (λ h. e .fourth))
 
   pub greatest-of : P (greatest a b c d)
   unfolding greatest
-  greatest-of =
-      max-cases P (λ h. max-cases P (λ h. e .first) (λ h. e .second)) (λ h. max-cases P (λ h. e .third) (λ h. e .fourth))
+  greatest-of = max-cases P (λ h. max-cases P (λ h. e .first) (λ h. e .second)) (λ h. max-cases P (λ h. e .third) (λ h. e .fourth))
 
 module _ (a b c d : Fraction) where
   pub least≤ : Each (λ o. least a b c d ≤f o) a b c d

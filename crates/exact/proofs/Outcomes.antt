@@ -1,6 +1,5 @@
 -- The four outcomes of an operation on the ends of two pairs, of which a combination's ends are the least and the greatest.
-use Rattle.exact.specs.Fraction.{Fraction, _≤f_}
-use Rattle.exact.specs.Ends.{Ends, combine}
+use Rattle.exact.specs.{Fraction.{Fraction, _≤f_}, Ends.{Ends, combine}}
 use Rattle.exact.proofs.Order.{Each, least≤, ≤greatest, least-of, greatest-of}
 
 -- a property of each outcome: lower and lower, lower and upper, upper and lower, upper and upper

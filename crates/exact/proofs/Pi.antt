@@ -1,16 +1,10 @@
 -- π: consistent, and positive at every depth.
 use Prim.Native.Nat.{ℕ, zero, suc, _+_, _*_, _^_, _≤_, _<_}
-use native.Mathlib.Omega.{arith}
-use native.Mathlib.Nat.{mul-le-mul, pow-le-pow-right, one-le-pow, mul-pos}
+use native.Mathlib.{Omega.{arith}, Nat.{mul-le-mul, pow-le-pow-right, one-le-pow, mul-pos}}
 use lib.Dec.{lit<}
-use Rattle.exact.specs.Fraction.{_≤f_, _<f_, whole, _+f_, neg, _−f_, _·f_, inv}
-use Rattle.exact.specs.Ends.{_·e_}
-use Rattle.exact.specs.Exact.{exactly, _−x_, _·x_}
-use Rattle.exact.specs.Pi.{alternating, arctanTerm, arctanOver, π}
-use Rattle.exact.specs.Depth.{Consistent, Proper, PositiveAt, SameEnds}
-use Rattle.exact.proofs.Order.{trans≤, lt-of-lt-of-le, whole≤, whole-pos, nonneg}
-use Rattle.exact.proofs.Sums.{mono−}
-use Rattle.exact.proofs.Products.{mul-left≤}
+use Rattle.exact.specs.{Fraction.{_≤f_, _<f_, whole, _+f_, neg, _−f_, _·f_, inv}, Ends.{_·e_}, Exact.{exactly, _−x_, _·x_}}
+use Rattle.exact.specs.{Pi.{alternating, arctanTerm, arctanOver, π}, Depth.{Consistent, Proper, PositiveAt, SameEnds}}
+use Rattle.exact.proofs.{Order.{trans≤, lt-of-lt-of-le, whole≤, whole-pos, nonneg}, Sums.{mono−}, Products.{mul-left≤}}
 use Rattle.exact.proofs.Quotients.{inv≤, inv-nonneg}
 use Rattle.exact.proofs.Consistency.{consistent-exactly, consistent-difference, consistent-product, proper-at}
 use Rattle.exact.proofs.KnownEnds.{differenceEnds, scaledEnds, same-trans, same-difference, difference-ends, scaled-ends}

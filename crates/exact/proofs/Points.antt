@@ -1,13 +1,10 @@
 -- A point of a pair is a fraction between its ends. A point of A and a point of B give a point of their combination, for each
 -- operation: all further laws of pairs rest on that.
 use mathlib.Core.Logic.{⊎-elim}
-use Rattle.exact.specs.Fraction.{Fraction, _≤f_, _<f_, _≈f_, whole, _+f_, _−f_, _·f_, inv, _÷f_, minf, maxf}
-use Rattle.exact.specs.Ends.{Ends, combine}
+use Rattle.exact.specs.{Fraction.{Fraction, _≤f_, _<f_, _≈f_, whole, _+f_, _−f_, _·f_, inv, _÷f_, minf, maxf}, Ends.{Ends, combine}}
 use Rattle.exact.specs.Depth.{Within, Proper, Positive}
 use Rattle.exact.proofs.Order.{refl≤, trans≤, lt-of-lt-of-le, total, min-cases, max-cases, min-left, min-right, max-left, max-right}
-use Rattle.exact.proofs.Outcomes.{lower≤, ≤upper}
-use Rattle.exact.proofs.Sums.{mono+, mono−}
-use Rattle.exact.proofs.Products.{mul≤, mul≥, mul-left≤, mul-left≥}
+use Rattle.exact.proofs.{Outcomes.{lower≤, ≤upper}, Sums.{mono+, mono−}, Products.{mul≤, mul≥, mul-left≤, mul-left≥}}
 use Rattle.exact.proofs.Quotients.{inv≤}
 
 pub record Point (p : Fraction) (A : Ends) : Type 0 where
@@ -61,10 +58,8 @@ swap {u} {v} b =
 
 -- where op lies between its values at the ends, in its first argument at y, and in its second at each end of A
 pub combine-point : (op : Fraction → Fraction → Fraction) (A B : Ends) (x y : Fraction)
-    → Between (op (A .lower) y) (op (A .upper) y) (op x y)
-    → Between (op (A .lower) (B .lower)) (op (A .lower) (B .upper)) (op (A .lower) y)
-    → Between (op (A .upper) (B .lower)) (op (A .upper) (B .upper)) (op (A .upper) y)
-    → Point (op x y) (combine op A B)
+    → Between (op (A .lower) y) (op (A .upper) y) (op x y) → Between (op (A .lower) (B .lower)) (op (A .lower) (B .upper)) (op (A .lower) y)
+    → Between (op (A .upper) (B .lower)) (op (A .upper) (B .upper)) (op (A .upper) y) → Point (op x y) (combine op A B)
 combine-point op A B x y b bl bu =
     let lows = lower≤ op A B in
     let highs = ≤upper op A B in
@@ -107,8 +102,7 @@ product-point A B x y h k =
 -- along a positive divisor
 by-divisor : (a : Fraction) {c y d : Fraction} → whole 0 <f c → c ≤f y → y ≤f d → Between (a ÷f c) (a ÷f d) (a ÷f y)
 unfolding _÷f_
-by-divisor a p h k =
-    swap (by-factor-left a (inv≤ (lt-of-lt-of-le p h) k) (inv≤ p h))
+by-divisor a p h k = swap (by-factor-left a (inv≤ (lt-of-lt-of-le p h) k) (inv≤ p h))
 
 pub quotient-point : (A B : Ends) → Positive B → Pointwise _÷f_ A B
 unfolding _÷f_

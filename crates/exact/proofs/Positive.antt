@@ -1,22 +1,13 @@
 -- Which values have positive lower ends at every depth, so that one may divide by them and take their logarithm.
 use Prim.Native.Nat.{ℕ, zero, suc, _*_, _^_, _≤_, _<_}
 use mathlib.Core.Path.{_≡_, refl, ap}
-use native.Mathlib.Omega.{arith}
-use native.Mathlib.Nat.{mul-le-mul-right, pow-le-pow-right, one-le-pow, pow-suc}
+use native.Mathlib.{Omega.{arith}, Nat.{mul-le-mul-right, pow-le-pow-right, one-le-pow, pow-suc}}
 use Rattle.exact.specs.Fraction.{Fraction, _≤f_, _<f_, whole, decimal, _+f_, _·f_, _÷f_, top}
-use Rattle.exact.specs.Ends.{Ends, combine, _+e_, _·e_, _÷e_}
-use Rattle.exact.specs.Exact.{Exact, exactly, _+x_, _−x_, _·x_, _÷x_}
-use Rattle.exact.specs.Root.{rootDigits, rootOf, root}
-use Rattle.exact.specs.Depth.{Consistent, Proper, Positive, PositiveAt}
-use Rattle.exact.proofs.Order.{trans≤, lt-of-lt-of-le, le-of-lt}
-use Rattle.exact.proofs.Outcomes.{lower-of}
-use Rattle.exact.proofs.Sums.{le+, sub-pos}
-use Rattle.exact.proofs.Products.{mul-pos, mul-left≤}
-use Rattle.exact.proofs.Quotients.{inv-pos}
-use Rattle.exact.proofs.Consistency.{consistent-exactly, proper-at}
-use Rattle.exact.proofs.KnownEnds.{difference-ends, scaled-ends}
-use Rattle.exact.proofs.Powers.{one-pow}
-use Rattle.exact.proofs.RootDigits.{root-above}
+use Rattle.exact.specs.{Ends.{Ends, combine, _+e_, _·e_, _÷e_}, Exact.{Exact, exactly, _+x_, _−x_, _·x_, _÷x_}}
+use Rattle.exact.specs.{Root.{rootDigits, rootOf, root}, Depth.{Consistent, Proper, Positive, PositiveAt}}
+use Rattle.exact.proofs.{Order.{trans≤, lt-of-lt-of-le, le-of-lt}, Outcomes.{lower-of}, Sums.{le+, sub-pos}}
+use Rattle.exact.proofs.{Products.{mul-pos, mul-left≤}, Quotients.{inv-pos}, Consistency.{consistent-exactly, proper-at}}
+use Rattle.exact.proofs.{KnownEnds.{difference-ends, scaled-ends}, Powers.{one-pow}, RootDigits.{root-above}}
 
 pub positive-upper : {A : Ends} → Proper A → Positive A → whole 0 <f A .upper
 positive-upper h p = lt-of-lt-of-le (p .positive) (h .proper)
@@ -72,8 +63,7 @@ positive-at-least h l = record { at = λ k d. record { positive = lt-of-lt-of-le
 pub at-least-times : {a : Fraction} {x : Exact} (q : Fraction) → whole 0 ≤f q → Consistent x → AtLeast a x
     → AtLeast (q ·f a) (exactly q ·x x)
 unfolding _·x_
-at-least-times q n c l =
-    record { least = λ k d. trans≤ (mul-left≤ n (l .least k d)) (scaled-ends k n (proper-at c d) .lowers .fro) }
+at-least-times q n c l = record { least = λ k d. trans≤ (mul-left≤ n (l .least k d)) (scaled-ends k n (proper-at c d) .lowers .fro) }
 
 -- what is at least a, less a fraction below a
 pub positive-less : {a q : Fraction} {x : Exact} → q <f a → Consistent x → AtLeast a x → PositiveAt (x −x exactly q)

@@ -1,12 +1,9 @@
 -- Products of fractions: their laws, and how they keep the order.
 use Prim.Native.Nat.{ℕ, suc, _+_, _*_, _≤_, _<_}
-use mathlib.Core.Path.{_≡_, ap}
-use mathlib.Core.Logic.{_⊎_, inl, inr}
-use native.Mathlib.Omega.{arith}
-use native.Mathlib.Nat.{mul-le-mul-right, mul-le-mul-left, mul-lt-mul-of-pos-right, mul-lt-mul-of-pos-left, le-dest}
+use mathlib.Core.{Path.{_≡_, ap}, Logic.{_⊎_, inl, inr}}
+use native.Mathlib.{Omega.{arith}, Nat.{mul-le-mul-right, mul-le-mul-left, mul-lt-mul-of-pos-right, mul-lt-mul-of-pos-left, le-dest}}
 use Rattle.exact.specs.Fraction.{Fraction, _≤f_, _<f_, _≈f_, whole, _+f_, neg, _·f_}
-use Rattle.exact.proofs.Order.{trans≤, refl≈, trans≈, total}
-use Rattle.exact.proofs.Sums.{cong+, whole-suc}
+use Rattle.exact.proofs.{Order.{trans≤, refl≈, trans≈, total}, Sums.{cong+, whole-suc}}
 
 pub mul-comm : (a b : Fraction) → a ·f b ≈f b ·f a
 unfolding _·f_
@@ -37,8 +34,7 @@ whole-mul m n = omega arith
 
 -- b is a with all three numbers n times as large
 multiple : (a b : Fraction) (n : ℕ) → b .plus ≡ a .plus * n → b .minus ≡ a .minus * n → b .den ≡ a .den * n → a ≈f b
-multiple a b n e f g =
-    omega (arith, ap (λ t. a .plus * t) g, ap (λ t. a .minus * t) g, ap (λ t. t * a .den) e, ap (λ t. t * a .den) f)
+multiple a b n e f g = omega (arith, ap (λ t. a .plus * t) g, ap (λ t. a .minus * t) g, ap (λ t. t * a .den) e, ap (λ t. t * a .den) f)
 
 pub mul-add : (a b c : Fraction) → a ·f (b +f c) ≈f a ·f b +f a ·f c
 unfolding _·f_ _+f_
@@ -100,8 +96,7 @@ cong· {a} {b} {c} {d} h k = trans≈ (left c h) (trans≈ (mul-comm b c) (trans
     left z h = by h (total z (whole 0))
 
 pub suc-times : (n : ℕ) (a : Fraction) → whole (suc n) ·f a ≈f whole n ·f a +f a
-suc-times n a =
-    trans≈ (cong· (whole-suc n) (refl≈ a)) (trans≈ (add-mul (whole n) (whole 1) a) (cong+ (refl≈ (whole n ·f a)) (one-mul a)))
+suc-times n a = trans≈ (cong· (whole-suc n) (refl≈ a)) (trans≈ (add-mul (whole n) (whole 1) a) (cong+ (refl≈ (whole n ·f a)) (one-mul a)))
 
 -- ---- signs
 

@@ -1,15 +1,10 @@
 -- Values that are consistent and positive at every depth: what lengths, resistivities and their formulas are.
 use Prim.Native.Nat.{ℕ, _≤_}
-use Rattle.exact.specs.Fraction.{Fraction, _≤f_, _<f_, whole, decimal}
-use Rattle.exact.specs.Exact.{Exact, exactly, _+x_, _·x_, _÷x_}
-use Rattle.exact.specs.Root.{root}
-use Rattle.exact.specs.Pi.{π}
-use Rattle.exact.specs.Depth.{Consistent, PositiveAt}
+use Rattle.exact.specs.{Fraction.{Fraction, _≤f_, _<f_, whole, decimal}, Exact.{Exact, exactly, _+x_, _·x_, _÷x_}, Root.{root}}
+use Rattle.exact.specs.{Pi.{π}, Depth.{Consistent, PositiveAt}}
 use Rattle.exact.proofs.Consistency.{consistent-exactly, consistent-sum, consistent-product, consistent-quotient}
 use Rattle.exact.proofs.Positive.{at-least-exactly, positive-exactly, positive-sum, positive-product, positive-quotient}
-use Rattle.exact.proofs.Positive.{positive-root}
-use Rattle.exact.proofs.Roots.{consistent-root}
-use Rattle.exact.proofs.Pi.{consistent-π, positive-π}
+use Rattle.exact.proofs.{Positive.{positive-root}, Roots.{consistent-root}, Pi.{consistent-π, positive-π}}
 
 pub record Quantity (x : Exact) : Type 0 where
   pub consistent : Consistent x

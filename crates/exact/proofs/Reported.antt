@@ -2,20 +2,14 @@
 -- are ℕ's.
 use Prim.Native.Nat.{ℕ, _*_, _<_}
 use mathlib.Core.Path.{_≡_, ap, _∙_}
-use native.Mathlib.Omega.{arith}
-use native.Mathlib.Nat.{mul-le-mul-right, mul-lt-mul-of-pos-right, mul-pos}
-use lib.IntN.{ℤ, pos, negℤ, _+ℤ_, _-ℤ_, _*ℤ_}
-use lib.Signed.{_≤ℤ_, _<ℤ_}
-use Rattle.interval.specs.Signed.{plus, minus}
-use Rattle.interval.specs.Whole.{floorZ}
-use Rattle.interval.specs.declared.Interval.{Interval}
+use native.Mathlib.{Omega.{arith}, Nat.{mul-le-mul-right, mul-lt-mul-of-pos-right, mul-pos}}
+use lib.{IntN.{ℤ, pos, negℤ, _+ℤ_, _-ℤ_, _*ℤ_}, Signed.{_≤ℤ_, _<ℤ_}}
+use Rattle.interval.specs.{Signed.{plus, minus}, Whole.{floorZ}, declared.Interval.{Interval}}
 use Rattle.interval.proofs.Signed.{neg-plus, neg-minus, sum-is, difference-is, mul-plus, mul-minus, scale-plus, scale-minus, le-halves}
 use Rattle.interval.proofs.Signed.{lt-halves, floor-below, floor-above}
 use Rattle.exact.specs.Fraction.{_≤f_, _<f_, _≈f_, whole, decimal, _+f_, neg, _−f_, _·f_, inv, _÷f_}
-use Rattle.exact.specs.Reported.{Scale, ten, over, reported}
-use Rattle.exact.specs.Depth.{Positive}
-use Rattle.exact.proofs.Order.{trans≤, refl≈}
-use Rattle.exact.proofs.Products.{cong·}
+use Rattle.exact.specs.{Reported.{Scale, ten, over, reported}, Depth.{Positive}}
+use Rattle.exact.proofs.{Order.{trans≤, refl≈}, Products.{cong·}}
 
 -- the unit of a product
 abbrev pub scaleProduct : Scale → Scale → Scale
@@ -51,8 +45,7 @@ decimal-over n e = omega arith
 
 pub over-mul : (a b : ℤ) (u v : Scale) → over (a *ℤ b) (scaleProduct u v) ≈f over a u ·f over b v
 unfolding over _·f_
-over-mul a b u v =
-    omega (arith, ap (λ t. t * (u .count * v .count)) (mul-plus a b), ap (λ t. t * (u .count * v .count)) (mul-minus a b))
+over-mul a b u v = omega (arith, ap (λ t. t * (u .count * v .count)) (mul-plus a b), ap (λ t. t * (u .count * v .count)) (mul-minus a b))
 
 -- rounded down, and the next number: w is m times as fine as u
 module _ (z : ℤ) (u w : Scale) {m : ℕ} (hm : 0 < m) (fine : w .count ≡ u .count * m) where
@@ -61,8 +54,7 @@ module _ (z : ℤ) (u w : Scale) {m : ℕ} (hm : 0 < m) (fine : w .count ≡ u .
 
   pub over-down : over (floorZ z m) u ≤f over z w
   unfolding over
-  over-down =
-      omega (arith, mul-le-mul-right (u .count) (floor-below z hm), scaled (plus (floorZ z m)), scaled (minus (floorZ z m)))
+  over-down = omega (arith, mul-le-mul-right (u .count) (floor-below z hm), scaled (plus (floorZ z m)), scaled (minus (floorZ z m)))
 
   pub over-up : over z w ≤f over (floorZ z m +ℤ pos 1) u
   unfolding over

@@ -1,14 +1,10 @@
 -- The digits of a root: known by their powers, and so compared with counts of any unit.
 use Prim.Native.Nat.{ℕ, suc, _*_, _^_, _≤_, _<_}
 use mathlib.Core.Path.{_≡_, ap}
-use native.Mathlib.Omega.{arith}
-use native.Mathlib.Nat.{mul-le-mul-right, mul-le-mul-left, lt-of-mul-lt-mul-right}
+use native.Mathlib.{Omega.{arith}, Nat.{mul-le-mul-right, mul-le-mul-left, lt-of-mul-lt-mul-right}}
 use lib.IntN.{pos}
-use Rattle.exact.specs.Fraction.{Fraction, _≤f_, decimal, top}
-use Rattle.exact.specs.Root.{rootDigits, rootOf}
-use Rattle.exact.specs.Reported.{Scale, over}
-use Rattle.exact.proofs.Order.{refl≤}
-use Rattle.exact.proofs.Powers.{zero-pow, le-pow, ten-pos, pow-lt-inv, powers-cross, powers-cross≤}
+use Rattle.exact.specs.{Fraction.{Fraction, _≤f_, decimal, top}, Root.{rootDigits, rootOf}, Reported.{Scale, over}}
+use Rattle.exact.proofs.{Order.{refl≤}, Powers.{zero-pow, le-pow, ten-pos, pow-lt-inv, powers-cross, powers-cross≤}}
 use Rattle.exact.proofs.Greatest.{greatest-holds, greatest-next, greatest-unique}
 
 -- ---- the digits
@@ -31,8 +27,7 @@ module _ (n : ℕ) (hn : 1 ≤ n) (q : Fraction) (k : ℕ) where
   root-above = greatest-next (λ r. r ^ n * q .den) ((10 ^ k) ^ n * top q) ((10 ^ k) ^ n * top q) (bound ((10 ^ k) ^ n * top q))
 
   -- the only ones with these two properties
-  pub root-unique : (r : ℕ) → r ^ n * q .den ≤ (10 ^ k) ^ n * top q → (10 ^ k) ^ n * top q < suc r ^ n * q .den
-      → rootDigits n q k ≡ r
+  pub root-unique : (r : ℕ) → r ^ n * q .den ≤ (10 ^ k) ^ n * top q → (10 ^ k) ^ n * top q < suc r ^ n * q .den → rootDigits n q k ≡ r
   unfolding rootDigits
   root-unique r l u =
       greatest-unique (λ r. r ^ n * q .den) ((10 ^ k) ^ n * top q) ((10 ^ k) ^ n * top q) r

@@ -1,9 +1,7 @@
 -- Sequences of fractions that never fall, or never rise, from step to step.
 use Prim.Native.Nat.{ℕ, zero, suc, _+_, _≤_}
 use mathlib.Core.Path.{_≡_}
-use native.Mathlib.Omega.{arith}
-use native.Mathlib.Decide.{decLe}
-use native.Mathlib.Nat.{le-dest, add-zero, add-suc}
+use native.Mathlib.{Omega.{arith}, Decide.{decLe}, Nat.{le-dest, add-zero, add-suc}}
 use Rattle.exact.specs.Fraction.{Fraction, _≤f_}
 use Rattle.exact.proofs.Order.{refl≤, trans≤}
 

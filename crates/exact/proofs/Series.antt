@@ -8,8 +8,7 @@ use Rattle.exact.specs.Logarithm.{term, terms, tail}
 use Rattle.exact.proofs.Order.{refl≤, trans≤, le-of-lt, refl≈, sym≈, trans≈, whole≤, whole-pos, nonneg}
 use Rattle.exact.proofs.Sums.{mono+, mono−, le+, add-assoc, complement}
 use Rattle.exact.proofs.Products.{mul≤, mul-left≤, mono·, mul-nonneg, mul-pos, mul-assoc, mul-add, add-mul, one-mul, cong·}
-use Rattle.exact.proofs.Quotients.{inv≤, inv-nonneg, split-inv, div≤, mono÷}
-use Rattle.exact.proofs.Sequences.{crossing}
+use Rattle.exact.proofs.{Quotients.{inv≤, inv-nonneg, split-inv, div≤, mono÷}, Sequences.{crossing}}
 
 pub pow-nonneg : {z : Fraction} → whole 0 ≤f z → (n : ℕ) → whole 0 ≤f powf z n
 unfolding powf

@@ -1,7 +1,6 @@
 -- Sums and differences of fractions: their laws, and how they keep the order.
 use Prim.Native.Nat.{ℕ, suc, _*_, _≤_, _<_}
-use native.Mathlib.Omega.{arith}
-use native.Mathlib.Nat.{mul-le-mul-right, mul-lt-mul-of-pos-right, le-of-mul-le-mul-right, lt-of-mul-lt-mul-right, mul-pos}
+use native.Mathlib.{Omega.{arith}, Nat.{mul-le-mul-right, mul-lt-mul-of-pos-right, le-of-mul-le-mul-right, lt-of-mul-lt-mul-right, mul-pos}}
 use Rattle.exact.specs.Fraction.{Fraction, _≤f_, _<f_, _≈f_, whole, _+f_, neg, _−f_}
 use Rattle.exact.proofs.Order.{refl≤, trans≤}
 
@@ -41,8 +40,7 @@ unfolding _+f_
 cancel≤ {a} {b} c h = record { le = le-of-mul-le-mul-right (omega (arith, h .le)) (mul-pos (c .pos) (c .pos)) }
 
 pub mono+ : {a b c d : Fraction} → a ≤f b → c ≤f d → a +f c ≤f b +f d
-mono+ {a} {b} {c} {d} h k =
-    trans≤ (add≤ c h) (trans≤ (add-comm b c .to) (trans≤ (add≤ b k) (add-comm d b .to)))
+mono+ {a} {b} {c} {d} h k = trans≤ (add≤ c h) (trans≤ (add-comm b c .to) (trans≤ (add≤ b k) (add-comm d b .to)))
 
 pub cong+ : {a b c d : Fraction} → a ≈f b → c ≈f d → a +f c ≈f b +f d
 cong+ h k = record { to = mono+ (h .to) (k .to); fro = mono+ (h .fro) (k .fro) }

@@ -1,14 +1,10 @@
 -- Two sequences as the terms of e^a and of e^b: k terms of e^(a + b) are at most the product of k terms of each, which is at most 2 k terms
 -- of e^(a + b). The products of degree below k lie in the square of k by k, which lies in those of degree below 2 k.
 use Prim.Native.Nat.{ℕ, zero, suc, _+_, _≤_}
-use native.Mathlib.Omega.{arith}
-use native.Mathlib.Nat.{add-suc, suc-add, add-zero as nat-add-zero, zero-add as nat-zero-add}
+use native.Mathlib.{Omega.{arith}, Nat.{add-suc, suc-add, add-zero as nat-add-zero, zero-add as nat-zero-add}}
 use Rattle.exact.specs.Fraction.{Fraction, _≤f_, _≈f_, whole, _+f_, _·f_, sumOf}
-use Rattle.exact.proofs.Order.{refl≤, trans≤, refl≈, sym≈, trans≈}
-use Rattle.exact.proofs.Sums.{mono+, cong+, le+, add-assoc, add-zero}
-use Rattle.exact.proofs.Products.{mul-left≤, mul-nonneg, mul-add, add-mul, cong·}
-use Rattle.exact.proofs.Sequences.{rising}
-use Rattle.exact.proofs.SeriesBounds.{sum-of≤}
+use Rattle.exact.proofs.{Order.{refl≤, trans≤, refl≈, sym≈, trans≈}, Sums.{mono+, cong+, le+, add-assoc, add-zero}}
+use Rattle.exact.proofs.{Products.{mul-left≤, mul-nonneg, mul-add, add-mul, cong·}, Sequences.{rising}, SeriesBounds.{sum-of≤}}
 use Rattle.exact.proofs.Convolution.{add-swap, zero-add, zero-mul, Rated, rated-unique, mixed, mixed-rated}
 
 module _ (t s : ℕ → Fraction) where
@@ -23,10 +19,8 @@ module _ (t s : ℕ → Fraction) where
 
   triangle-next : (m k : ℕ) → triangle m (suc k) ≈f triangle m k +f degree m (suc k)
   unfolding triangle mixed sumOf
-  triangle-next m zero =
-      trans≈ (cong+ (cong· (refl≈ (t m)) (zero-add (s 0))) (refl≈ _)) (sym≈ (zero-add _))
-  triangle-next m (suc k) =
-      trans≈ (cong+ (mul-add (t m) (sumOf s (suc k)) (s (suc k))) (triangle-next (suc m) k)) (add-swap _ _ _ _)
+  triangle-next m zero = trans≈ (cong+ (cong· (refl≈ (t m)) (zero-add (s 0))) (refl≈ _)) (sym≈ (zero-add _))
+  triangle-next m (suc k) = trans≈ (cong+ (mul-add (t m) (sumOf s (suc k)) (s (suc k))) (triangle-next (suc m) k)) (add-swap _ _ _ _)
 
   triangle-is : (k : ℕ) → sumOf (λ n. degree 0 (suc n)) k ≈f triangle 0 k
   unfolding sumOf triangle

@@ -1,10 +1,6 @@
 -- The answer to a question for two ends, and what holds of it.
-use Rattle.interval.specs.declared.Pair.{Pair}
-use Rattle.interval.specs.declared.Pair.the-variants.{Ends as Told, Refused}
-use Rattle.exact.specs.Fraction.{Fraction}
-use Rattle.exact.specs.Ends.{Ends}
-use Rattle.exact.specs.Exact.{Exact}
-use Rattle.exact.specs.Reported.{Scale, Reports}
+use Rattle.interval.specs.declared.Pair.{Pair, the-variants.{Ends as Told, Refused}}
+use Rattle.exact.specs.{Fraction.{Fraction}, Ends.{Ends}, Exact.{Exact}, Reported.{Scale, Reports}}
 
 -- two ends report the exact value; of a refusal nothing is asked here
 unfoldable pub RightPair : Exact → Scale → (Ends → Fraction) → Pair → Type 0

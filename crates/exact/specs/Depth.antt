@@ -1,8 +1,6 @@
 -- What the laws say of ends and depths.
 use Prim.Native.Nat.{ℕ, _≤_}
-use Rattle.exact.specs.Fraction.{_≤f_, _<f_, _≈f_, whole}
-use Rattle.exact.specs.Ends.{Ends}
-use Rattle.exact.specs.Exact.{Exact}
+use Rattle.exact.specs.{Fraction.{_≤f_, _<f_, _≈f_, whole}, Ends.{Ends}, Exact.{Exact}}
 
 -- the depth at which code works
 abbrev pub workDepth : ℕ

@@ -1,7 +1,6 @@
 -- Exact values. Document 01, 'What exact means': "At each depth k from 3 up, every formula has two ends that are fractions."
 use Prim.Native.Nat.{ℕ, _≤_}
-use Rattle.exact.specs.Fraction.{Fraction, _≤f_, _<f_}
-use Rattle.exact.specs.Ends.{Ends, _+e_, _−e_, _·e_, _÷e_, minusEnds}
+use Rattle.exact.specs.{Fraction.{Fraction, _≤f_, _<f_}, Ends.{Ends, _+e_, _−e_, _·e_, _÷e_, minusEnds}}
 
 -- the two ends at each depth
 abbrev pub Exact : Type 0

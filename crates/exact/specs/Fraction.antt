@@ -1,7 +1,6 @@
 -- Fractions with sign: (plus − minus) / den. One value has many fractions: compare them by ≤f and <f.
 use Prim.Native.Nat.{ℕ, zero, suc, _+_, _-_, _*_, _^_, max, _≤_, _<_}
-use native.Mathlib.Nat.{mul-pos, le-max-left, zero-lt-suc, one-le-pow}
-use native.Mathlib.Decide.{decLe}
+use native.Mathlib.{Nat.{mul-pos, le-max-left, zero-lt-suc, one-le-pow}, Decide.{decLe}}
 
 pub record Fraction : Type 0 where
   pub plus : ℕ

@@ -1,8 +1,7 @@
 -- Roots. Document 01, 'What exact means': "A root lies between the greatest multiple of 10^−k not above it and the next one".
 use Prim.Native.Nat.{ℕ, zero, suc, _*_, _^_}
 use native.Mathlib.Decide.{decLe}
-use Rattle.exact.specs.Fraction.{Fraction, decimal, top, choose}
-use Rattle.exact.specs.Exact.{Exact}
+use Rattle.exact.specs.{Fraction.{Fraction, decimal, top, choose}, Exact.{Exact}}
 
 -- the greatest number, from `most` down, at which f is not above `limit`; 0 where there is none
 unfoldable pub greatestBelow : (ℕ → ℕ) → ℕ → ℕ → ℕ

@@ -1,27 +1,16 @@
 -- The ends of e^−q enclose the exact ones at the depth at which code works.
 use Prim.Native.Nat.{ℕ, _+_, _/_, _^_, _≤_, _<_}
 use mathlib.Core.Path.{refl}
-use native.Mathlib.Omega.{arith}
-use native.Mathlib.Nat.{add-zero, le-refl, le-trans}
+use native.Mathlib.{Omega.{arith}, Nat.{add-zero, le-refl, le-trans}}
 use lib.Dec.{lit<, lit≤}
-use Rattle.interval.specs.declared.Interval.{Interval}
-use Rattle.interval.specs.Operations.{natural}
-use Rattle.interval.specs.Span.{Span}
-use Rattle.exact.specs.Fraction.{Fraction, _≤f_, _<f_, whole, _+f_, _·f_, inv, _÷f_, powf, sumOf}
-use Rattle.exact.specs.Exact.{Exact, minus}
-use Rattle.exact.specs.Exponential.{factorial, expTerm, expTerms, small, exp}
-use Rattle.exact.specs.Reported.{ten, over, reported}
-use Rattle.exact.specs.Depth.{workDepth, Consistent}
-use Rattle.exact.proofs.Order.{refl≤, trans≤, le-of-lt}
-use Rattle.exact.proofs.Sums.{mono+}
-use Rattle.exact.proofs.Products.{mul-left≤, mul-nonneg, mul-pos, add-mul, one-mul}
-use Rattle.exact.proofs.Quotients.{inv≤, inv-nonneg}
-use Rattle.exact.proofs.Inclusion.{within-trans}
-use Rattle.exact.proofs.ExpTerms.{half, rest-nonneg, exp-terms≤, exp-terms-least}
-use Rattle.exact.proofs.Doublings.{halved, halved-nonneg, small-high}
-use Rattle.exact.proofs.ExpUp.{slack, slack-positive, half-nonneg, terms-positive}
-use Rattle.exact.proofs.Exponential.{inverse-high, exp-minus-within}
-use Rattle.exact.proofs.Rounding.{from-below, from-above, units-nonneg, units-sum}
+use Rattle.interval.specs.{declared.Interval.{Interval}, Operations.{natural}, Span.{Span}}
+use Rattle.exact.specs.{Fraction.{Fraction, _≤f_, _<f_, whole, _+f_, _·f_, inv, _÷f_, powf, sumOf}, Exact.{Exact, minus}}
+use Rattle.exact.specs.{Exponential.{factorial, expTerm, expTerms, small, exp}, Reported.{ten, over, reported}}
+use Rattle.exact.{specs.Depth.{workDepth, Consistent}, proofs.{Order.{refl≤, trans≤, le-of-lt}, Sums.{mono+}}}
+use Rattle.exact.proofs.{Products.{mul-left≤, mul-nonneg, mul-pos, add-mul, one-mul}, Quotients.{inv≤, inv-nonneg}}
+use Rattle.exact.proofs.{Inclusion.{within-trans}, ExpTerms.{half, rest-nonneg, exp-terms≤, exp-terms-least}}
+use Rattle.exact.proofs.{Doublings.{halved, halved-nonneg, small-high}, ExpUp.{slack, slack-positive, half-nonneg, terms-positive}}
+use Rattle.exact.proofs.{Exponential.{inverse-high, exp-minus-within}, Rounding.{from-below, from-above, units-nonneg, units-sum}}
 use Rattle.enclosure.specs.Enclosure.{Encloses}
 use Rattle.exponential.specs.Ends.{levels, halvingsOf, argumentOf, nestedOf, seriesOf, endOf, expEnds, expPair}
 use Rattle.exponential.proofs.Rounded.{parts, parts≤, argument-toward, terms-toward, inverse-below, inverse-above, squared-toward}

@@ -1,10 +1,8 @@
 -- The loops: what holds after each turn.
 use Prim.Native.Nat.{ℕ, zero, suc, _+_, _-_, _*_, _/_, _^_, _≤_, _<_}
 use mathlib.Core.Path.{_≡_, refl}
-use native.Mathlib.Omega.{arith}
-use native.Mathlib.Nat.{pow-suc, pow-le-pow-right}
+use native.Mathlib.{Omega.{arith}, Nat.{pow-suc, pow-le-pow-right}, Numerals.{add-one}}
 use lib.Pow.{pow-pos}
-use native.Mathlib.Numerals.{add-one}
 use Rattle.exponential.specs.Ends.{billion, most, levels, halvingsOf, nestedOf}
 use Rattle.exponential.proofs.Sizes.{halvings-least, halvings-more, halvings-few}
 
@@ -18,10 +16,7 @@ halving-start q = record { is = refl; least = omega arith }
 module _ {q times parts : ℕ} (h : Halving q times parts) where
   pub halving-again : parts * billion < 2 * q → Halving q (times + 1) (2 * parts)
   halving-again l =
-      record {
-        is = rw (add-one, pow-suc) (omega (arith, h .is));
-        least = rw add-one (halvings-more q times (rw (h .is) at l));
-      }
+      record { is = rw (add-one, pow-suc) (omega (arith, h .is)); least = rw add-one (halvings-more q times (rw (h .is) at l)) }
 
   pub halving-pos : 1 ≤ parts
   halving-pos = rw (h .is) (pow-pos times)

@@ -2,20 +2,11 @@
 use Prim.Native.Nat.{ℕ, zero, suc, _+_, _*_, _/_, _^_, _≤_, _<_}
 use mathlib.Core.Path.{_≡_, refl, ap}
 use native.Mathlib.Omega.{arith}
-use lib.Dec.{lit<}
-use lib.Pow.{pow-pos}
-use Rattle.exact.specs.Fraction.{Fraction, _≤f_, _≈f_, whole, _+f_, _·f_, inv, _÷f_, powf}
-use Rattle.exact.specs.Exponential.{expTerms}
-use Rattle.exact.specs.Depth.{workDepth}
-use Rattle.exact.specs.Reported.{ten, over}
-use Rattle.exact.proofs.Order.{refl≤, trans≤, sym≈, nonneg}
-use Rattle.exact.proofs.Sums.{mono+, le+}
-use Rattle.exact.proofs.Products.{mul-nonneg, one-mul}
-use Rattle.exact.proofs.Quotients.{clamped, div≤, inv-nonneg}
-use Rattle.exact.proofs.Series.{pow-nonneg}
-use Rattle.exact.proofs.Squarings.{pow-square}
-use Rattle.exact.proofs.Doublings.{halved}
-use Rattle.exact.proofs.Horner.{nested, nested-terms}
+use lib.{Dec.{lit<}, Pow.{pow-pos}}
+use Rattle.exact.specs.{Fraction.{Fraction, _≤f_, _≈f_, whole, _+f_, _·f_, inv, _÷f_, powf}, Exponential.{expTerms}, Depth.{workDepth}}
+use Rattle.exact.{specs.Reported.{ten, over}, proofs.{Order.{refl≤, trans≤, sym≈, nonneg}, Sums.{mono+, le+}}}
+use Rattle.exact.proofs.{Products.{mul-nonneg, one-mul}, Quotients.{clamped, div≤, inv-nonneg}, Series.{pow-nonneg}, Squarings.{pow-square}}
+use Rattle.exact.proofs.{Doublings.{halved}, Horner.{nested, nested-terms}}
 use Rattle.exact.proofs.Rounding.{units, Toward, toward-trans, toward-sum, toward-product, toward-same, units-nonneg, units-sum, Is}
 use Rattle.exact.proofs.Rounding.{rounded, product-is}
 use Rattle.exponential.specs.Ends.{billion, levels, nestedOf, inverseOf, squaredOf}

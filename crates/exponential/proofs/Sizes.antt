@@ -5,9 +5,7 @@ use native.Mathlib.Omega.{arith}
 use native.Mathlib.Nat.{lt-of-not-le, div-mul-le-self, le-of-mul-le-mul-right, lt-of-mul-lt-mul-right, mul-le-mul, pow-suc}
 use native.Mathlib.Nat.{pow-le-pow-right}
 use lib.Pow.{pow-pos}
-use Rattle.exact.specs.Fraction.{top}
-use Rattle.exact.specs.Reported.{ten, over}
-use Rattle.exact.proofs.Powers.{exponent-lt-inv}
+use Rattle.exact.{specs.{Fraction.{top}, Reported.{ten, over}}, proofs.Powers.{exponent-lt-inv}}
 use Rattle.exact.proofs.Doublings.{doublings-reach, doublings-least}
 use Rattle.exponential.specs.Ends.{billion, most, levels, halvingsOf, nestedOf, seriesOf, inverseOf, squaredOf}
 use Rattle.exponential.proofs.Rounded.{parts}
@@ -23,8 +21,7 @@ unfolding halvingsOf over ten top
 halvings-least q j h = doublings-least (parts q) j (omega arith)
 
 pub halvings-more : (q m : ℕ) → 2 ^ m * billion < 2 * q → m < halvingsOf q
-halvings-more q m h =
-    exponent-lt-inv 2 (omega arith) (lt-of-mul-lt-mul-right billion (omega (arith, h, halvings-reach q)))
+halvings-more q m h = exponent-lt-inv 2 (omega arith) (lt-of-mul-lt-mul-right billion (omega (arith, h, halvings-reach q)))
 
 -- 2^j is at most 1 and 4 q
 pub halvings-parts : (q : ℕ) → 2 ^ halvingsOf q * billion ≤ 4 * q + billion
@@ -96,5 +93,4 @@ unfolding seriesOf
 series-least up y = omega (arith, nested-least up y 0 levels)
 
 pub end-size : {up m : ℕ} (down y : ℕ) → up ≤ 1 → m ≤ 14 → squaredOf up (inverseOf up (seriesOf down y)) m < 2 ^ 63
-end-size {up} {m} down y hu hm =
-    omega (arith, squared-small {up = up} hu (inverse-size {up = up} hu (series-least down y)) m hm)
+end-size {up} {m} down y hu hm = omega (arith, squared-small {up = up} hu (inverse-size {up = up} hu (series-least down y)) m hm)

@@ -2,20 +2,12 @@
 use Prim.Native.Nat.{ℕ, _+_, _-_, _*_, _^_, _≤_}
 use mathlib.Core.Path.{refl}
 use native.Mathlib.Omega.{arith}
-use Rattle.interval.specs.Operations.{natural}
-use Rattle.interval.specs.Span.{Span}
-use Rattle.interval.proofs.Signed.{le-halves}
-use Rattle.exact.specs.Exact.{exactly}
-use Rattle.exact.specs.Reported.{ten}
-use Rattle.exact.proofs.Order.{refl≤}
-use Rattle.exact.proofs.Consistency.{consistent-exactly, consistent-minus}
+use Rattle.interval.{specs.{Operations.{natural}, Span.{Span}}, proofs.Signed.{le-halves}}
+use Rattle.exact.{specs.{Exact.{exactly}, Reported.{ten}}, proofs.{Order.{refl≤}, Consistency.{consistent-exactly, consistent-minus}}}
 use Rattle.exact.proofs.Exponential.{consistent-exp}
-use Rattle.enclosure.specs.Enclosure.{Encloses}
-use Rattle.enclosure.proofs.Basics.{encloses-exactly, encloses-ordered}
+use Rattle.enclosure.{specs.Enclosure.{Encloses}, proofs.Basics.{encloses-exactly, encloses-ordered}}
 use Rattle.exponential.specs.Ends.{billion, most, halvingsOf, endOf, expEnds}
-use Rattle.exponential.proofs.Rounded.{parts, parts≤}
-use Rattle.exponential.proofs.Encloses.{exp-encloses}
-use Rattle.exponential.proofs.Width.{exp-width, end-less}
+use Rattle.exponential.proofs.{Rounded.{parts, parts≤}, Encloses.{exp-encloses}, Width.{exp-width, end-less}}
 
 -- since they enclose e^−a
 ordered : {a b : ℕ} → 1 ≤ a → a ≤ b → endOf 0 1 (halvingsOf b) b ≤ endOf 1 0 (halvingsOf b) a

@@ -2,10 +2,8 @@
 -- `up` is 0 where a step is rounded down, and 1 where it is rounded up.
 use Prim.Native.Nat.{ℕ, zero, suc, _+_, _*_, _/_, _^_}
 use lib.IntN.{pos, natAbs}
-use Rattle.interval.specs.declared.Interval.{Interval}
-use Rattle.interval.specs.Operations.{natural}
-use Rattle.exact.specs.Exponential.{doublings}
-use Rattle.exact.specs.Reported.{ten, over}
+use Rattle.interval.specs.{declared.Interval.{Interval}, Operations.{natural}}
+use Rattle.exact.specs.{Exponential.{doublings}, Reported.{ten, over}}
 
 abbrev pub billion : ℕ
 billion = 1000000000

@@ -1,20 +1,11 @@
 -- A line of fields in parts: its first field, then a comma and a field for each index, then its byte 10.
 use Prim.Native.Nat.{ℕ, suc, _+_, _*_, _≤_, _<_}
-use mathlib.Core.Path.{_≡_, refl, ap}
-use mathlib.Core.Bool.{Bool, true, false, cond}
-use mathlib.Core.List.{List, [], _∷_, _++_, append-assoc}
-use native.Mathlib.Nat.{not-suc-le-zero}
-use native.Mathlib.Numerals.{add-one}
-use native.Mathlib.Omega.{arith}
-use lib.Dec.{eqb}
+use mathlib.Core.{Path.{_≡_, refl, ap}, Bool.{Bool, true, false, cond}, List.{List, [], _∷_, _++_, append-assoc}}
+use native.Mathlib.{Nat.{not-suc-le-zero}, Numerals.{add-one}, Omega.{arith}}
+use lib.{Dec.{eqb}, IntN.{ℤ, pos, negsuc}, ListN.{length, getD, drop, length-append, drop-of-length-le}, Seq.{drop-cons}}
 use borrow.Author.Tests.{eq-eqb, ne-eqb}
-use lib.IntN.{ℤ, pos, negsuc}
-use lib.ListN.{length, getD, drop, length-append, drop-of-length-le}
-use lib.Seq.{drop-cons}
 use Rattle.text.specs.Text.{bytes}
-use Rattle.writing.specs.Decimal.{signed}
-use Rattle.writing.specs.Text.{moreFields, parted, ended}
-use Rattle.writing.proofs.Signed.{signed-at-most}
+use Rattle.writing.{specs.{Decimal.{signed}, Text.{moreFields, parted, ended}}, proofs.Signed.{signed-at-most}}
 use Rattle.fields.specs.Fields.{wordOf, field, fieldsFrom, lineOf}
 
 -- fields that stand after others, and the byte 10

@@ -1,16 +1,11 @@
 -- A line of a word and numbers in parts: its word, then a comma and a number for each, then its byte 10.
 use Prim.Native.Nat.{ℕ, suc, _+_, _*_, _≤_, _<_}
-use mathlib.Core.Path.{_≡_, refl, ap, _∙_}
-use mathlib.Core.List.{List, [], _∷_, _++_, map}
-use native.Mathlib.Numerals.{add-one}
-use native.Mathlib.Omega.{arith}
-use lib.ListN.{length, getD, drop, length-append, drop-of-length-le}
-use lib.Seq.{drop-cons}
+use mathlib.Core.{Path.{_≡_, refl, ap, _∙_}, List.{List, [], _∷_, _++_, map}}
+use native.Mathlib.{Numerals.{add-one}, Omega.{arith}}
+use lib.{ListN.{length, getD, drop, length-append, drop-of-length-le}, Seq.{drop-cons}}
 use Rattle.text.specs.Text.{bytes}
-use Rattle.writing.specs.Decimal.{decimal}
-use Rattle.writing.proofs.Signed.{decimal-at-most}
-use Rattle.judgement.specs.declared.Judgement.{Judgement}
-use Rattle.judgement.specs.declared.Judgement.the-variants.{Lines, Refused}
+use Rattle.writing.{specs.Decimal.{decimal}, proofs.Signed.{decimal-at-most}}
+use Rattle.judgement.specs.declared.Judgement.{Judgement, the-variants.{Lines, Refused}}
 use Rattle.fields.specs.Refusal.{numbered, refusedText, unlessRefused, refusalBytes}
 use Rattle.fields.proofs.LineFields.{fieldsEnd, end-first, end-more, end-none}
 

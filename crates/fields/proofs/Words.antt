@@ -3,8 +3,7 @@ use mathlib.Core.Path.{_≡_, refl}
 use native.Mathlib.Omega.{arith}
 use lib.IntN.{ℤ, pos, negsuc}
 use borrow.Author.Tests.{eq-eqb, ne-eqb}
-use mir.Syntax.{w64}
-use mir.Val.{SFits, ofZ}
+use mir.{Syntax.{w64}, Val.{SFits, ofZ}}
 use Rattle.text.specs.Text.{bytes}
 use Rattle.fields.specs.Fields.{wordOf}
 

@@ -1,8 +1,7 @@
 -- The line of a refusal, worked by hand.
 use mathlib.Core.Path.{_≡_, refl}
 use Rattle.text.specs.Text.{bytes}
-use Rattle.writing.specs.Decimal.{digitsIn, digitCount, lastDigits, decimal}
-use Rattle.writing.specs.Text.{moreFields, parted, ended}
+use Rattle.writing.specs.{Decimal.{digitsIn, digitCount, lastDigits, decimal}, Text.{moreFields, parted, ended}}
 use Rattle.fields.specs.Refusal.{numbered, refusedText}
 
 refusal : refusedText 5 2 10 ≡ bytes "refused,5,2,10\n"

@@ -1,12 +1,9 @@
 -- The fields of a line: a number with its sign, or the word of a verdict's number.
 use Prim.Native.Nat.{ℕ, suc}
-use mathlib.Core.Bool.{cond}
-use mathlib.Core.List.{List, [], _∷_}
-use lib.Dec.{eqb}
-use lib.IntN.{ℤ, pos, negsuc}
+use mathlib.Core.{Bool.{cond}, List.{List, [], _∷_}}
+use lib.{Dec.{eqb}, IntN.{ℤ, pos, negsuc}}
 use Rattle.text.specs.Text.{bytes}
-use Rattle.writing.specs.Decimal.{signed}
-use Rattle.writing.specs.Text.{parted, ended}
+use Rattle.writing.specs.{Decimal.{signed}, Text.{parted, ended}}
 
 -- the word of a verdict's number: 1 safe, 2 unsafe, else undecided
 unfoldable pub wordOf : ℤ → List ℕ

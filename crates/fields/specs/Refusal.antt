@@ -3,10 +3,8 @@
 use Prim.Native.Nat.{ℕ}
 use mathlib.Core.List.{List, [], _∷_, map}
 use Rattle.text.specs.Text.{bytes}
-use Rattle.writing.specs.Decimal.{decimal}
-use Rattle.writing.specs.Text.{parted, ended}
-use Rattle.judgement.specs.declared.Judgement.{Judgement}
-use Rattle.judgement.specs.declared.Judgement.the-variants.{Lines, Refused}
+use Rattle.writing.specs.{Decimal.{decimal}, Text.{parted, ended}}
+use Rattle.judgement.specs.declared.Judgement.{Judgement, the-variants.{Lines, Refused}}
 
 -- a word and some numbers
 unfoldable pub numbered : List ℕ → List ℕ → List ℕ

@@ -1,25 +1,15 @@
 -- √area, nb and n are positive and consistent at every depth, and n is at least 1.
 use Prim.Native.Nat.{ℕ, _+_, _-_, _*_, _^_, _≤_, _<_}
-use mathlib.Core.Path.{_≡_, refl}
-use mathlib.Core.Bool.{Bool, true, false, cond}
-use native.Mathlib.Omega.{arith}
-use native.Mathlib.Nat.{mul-le-mul, mul-pos as nat-pos}
-use lib.Dec.{lit≤}
-use lib.IntN.{pos}
-use Rattle.exact.specs.Fraction.{Fraction, _≤f_, _<f_, _≈f_, whole, decimal, _+f_, _·f_, inv, _÷f_, top}
-use Rattle.exact.specs.Exact.{exactly, _·x_, _÷x_}
-use Rattle.exact.specs.Reported.{ten, over}
-use Rattle.exact.proofs.Order.{trans≤, refl≤, refl≈, le-of-lt, whole≤, whole-pos, nonneg}
-use Rattle.exact.proofs.Products.{mul≤}
-use Rattle.exact.proofs.Divisors.{expand}
-use Rattle.exact.proofs.Powers.{square}
-use Rattle.exact.proofs.Consistency.{consistent-exactly}
-use Rattle.exact.proofs.Roots.{consistent-root}
+use mathlib.Core.{Path.{_≡_, refl}, Bool.{Bool, true, false, cond}}
+use native.Mathlib.{Omega.{arith}, Nat.{mul-le-mul, mul-pos as nat-pos}}
+use lib.{Dec.{lit≤}, IntN.{pos}}
+use Rattle.exact.specs.{Fraction.{Fraction, _≤f_, _<f_, _≈f_, whole, decimal, _+f_, _·f_, inv, _÷f_, top}, Exact.{exactly, _·x_, _÷x_}}
+use Rattle.exact.{specs.Reported.{ten, over}, proofs.{Order.{trans≤, refl≤, refl≈, le-of-lt, whole≤, whole-pos, nonneg}, Products.{mul≤}}}
+use Rattle.exact.proofs.{Divisors.{expand}, Powers.{square}, Consistency.{consistent-exactly}, Roots.{consistent-root}}
 use Rattle.exact.proofs.Positive.{AtLeast, at-least-exactly, at-least-times, positive-at-least}
 use Rattle.exact.proofs.Bounded.{NotAbove, not-above-times, not-above-root, at-least-quotient, at-least-root}
 use Rattle.exact.proofs.Quantity.{Quantity, quantity-exactly, quantity-product, quantity-quotient, quantity-root}
-use Rattle.case.specs.declared.Case.{Case}
-use Rattle.case.specs.Bounds.{Bounds}
+use Rattle.case.specs.{declared.Case.{Case}, Bounds.{Bounds}}
 use Rattle.formulas.specs.Lengths.{D, Lx, Ly, Lp, area, equalCounts, √area, s, na, nb, n}
 use Rattle.formulas.proofs.Positive.{decimal-pos, one-thousandth, add-pos, Lx-pos, Ly-pos, area-least, Lp-pos, na-least, na-pos}
 
@@ -131,10 +121,7 @@ module _ {c : Case} (b : Bounds c) where
   pub quantity-nb : Quantity (nb c)
   unfolding nb
   quantity-nb =
-      record {
-        consistent = consistent-root _ (omega arith) (quantity-ratio .consistent);
-        positive = positive-at-least half-pos nb-least;
-      }
+      record { consistent = consistent-root _ (omega arith) (quantity-ratio .consistent); positive = positive-at-least half-pos nb-least }
 
   -- ---- n
 

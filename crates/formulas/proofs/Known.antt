@@ -6,15 +6,11 @@ use native.Mathlib.Omega.{arith}
 use lib.Dec.{T, leb, leb→le, lit≤}
 use mir.Facts.{and-yes}
 use Rattle.interval.specs.Operations.{natural}
-use Rattle.exact.specs.Fraction.{Fraction, _≤f_, _<f_, whole, _+f_, _−f_, _·f_, _÷f_}
-use Rattle.exact.specs.Ends.{Ends, combine, _+e_, _−e_, _·e_, _÷e_}
-use Rattle.exact.specs.Exact.{Exact, exactly, _+x_, _−x_, _·x_, _÷x_, minus, Holds}
-use Rattle.exact.specs.Reported.{ten, reported}
-use Rattle.exact.specs.Depth.{workDepth, Consistent, Within, Proper, Positive}
-use Rattle.exact.proofs.Order.{refl≤, lt-of-lt-of-le}
+use Rattle.exact.specs.{Fraction.{Fraction, _≤f_, _<f_, whole, _+f_, _−f_, _·f_, _÷f_}, Ends.{Ends, combine, _+e_, _−e_, _·e_, _÷e_}}
+use Rattle.exact.specs.{Exact.{Exact, exactly, _+x_, _−x_, _·x_, _÷x_, minus, Holds}, Reported.{ten, reported}}
+use Rattle.exact.{specs.Depth.{workDepth, Consistent, Within, Proper, Positive}, proofs.Order.{refl≤, lt-of-lt-of-le}}
 use Rattle.exact.proofs.Points.{Pointwise, proper-combine, sum-point, difference-point, product-point, quotient-point}
-use Rattle.exact.proofs.Inclusion.{within-refl, within-trans, within-combine}
-use Rattle.exact.proofs.Holding.{holds-depth}
+use Rattle.exact.proofs.{Inclusion.{within-refl, within-trans, within-combine}, Holding.{holds-depth}}
 
 -- the ends of x at the depth of the code lie within A
 pub record Known (x : Exact) (A : Ends) : Type 0 where

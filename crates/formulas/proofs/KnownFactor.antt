@@ -2,16 +2,11 @@
 use Prim.Native.Nat.{ℕ, _<_}
 use mathlib.Core.Bool.{_&&_}
 use lib.Dec.{T, lit<}
-use Rattle.exact.specs.Fraction.{whole, _·f_}
-use Rattle.exact.specs.Ends.{Ends, _+e_, _−e_, _·e_, _÷e_}
-use Rattle.exact.specs.Depth.{Consistent}
-use Rattle.exact.proofs.Order.{whole-pos}
-use Rattle.exact.proofs.Products.{mul-pos}
-use Rattle.exact.proofs.Quantity.{quantity-exactly, quantity-product, quantity-quotient, quantity-π}
+use Rattle.exact.{specs.{Fraction.{whole, _·f_}, Ends.{Ends, _+e_, _−e_, _·e_, _÷e_}, Depth.{Consistent}}, proofs.Order.{whole-pos}}
+use Rattle.exact.proofs.{Products.{mul-pos}, Quantity.{quantity-exactly, quantity-product, quantity-quotient, quantity-π}}
 use Rattle.case.specs.declared.Case.{Case}
 use Rattle.formulas.specs.Decrement.{Ta, tf, Df}
-use Rattle.formulas.proofs.Positive.{decimal-pos}
-use Rattle.formulas.proofs.Decrement.{two-pos, exponent}
+use Rattle.formulas.proofs.{Positive.{decimal-pos}, Decrement.{two-pos, exponent}}
 use Rattle.formulas.proofs.Known.{Known, digits, positive, inside, both-ends, known-exactly, known-sum, known-difference}
 use Rattle.formulas.proofs.Known.{known-product, known-quotient}
 use Rattle.formulas.proofs.KnownFunctions.{rootTest, expTest, known-root, known-exp-minus, known-π, tests}
@@ -62,15 +57,9 @@ module _ (c : Case) where
 
   -- Df by pairs around Ta, the exponent 2tf/Ta, a root of the power and the power, 1 less the power, Ta/tf, their product, and 1 more
   module _ (ms xr : ℕ) {A : Ends} (ta : Known (Ta (at ms xr)) A) (m : ℕ) (E C P Q R O U : Ends) (lo hi : ℕ) where
-    factor-by : 0 < ms → 0 < xr
-        → T (positive A && inside (both-ends (whole 2 ·f tf (at ms xr)) ÷e A) E)
-        → T (expTest m E C P)
-        → T (inside (both-ends (whole 1) −e P) Q)
-        → T (positive (both-ends (tf (at ms xr))) && inside (A ÷e both-ends (tf (at ms xr))) R)
-        → T (inside (R ·e Q) O)
-        → T (inside (both-ends (whole 1) +e O) U)
-        → T (rootTest 2 U lo hi)
-        → Known (Df (at ms xr)) (digits 12 lo hi)
+    factor-by : 0 < ms → 0 < xr → T (positive A && inside (both-ends (whole 2 ·f tf (at ms xr)) ÷e A) E) → T (expTest m E C P)
+        → T (inside (both-ends (whole 1) −e P) Q) → T (positive (both-ends (tf (at ms xr))) && inside (A ÷e both-ends (tf (at ms xr))) R)
+        → T (inside (R ·e Q) O) → T (inside (both-ends (whole 1) +e O) U) → T (rootTest 2 U lo hi) → Known (Df (at ms xr)) (digits 12 lo hi)
     unfolding Df
     factor-by p q t1 t2 t3 t4 t5 t6 t7 =
         known-root 2 lo hi

@@ -1,42 +1,26 @@
 -- Roots, logarithms and exponentials at numbers, and π.
 use Prim.Native.Nat.{ℕ, suc, _*_, _^_, _≤_}
-use mathlib.Core.Path.{refl}
-use mathlib.Core.Bool.{Bool, _&&_}
+use mathlib.Core.{Path.{refl}, Bool.{Bool, _&&_}}
 use native.Mathlib.Decide.{decLe}
 use lib.Dec.{T, leb, leb→le, lit≤}
 use mir.Facts.{and-yes}
 use Rattle.interval.specs.Operations.{natural}
 use Rattle.exact.specs.Fraction.{Fraction, _≤f_, _<f_, whole, decimal, _+f_, neg, _−f_, _·f_, inv, _÷f_, top, powf, sumOf, decLef, choose}
-use Rattle.exact.specs.Fraction.{minf, maxf}
-use Rattle.exact.specs.Ends.{Ends, least, greatest, combine, _+e_, _−e_, _·e_, _÷e_, minusEnds}
-use Rattle.exact.specs.Exact.{Exact, exactly, _+x_, _·x_, minus}
-use Rattle.exact.specs.Root.{root}
-use Rattle.exact.specs.Logarithm.{argument, term, terms, tail, lnNear, lnOf, ln}
-use Rattle.exact.specs.Exponential.{factorial, expTerm, expTerms, powerEnds, exp}
-use Rattle.exact.specs.Pi.{π}
-use Rattle.exact.specs.Reported.{ten, over, reported}
-use Rattle.exact.specs.Depth.{workDepth, Consistent, Within, Proper, Positive}
-use Rattle.exact.proofs.Order.{trans≤, lt-of-lt-of-le, le-of-lt, whole-pos}
-use Rattle.exact.proofs.Products.{mul-nonneg}
-use Rattle.exact.proofs.Quotients.{inv-nonneg}
-use Rattle.exact.proofs.Series.{pow≤}
-use Rattle.exact.proofs.Inclusion.{within-refl, within-trans, proper-within}
-use Rattle.exact.proofs.Consistency.{consistent-minus, proper-at}
-use Rattle.exact.proofs.Growing.{Growing, extended, within-parts}
-use Rattle.exact.proofs.Roots.{growing-root, root-within}
-use Rattle.exact.proofs.Logarithm.{growing-ln, within-ln-up, within-ln-down}
-use Rattle.exact.proofs.Doublings.{doublings-least, halved}
-use Rattle.exact.proofs.ExpUp.{slack, slack-positive}
-use Rattle.exact.proofs.Exponential.{consistent-exp, exp-minus-within}
-use Rattle.exact.proofs.Pi.{consistent-π}
-use Rattle.exact.proofs.Computed.{within-π}
+use Rattle.exact.specs.{Fraction.{minf, maxf}, Ends.{Ends, least, greatest, combine, _+e_, _−e_, _·e_, _÷e_, minusEnds}}
+use Rattle.exact.specs.{Exact.{Exact, exactly, _+x_, _·x_, minus}, Root.{root}, Logarithm.{argument, term, terms, tail, lnNear, lnOf, ln}}
+use Rattle.exact.specs.{Exponential.{factorial, expTerm, expTerms, powerEnds, exp}, Pi.{π}, Reported.{ten, over, reported}}
+use Rattle.exact.{specs.Depth.{workDepth, Consistent, Within, Proper, Positive}, proofs.Order.{trans≤, lt-of-lt-of-le, le-of-lt, whole-pos}}
+use Rattle.exact.proofs.{Products.{mul-nonneg}, Quotients.{inv-nonneg}, Series.{pow≤}, Inclusion.{within-refl, within-trans, proper-within}}
+use Rattle.exact.proofs.{Consistency.{consistent-minus, proper-at}, Growing.{Growing, extended, within-parts}}
+use Rattle.exact.proofs.{Roots.{growing-root, root-within}, Logarithm.{growing-ln, within-ln-up, within-ln-down}}
+use Rattle.exact.proofs.{Doublings.{doublings-least, halved}, ExpUp.{slack, slack-positive}, Exponential.{consistent-exp, exp-minus-within}}
+use Rattle.exact.proofs.{Pi.{consistent-π}, Computed.{within-π}}
 use Rattle.formulas.proofs.Known.{Known, digits, atMost, lessThan, inside, positive, at-most, less-than, inside-within, is-positive}
 
 -- ---- roots and logarithms, which grow with their argument
 
 proper-extended : {may : Fraction → Type 0} {f : Fraction → Exact} → Growing may f → (x : Exact) → may (x workDepth .lower)
-    → Proper (x workDepth)
-    → Proper (extended f x workDepth)
+    → Proper (x workDepth) → Proper (extended f x workDepth)
 proper-extended g x m p =
     record {
       proper =
@@ -83,8 +67,7 @@ module _ (m : ℕ) (q : Fraction) (t : T (halvedBy m q)) where
       within-ln-up m workDepth from-one (leb→le _ _ (k .0)) (leb→le _ _ (k .1)) (within-refl (lnBy m q))
 
 known-ln : {x : Exact} {A B C : Ends} (D : Ends) → Known x A → Positive A → Within (lnOf (A .lower) workDepth) B
-    → Within (lnOf (A .upper) workDepth) C
-    → T (inside (record { lower = B .lower; upper = C .upper }) D) → Known (ln x) D
+    → Within (lnOf (A .upper) workDepth) C → T (inside (record { lower = B .lower; upper = C .upper }) D) → Known (ln x) D
 unfolding ln
 known-ln {x} {B = B} {C} D a p b c t =
     record {

@@ -2,20 +2,11 @@
 use Prim.Native.Nat.{ℕ}
 use mathlib.Core.Bool.{_&&_}
 use lib.Dec.{T}
-use Rattle.exact.specs.Fraction.{Fraction, whole}
-use Rattle.exact.specs.Ends.{Ends, _·e_, _÷e_}
-use Rattle.exact.specs.Exact.{Exact, exactly, _·x_, _÷x_}
-use Rattle.exact.specs.Logarithm.{ln}
-use Rattle.exact.specs.Pi.{π}
-use Rattle.formulas.specs.Lengths.{ρ, D, h, d, Lr, Lx, Ly, Lc, Lp, area, LR, LT, na}
-use Rattle.formulas.specs.Current.{IG}
-use Rattle.formulas.specs.Mesh.{G, Kh}
-use Rattle.formulas.specs.Step.{LS}
-use Rattle.formulas.specs.Resistance.{√20}
-use Rattle.formulas.specs.Yards.{grid}
+use Rattle.exact.specs.{Fraction.{Fraction, whole}, Ends.{Ends, _·e_, _÷e_}, Exact.{Exact, exactly, _·x_, _÷x_}, Logarithm.{ln}, Pi.{π}}
+use Rattle.formulas.specs.{Lengths.{ρ, D, h, d, Lr, Lx, Ly, Lc, Lp, area, LR, LT, na}, Current.{IG}, Mesh.{G, Kh}, Step.{LS}}
+use Rattle.formulas.specs.{Resistance.{√20}, Yards.{grid}}
 use Rattle.formulas.proofs.Known.{Known, digits, positive, inside, both-ends, rounded, known-exactly, known-product, known-quotient}
-use Rattle.formulas.proofs.KnownFunctions.{known-root, known-ln-up, known-π, tests}
-use Rattle.formulas.proofs.KnownFactor.{factor-500-10}
+use Rattle.formulas.proofs.{KnownFunctions.{known-root, known-ln-up, known-π, tests}, KnownFactor.{factor-500-10}}
 
 -- q·x·k·i/l by pairs around q·x, q·x·k, q·x·k·i and the whole: a mesh or step voltage, ρ·Km·Ki·IG/LM or ρ·Ks·Ki·IG/LS
 module _ {x k i l : Exact} {X K I L : Ends} (q : Fraction) (A B C D : Ends) (a : Known x X) (b : Known k K) (c : Known i I)

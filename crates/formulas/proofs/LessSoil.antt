@@ -2,35 +2,22 @@
 -- voltages less than that. So where a voltage is above what is tolerable with the lower resistivity, it is with the higher one, at the same
 -- depth.
 use Prim.Native.Nat.{ℕ, _≤_}
-use mathlib.Core.Path.{_≡_, refl}
-use mathlib.Core.Logic.{_⊎_, inl, inr}
+use mathlib.Core.{Path.{_≡_, refl}, Logic.{_⊎_, inl, inr}}
 use native.Mathlib.Omega.{arith}
 use lib.Dec.{eqb}
 use borrow.Author.Tests.{ne-eqb}
-use Rattle.exact.specs.Fraction.{Fraction, _≤f_, _≈f_, whole, decimal, _+f_, _·f_}
-use Rattle.exact.specs.Exact.{Exact, exactly, _·x_, _÷x_, Above}
-use Rattle.exact.specs.Depth.{Consistent}
-use Rattle.exact.proofs.Order.{trans≤, refl≈, sym≈, trans≈, whole≤, nonneg}
-use Rattle.exact.proofs.Sums.{mono+, le+}
+use Rattle.exact.specs.{Fraction.{Fraction, _≤f_, _≈f_, whole, decimal, _+f_, _·f_}, Exact.{Exact, exactly, _·x_, _÷x_, Above}}
+use Rattle.exact.{specs.Depth.{Consistent}, proofs.{Order.{trans≤, refl≈, sym≈, trans≈, whole≤, nonneg}, Sums.{mono+, le+}}}
 use Rattle.exact.proofs.Products.{mul-comm, mul-assoc, add-mul, cong·, mul≤, mul-left≤, mul-nonneg}
-use Rattle.exact.proofs.Consistency.{consistent-product, consistent-quotient}
-use Rattle.exact.proofs.Quantity.{Quantity, quantity-exactly}
-use Rattle.exact.proofs.Factors.{factor-apart}
-use Rattle.exact.proofs.Proportion.{Proportion, proportion-above}
-use Rattle.case.specs.declared.Case.{Case}
-use Rattle.case.specs.Bounds.{Bounds, Bare, Layered}
-use Rattle.case.specs.Key.{underKey}
-use Rattle.case.specs.Soil.{withSoil}
+use Rattle.exact.proofs.{Consistency.{consistent-product, consistent-quotient}, Quantity.{Quantity, quantity-exactly}}
+use Rattle.exact.proofs.{Factors.{factor-apart}, Proportion.{Proportion, proportion-above}}
+use Rattle.case.specs.{declared.Case.{Case}, Bounds.{Bounds, Bare, Layered}, Key.{underKey}, Soil.{withSoil}}
 use Rattle.formulas.specs.Decrement.{Ta, tf, Df}
 use Rattle.formulas.specs.Lengths.{ρ, D, h as burial, d as diameter, Lr, Lx, Ly, Lc, Lp, area, LR, LT, √area, na, nb, n as number, Ki}
-use Rattle.formulas.specs.Current.{IG}
-use Rattle.formulas.specs.Tolerable.{ρs, hs, Q, k as bodyFactor, rootTime, tolerableTouch, tolerableStep}
-use Rattle.formulas.specs.Mesh.{G, Kh, innerWeight, Kii, Km, diagonal, LM, mesh}
-use Rattle.formulas.specs.Step.{halfPower, LS, Ks, step}
-use Rattle.formulas.proofs.Positive.{decimal-nonneg, ρ-pos, LS-pos}
-use Rattle.formulas.proofs.Surface.{thickness, effect-is, effect-cross, effect-nonneg}
-use Rattle.formulas.proofs.Conductors.{by-place}
-use Rattle.formulas.proofs.Quantities.{quantity-ρ, quantity-Ki, quantity-IG, quantity-LM}
+use Rattle.formulas.specs.{Current.{IG}, Tolerable.{ρs, hs, Q, k as bodyFactor, rootTime, tolerableTouch, tolerableStep}}
+use Rattle.formulas.specs.{Mesh.{G, Kh, innerWeight, Kii, Km, diagonal, LM, mesh}, Step.{halfPower, LS, Ks, step}}
+use Rattle.formulas.proofs.{Positive.{decimal-nonneg, ρ-pos, LS-pos}, Surface.{thickness, effect-is, effect-cross, effect-nonneg}}
+use Rattle.formulas.proofs.{Conductors.{by-place}, Quantities.{quantity-ρ, quantity-Ki, quantity-IG, quantity-LM}}
 use Rattle.formulas.proofs.Consistent.{quantity-rootTime, consistent-Km, consistent-Ks}
 
 -- ---- the tolerable voltages: Q falls less than the resistivity

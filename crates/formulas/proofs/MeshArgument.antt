@@ -1,17 +1,12 @@
 -- The two forms of G in document 01 are equal.
 use Prim.Native.Nat.{ℕ, _+_, _*_, _^_, _<_}
 use mathlib.Core.Path.{_≡_, ap}
-use native.Mathlib.Omega.{arith}
-use native.Mathlib.Nat.{mul-pos}
+use native.Mathlib.{Omega.{arith}, Nat.{mul-pos}}
 use Rattle.exact.specs.Fraction.{Fraction, _<f_, _≈f_, whole, decimal, _+f_, neg, _−f_, _·f_, _÷f_}
-use Rattle.exact.proofs.Order.{lt-of-lt-of-le, refl≈, sym≈, trans≈, whole-pos}
-use Rattle.exact.proofs.Sums.{cong+, cong−}
-use Rattle.exact.proofs.Products.{cong·, mul-pos as mul-posf}
+use Rattle.exact.proofs.{Order.{lt-of-lt-of-le, refl≈, sym≈, trans≈, whole-pos}, Sums.{cong+, cong−}, Products.{cong·, mul-pos as mul-posf}}
 use Rattle.exact.proofs.Divisors.{cong÷, expand, add-over, sub-over}
-use Rattle.case.specs.declared.Case.{Case}
-use Rattle.case.specs.Bounds.{Bounds}
-use Rattle.formulas.specs.Lengths.{D, h, d}
-use Rattle.formulas.specs.Mesh.{G, G′}
+use Rattle.case.specs.{declared.Case.{Case}, Bounds.{Bounds}}
+use Rattle.formulas.specs.{Lengths.{D, h, d}, Mesh.{G, G′}}
 use Rattle.formulas.proofs.Positive.{D-pos, h-pos, d-pos, G′-pos}
 
 -- D³ + (D+2h)²·2h − h·4hD is (D+2h)(D²+4h²), for D = x/m and h = y/m: each part is brought to a number over m, m² or m³

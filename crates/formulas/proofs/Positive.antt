@@ -1,20 +1,13 @@
 -- The lengths of a case within its bounds are positive.
 use Prim.Native.Nat.{ℕ, _-_, _≤_, _<_}
-use mathlib.Core.Path.{_≡_}
-use mathlib.Core.Logic.{⊎-elim}
-use native.Mathlib.Omega.{arith}
-use native.Mathlib.Nat.{mul-le-mul-right}
+use mathlib.Core.{Path.{_≡_}, Logic.{⊎-elim}}
+use native.Mathlib.{Omega.{arith}, Nat.{mul-le-mul-right}}
 use lib.Dec.{lit≤}
 use Rattle.exact.specs.Fraction.{Fraction, _≤f_, _<f_, whole, decimal, _+f_, _·f_, _÷f_}
-use Rattle.exact.proofs.Order.{trans≤, lt-of-lt-of-le, le-of-lt, refl≤, whole≤, whole-pos, nonneg}
-use Rattle.exact.proofs.Sums.{add-comm, mono+, le+}
-use Rattle.exact.proofs.Products.{mul-pos, mul-nonneg, mul≤, mono·, mul-assoc, mul-one, mul-add, one-mul}
-use Rattle.exact.proofs.Quotients.{inv-pos, mul-inv}
-use Rattle.case.specs.declared.Case.{Case}
-use Rattle.case.specs.Bounds.{Bounds, Rodless, Rodded}
-use Rattle.formulas.specs.Lengths.{ρ, D, h, d, Lr, Lx, Ly, Lc, Lp, area, LR, LT, na}
-use Rattle.formulas.specs.Mesh.{G′}
-use Rattle.formulas.specs.Step.{LS}
+use Rattle.exact.proofs.{Order.{trans≤, lt-of-lt-of-le, le-of-lt, refl≤, whole≤, whole-pos, nonneg}, Sums.{add-comm, mono+, le+}}
+use Rattle.exact.proofs.{Products.{mul-pos, mul-nonneg, mul≤, mono·, mul-assoc, mul-one, mul-add, one-mul}, Quotients.{inv-pos, mul-inv}}
+use Rattle.case.specs.{declared.Case.{Case}, Bounds.{Bounds, Rodless, Rodded}}
+use Rattle.formulas.specs.{Lengths.{ρ, D, h, d, Lr, Lx, Ly, Lc, Lp, area, LR, LT, na}, Mesh.{G′}, Step.{LS}}
 
 pub decimal-pos : {m : ℕ} (e : ℕ) → 0 < m → whole 0 <f decimal m e
 unfolding decimal whole

@@ -1,32 +1,18 @@
 -- Ki, IG and the parts of Km, Ks and LM are positive and consistent.
-use mathlib.Core.Path.{_≡_}
-use mathlib.Core.Bool.{true}
+use mathlib.Core.{Path.{_≡_}, Bool.{true}}
 use native.Mathlib.Omega.{arith}
 use lib.Dec.{lit<, eqb, eqb→eq}
-use Rattle.exact.specs.Fraction.{Fraction, _<f_, whole, decimal, _·f_}
-use Rattle.exact.specs.Exact.{exactly, _+x_, _−x_, _·x_, _÷x_}
-use Rattle.exact.specs.Logarithm.{ln}
-use Rattle.exact.specs.Depth.{Consistent}
-use Rattle.exact.specs.Root.{root}
-use Rattle.exact.specs.Pi.{π}
-use Rattle.exact.proofs.Order.{whole-pos, nonneg, le-of-lt}
-use Rattle.exact.proofs.Sums.{le+}
-use Rattle.exact.proofs.Products.{mul-pos}
-use Rattle.exact.proofs.Consistency.{consistent-exactly, consistent-difference, consistent-product, consistent-minus}
-use Rattle.exact.proofs.Logarithm.{consistent-ln}
-use Rattle.exact.proofs.Exponential.{consistent-exp, positive-exp}
+use Rattle.exact.specs.{Fraction.{Fraction, _<f_, whole, decimal, _·f_}, Exact.{exactly, _+x_, _−x_, _·x_, _÷x_}, Logarithm.{ln}}
+use Rattle.exact.{specs.{Depth.{Consistent}, Root.{root}, Pi.{π}}, proofs.{Order.{whole-pos, nonneg, le-of-lt}, Sums.{le+}}}
+use Rattle.exact.proofs.{Products.{mul-pos}, Consistency.{consistent-exactly, consistent-difference, consistent-product, consistent-minus}}
+use Rattle.exact.proofs.{Logarithm.{consistent-ln}, Exponential.{consistent-exp, positive-exp}}
 use Rattle.exact.proofs.Positive.{at-least-times, positive-exactly, positive-less}
 use Rattle.exact.proofs.Quantity.{Quantity, quantity-exactly, quantity-sum, quantity-product, quantity-quotient, quantity-root, quantity-π}
-use Rattle.case.specs.declared.Case.{Case}
-use Rattle.case.specs.Bounds.{Bounds, Rodded}
-use Rattle.formulas.specs.Lengths.{ρ, equalCounts, n, Ki, Lr}
-use Rattle.formulas.specs.Current.{IG}
-use Rattle.formulas.specs.Mesh.{Kh, innerWeight, Kii, diagonal, LM}
+use Rattle.case.specs.{declared.Case.{Case}, Bounds.{Bounds, Rodded}}
+use Rattle.formulas.specs.{Lengths.{ρ, equalCounts, n, Ki, Lr}, Current.{IG}, Mesh.{Kh, innerWeight, Kii, diagonal, LM}}
 use Rattle.formulas.specs.Step.{halfPower}
-use Rattle.formulas.proofs.Positive.{decimal-pos, one-thousandth, four-squares, ρ-pos, h-pos, Lc-pos, LT-pos, diagonal-least}
-use Rattle.formulas.proofs.Positive.{rodded, Lr-pos, LR-pos}
-use Rattle.formulas.proofs.Decrement.{quantity-Df}
-use Rattle.formulas.proofs.Conductors.{by-place, n-least, quantity-n}
+use Rattle.formulas.proofs.Positive.{decimal-pos, one-thousandth, four-squares, ρ-pos, h-pos, Lc-pos, LT-pos, diagonal-least, rodded}
+use Rattle.formulas.proofs.{Positive.{Lr-pos, LR-pos}, Decrement.{quantity-Df}, Conductors.{by-place, n-least, quantity-n}}
 
 pub one : Quantity (exactly (whole 1))
 one = quantity-exactly (whole-pos (omega arith))
@@ -136,8 +122,7 @@ module _ {c : Case} (b : Bounds c) where
   weighted : {p q : Fraction} → whole 0 <f p → whole 0 <f q → Rodded c → Quantity (exactly p +x exactly (q ·f Lr c) ÷x diagonal c)
   weighted p q r = quantity-sum (quantity-exactly p) (quantity-quotient (quantity-exactly (mul-pos q (Lr-pos r))) quantity-diagonal)
 
-  pub quantity-weight : Rodded c
-      → Quantity (exactly (decimal 155 2) +x exactly (decimal 122 2 ·f Lr c) ÷x diagonal c)
+  pub quantity-weight : Rodded c → Quantity (exactly (decimal 155 2) +x exactly (decimal 122 2 ·f Lr c) ÷x diagonal c)
   quantity-weight r = weighted (decimal-pos 2 (omega arith)) (decimal-pos 2 (omega arith)) r
 
   pub place-rodded : eqb (c .place) 1 ≡ true → Rodded c

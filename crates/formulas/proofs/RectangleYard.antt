@@ -1,14 +1,10 @@
 -- The rectangle of IEEE Std 80-2013, B.3, with its rods and without, at numbers, each part of a formula by its line.
 use Prim.Native.Nat.{ℕ}
 use lib.Dec.{lit<}
-use Rattle.exact.specs.Ends.{minusEnds}
-use Rattle.exact.proofs.Order.{whole-pos}
+use Rattle.exact.{specs.Ends.{minusEnds}, proofs.Order.{whole-pos}}
 use Rattle.case.specs.Bounds.{Bounds}
-use Rattle.formulas.specs.Lengths.{√area, s, nb, n, Ki}
-use Rattle.formulas.specs.Mesh.{innerWeight, Kii, Km, diagonal, LM, mesh}
-use Rattle.formulas.specs.Step.{halfPower, Ks, step}
-use Rattle.formulas.specs.Resistance.{resistance}
-use Rattle.formulas.specs.Yards.{grid, rectangle, rodless}
+use Rattle.formulas.specs.{Lengths.{√area, s, nb, n, Ki}, Mesh.{innerWeight, Kii, Km, diagonal, LM, mesh}, Step.{halfPower, Ks, step}}
+use Rattle.formulas.specs.{Resistance.{resistance}, Yards.{grid, rectangle, rodless}}
 use Rattle.formulas.proofs.Quantities.{consistent-logarithm, consistent-halvings}
 use Rattle.formulas.proofs.Known.{Known, digits, rounded, known-exactly, known-sum, known-difference, known-product, known-quotient}
 use Rattle.formulas.proofs.KnownFunctions.{known-root, known-ln-up, known-ln-down, known-exp-minus, known-π, tests}

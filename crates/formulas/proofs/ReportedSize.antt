@@ -2,24 +2,13 @@
 -- it.
 use Prim.Native.Nat.{ℕ, _+_, _*_, _^_, _≤_, _<_}
 use mathlib.Core.Path.{_≡_}
-use native.Mathlib.Omega.{arith}
-use native.Mathlib.Decide.{decLe}
-use native.Mathlib.Nat.{mul-le-mul-left, mul-le-mul-right, mul-le-mul}
-use lib.IntN.{ℤ, pos, negsuc, natAbs}
-use lib.Dec.{lit≤}
-use Rattle.interval.specs.declared.Interval.{Interval}
-use Rattle.interval.specs.Operations.{natural}
-use Rattle.exact.specs.Fraction.{_≤f_, decimal, _+f_, neg, _−f_}
-use Rattle.exact.specs.Ends.{Ends}
-use Rattle.exact.specs.Reported.{ten, over, reported, Reports}
-use Rattle.exact.specs.Depth.{workDepth, Within}
-use Rattle.exact.proofs.Powers.{square}
-use Rattle.exact.proofs.Order.{trans≤}
-use Rattle.case.specs.declared.Case.{Case}
-use Rattle.case.specs.Bounds.{Between}
-use Rattle.formulas.specs.Decrement.{Df}
-use Rattle.formulas.specs.Size.{duty, size}
-use Rattle.formulas.specs.Width.{billionths, factorWidth}
+use native.Mathlib.{Omega.{arith}, Decide.{decLe}, Nat.{mul-le-mul-left, mul-le-mul-right, mul-le-mul}}
+use lib.{IntN.{ℤ, pos, negsuc, natAbs}, Dec.{lit≤}}
+use Rattle.interval.specs.{declared.Interval.{Interval}, Operations.{natural}}
+use Rattle.exact.specs.{Fraction.{_≤f_, decimal, _+f_, neg, _−f_}, Ends.{Ends}, Reported.{ten, over, reported, Reports}}
+use Rattle.exact.{specs.Depth.{workDepth, Within}, proofs.{Powers.{square}, Order.{trans≤}}}
+use Rattle.case.specs.{declared.Case.{Case}, Bounds.{Between}}
+use Rattle.formulas.specs.{Decrement.{Df}, Size.{duty, size}, Width.{billionths, factorWidth}}
 use Rattle.formulas.proofs.Size.{size-enough, size-least}
 
 -- ---- the size grows with the factor
@@ -51,8 +40,7 @@ upper-between a b l (negsuc n) A h k w = absurd (omega arith)
 
 -- the size at both bounds of the upper end is the size between them
 pub size-reported : (c : Case) (a b : ℕ) {kcmil : ℕ} → Within (Df c workDepth) (reported billionths (natural a b)) → size c a ≡ kcmil
-    → size c (b + 1000) ≡ kcmil
-    → (pair : Interval) → Reports (Df c) billionths factorWidth pair → size c (natAbs (pair .upper)) ≡ kcmil
+    → size c (b + 1000) ≡ kcmil → (pair : Interval) → Reports (Df c) billionths factorWidth pair → size c (natAbs (pair .upper)) ≡ kcmil
 unfolding billionths reported natural
 size-reported c a b w e e′ pair r =
     let s = upper-between a b (pair .lower) (pair .upper) (reported billionths pair) (trans≤ (w .low) (r .holds .right workDepth (lit≤ tt)))

@@ -2,11 +2,8 @@
 use Prim.Native.Nat.{ℕ}
 use Rattle.exact.specs.Ends.{minusEnds}
 use Rattle.case.specs.declared.Case.{Case}
-use Rattle.formulas.specs.Lengths.{s, n, Ki}
-use Rattle.formulas.specs.Tolerable.{ρs, hs, Q, k, rootTime, tolerableTouch, tolerableStep}
-use Rattle.formulas.specs.Mesh.{innerWeight, Kii, Km, LM, mesh}
-use Rattle.formulas.specs.Step.{halfPower, Ks, step}
-use Rattle.formulas.specs.Resistance.{resistance}
+use Rattle.formulas.specs.{Lengths.{s, n, Ki}, Tolerable.{ρs, hs, Q, k, rootTime, tolerableTouch, tolerableStep}}
+use Rattle.formulas.specs.{Mesh.{innerWeight, Kii, Km, LM, mesh}, Step.{halfPower, Ks, step}, Resistance.{resistance}}
 use Rattle.formulas.specs.Yards.{grid, sample, wet}
 use Rattle.formulas.proofs.Known.{Known, digits, rounded, known-exactly, known-sum, known-difference, known-product, known-quotient}
 use Rattle.formulas.proofs.KnownFunctions.{known-root, known-ln-down, known-π, tests}

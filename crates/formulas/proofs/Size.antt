@@ -1,26 +1,13 @@
 -- The conductor size, defined by squares, is the smallest whole number that I·Kf·√t is not above. f is the factor's reported upper end.
 use Prim.Native.Nat.{ℕ, zero, suc, _+_, _*_, _^_, _≤_, _<_}
-use mathlib.Core.Path.{_≡_, refl, ap}
-use mathlib.Core.Bool.{Bool, true, false, cond, not}
-use mathlib.Core.Logic.{_⊎_, inl, inr}
-use native.Mathlib.Omega.{arith}
-use native.Mathlib.Decide.{decLe}
-use native.Mathlib.Nat.{add-zero, zero-add, eq-or-lt-of-le, mul-le-mul, lt-of-le-of-lt, mul-pos}
-use lib.IntN.{pos}
-use lib.ListN.{drop}
-use lib.Dec.{T, lit≤, lit<, leb→le, le→leb, nleb→lt}
-use Rattle.exact.specs.Fraction.{Fraction, _<f_, _≈f_, whole, decimal, _·f_, top}
-use Rattle.exact.specs.Exact.{exactly, Above, AtOrBelow}
-use Rattle.exact.specs.Root.{root}
-use Rattle.exact.specs.Reported.{Scale, over}
-use Rattle.exact.specs.Depth.{Consistent}
-use Rattle.exact.proofs.Powers.{square}
-use Rattle.exact.proofs.Order.{le-of-lt}
-use Rattle.exact.proofs.Consistency.{consistent-exactly}
-use Rattle.exact.proofs.Roots.{consistent-root}
+use mathlib.Core.{Path.{_≡_, refl, ap}, Bool.{Bool, true, false, cond, not}, Logic.{_⊎_, inl, inr}}
+use native.Mathlib.{Omega.{arith}, Decide.{decLe}, Nat.{add-zero, zero-add, eq-or-lt-of-le, mul-le-mul, lt-of-le-of-lt, mul-pos}}
+use lib.{IntN.{pos}, ListN.{drop}, Dec.{T, lit≤, lit<, leb→le, le→leb, nleb→lt}}
+use Rattle.exact.specs.{Fraction.{Fraction, _<f_, _≈f_, whole, decimal, _·f_, top}, Exact.{exactly, Above, AtOrBelow}, Root.{root}}
+use Rattle.exact.{specs.{Reported.{Scale, over}, Depth.{Consistent}}, proofs.{Powers.{square}, Order.{le-of-lt}}}
+use Rattle.exact.proofs.{Consistency.{consistent-exactly}, Roots.{consistent-root}}
 use Rattle.exact.proofs.AboveRoot.{above-root, not-above-root, above-multiple, not-above-multiple}
-use Rattle.case.specs.declared.Case.{Case}
-use Rattle.case.specs.Bounds.{Between, Bounds}
+use Rattle.case.specs.{declared.Case.{Case}, Bounds.{Between, Bounds}}
 use Rattle.formulas.proofs.Tables.{inside, entry-inside}
 use Rattle.formulas.specs.Size.{constants, Kf, smallest, duty, enough, required, size}
 

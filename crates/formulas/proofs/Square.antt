@@ -1,23 +1,13 @@
 -- "Equal counts keep the square's definitions": with n conductors each way and the side s, as document 01 has them.
 use Prim.Native.Nat.{ℕ, _-_, _^_}
-use mathlib.Core.Path.{_≡_, sym, ap, subst}
-use mathlib.Core.Bool.{true}
+use mathlib.Core.{Path.{_≡_, sym, ap, subst}, Bool.{true}}
 use native.Mathlib.Omega.{arith}
 use lib.Dec.{lit≤}
 use borrow.Author.Tests.{eq-eqb}
-use Rattle.exact.specs.Fraction.{Fraction, _≈f_, whole, _+f_, _·f_, inv, _÷f_}
-use Rattle.exact.specs.Exact.{exactly, _÷x_}
-use Rattle.exact.specs.Root.{root}
-use Rattle.exact.specs.Depth.{SameEnds}
-use Rattle.exact.proofs.Order.{refl≈, trans≈}
-use Rattle.exact.proofs.Products.{mul-assoc, mul-one, cong·}
-use Rattle.exact.proofs.Quotients.{mul-inv}
-use Rattle.exact.proofs.Roots.{root-value}
-use Rattle.case.specs.declared.Case.{Case}
-use Rattle.case.specs.Bounds.{Bounds}
-use Rattle.formulas.specs.Lengths.{D, Lx, Ly, Lc, Lp, equalCounts, s, na, n}
-use Rattle.formulas.specs.Mesh.{innerWeight, diagonal}
-use Rattle.formulas.specs.Step.{halfPower}
+use Rattle.exact.specs.{Fraction.{Fraction, _≈f_, whole, _+f_, _·f_, inv, _÷f_}, Exact.{exactly, _÷x_}, Root.{root}, Depth.{SameEnds}}
+use Rattle.exact.proofs.{Order.{refl≈, trans≈}, Products.{mul-assoc, mul-one, cong·}, Quotients.{mul-inv}, Roots.{root-value}}
+use Rattle.case.specs.{declared.Case.{Case}, Bounds.{Bounds}}
+use Rattle.formulas.specs.{Lengths.{D, Lx, Ly, Lc, Lp, equalCounts, s, na, n}, Mesh.{innerWeight, diagonal}, Step.{halfPower}}
 use Rattle.formulas.proofs.Positive.{Lp-pos}
 
 doubled : (m : ℕ) (q : Fraction) → whole m ·f q +f whole m ·f q ≈f whole 2 ·f whole m ·f q

@@ -1,10 +1,8 @@
 -- A table's range: one test computed over the table, and a law that turns it into the rule at each entry; and one claim about a list.
 use Prim.Native.Nat.{ℕ, zero, suc, _<_}
-use mathlib.Core.Bool.{Bool, true, _&&_}
-use mathlib.Core.List.{List, [], _∷_}
+use mathlib.Core.{Bool.{Bool, true, _&&_}, List.{List, [], _∷_}}
 use native.Mathlib.Omega.{arith}
-use lib.ListN.{length, getD}
-use lib.Dec.{T, leb, leb→le}
+use lib.{ListN.{length, getD}, Dec.{T, leb, leb→le}}
 use mir.Facts.{and-yes}
 use Rattle.case.specs.Bounds.{Between}
 

@@ -1,23 +1,16 @@
 -- Every width of document 01, 'What exact means', as changed by requests (j), (c) and (d), worked by hand on its sample yard, on that yard
 -- with twenty rods of 7.5 m along the perimeter, and on a rectangle: a width made wider or narrower is refused here.
 use Prim.Native.Nat.{ℕ, _+_}
-use mathlib.Core.Bool.{Bool, true, _&&_}
-use mathlib.Core.List.{List, [], _∷_}
-use lib.IntN.{pos}
-use lib.Dec.{T}
+use mathlib.Core.{Bool.{Bool, true, _&&_}, List.{List, [], _∷_}}
+use lib.{IntN.{pos}, Dec.{T}}
 use mir.Facts.{and-yes}
 use Rattle.interval.specs.declared.Interval.{Interval}
-use Rattle.exact.specs.Fraction.{Fraction, _≈f_, whole, decimal, _+f_, _·f_, inv, _÷f_}
-use Rattle.exact.specs.Ends.{Ends}
-use Rattle.exact.specs.Reported.{ten, over, reported}
+use Rattle.exact.specs.{Fraction.{Fraction, _≈f_, whole, decimal, _+f_, _·f_, inv, _÷f_}, Ends.{Ends}, Reported.{ten, over, reported}}
 use Rattle.case.specs.declared.Case.{Case}
-use Rattle.formulas.specs.Lengths.{ρ, D, Lr, Lx, Ly, Lc, Lp, LR, LT, na}
-use Rattle.formulas.specs.Step.{LS}
+use Rattle.formulas.specs.{Lengths.{ρ, D, Lr, Lx, Ly, Lc, Lp, LR, LT, na}, Step.{LS}}
 use Rattle.formulas.specs.Width.{mV, μΩ, μA, billionths, factorWidth, currentWidth, tolerableWidth, resistanceWidth, riseWidth}
-use Rattle.formulas.specs.Width.{referenceKi, meshWidth, stepWidth}
-use Rattle.formulas.specs.Yards.{grid, sample, rectangle}
-use Rattle.formulas.proofs.Tables.{Every}
-use Rattle.formulas.proofs.Known.{atMost, at-most}
+use Rattle.formulas.specs.{Width.{referenceKi, meshWidth, stepWidth}, Yards.{grid, sample, rectangle}}
+use Rattle.formulas.proofs.{Tables.{Every}, Known.{atMost, at-most}}
 
 -- the sample with twenty rods of 7.5 m along the perimeter
 abbrev rodded : Case

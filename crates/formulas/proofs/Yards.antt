@@ -1,59 +1,32 @@
 -- Every yard of the list of worked yards is right.
 use Prim.Native.Nat.{ℕ, _*_, _^_, _<_}
-use mathlib.Core.Path.{_≡_, refl, ap}
-use mathlib.Core.Bool.{Bool, _&&_}
-use mathlib.Core.List.{[], _∷_}
-use native.Mathlib.Omega.{arith}
-use native.Mathlib.Nat.{zero-lt-suc}
-use lib.IntN.{pos}
-use lib.Dec.{T, leb, leb→le, lit≤}
+use mathlib.Core.{Path.{_≡_, refl, ap}, Bool.{Bool, _&&_}, List.{[], _∷_}}
+use native.Mathlib.{Omega.{arith}, Nat.{zero-lt-suc}}
+use lib.{IntN.{pos}, Dec.{T, leb, leb→le, lit≤}}
 use mir.Facts.{and-yes}
-use Rattle.interval.specs.Operations.{natural}
-use Rattle.interval.proofs.Rules.{_≼_, Kept, lits}
-use Rattle.interval.proofs.Choice.{pos≤}
-use Rattle.exact.specs.Fraction.{Fraction, whole, decimal, _−f_, top}
-use Rattle.exact.specs.Ends.{Ends, _÷e_}
-use Rattle.exact.specs.Exact.{Exact, exactly, _÷x_, Holds}
-use Rattle.exact.specs.Root.{root}
-use Rattle.exact.specs.Reported.{Scale, ten, over, reported, Reports}
-use Rattle.exact.specs.Depth.{Consistent}
-use Rattle.exact.proofs.Order.{refl≤}
-use Rattle.exact.proofs.Holding.{holds-wider, holds-exactly, holds-quotient}
-use Rattle.exact.proofs.Roots.{holds-root}
-use Rattle.exact.proofs.Consistency.{consistent-exactly}
+use Rattle.interval.{specs.Operations.{natural}, proofs.{Rules.{_≼_, Kept, lits}, Choice.{pos≤}}}
+use Rattle.exact.specs.{Fraction.{Fraction, whole, decimal, _−f_, top}, Ends.{Ends, _÷e_}, Exact.{Exact, exactly, _÷x_, Holds}, Root.{root}}
+use Rattle.exact.{specs.{Reported.{Scale, ten, over, reported, Reports}, Depth.{Consistent}}, proofs.Order.{refl≤}}
+use Rattle.exact.proofs.{Holding.{holds-wider, holds-exactly, holds-quotient}, Roots.{holds-root}, Consistency.{consistent-exactly}}
 use Rattle.exact.proofs.Quantity.{Quantity, quantity-root}
 use Rattle.text.specs.Text.{same}
-use Rattle.case.specs.declared.Case.{Case}
-use Rattle.case.specs.declared.Judged.the-variants.{Sound}
-use Rattle.case.specs.Columns.{columns, inRange, nameIndex, named}
+use Rattle.case.specs.{declared.{Case.{Case}, Judged.the-variants.{Sound}}, Columns.{columns, inRange, nameIndex, named}}
 use Rattle.case.specs.Check.{leftOf, outOfRange, agree, disagreement, finding, caseFinding, countFrom, ownPlaces, recordFinding, judgedBy}
-use Rattle.case.specs.Check.{recordJudged}
-use Rattle.case.specs.Bounds.{Bounds}
-use Rattle.case.proofs.Bounds.{record-bounds}
-use Rattle.case.proofs.Tests.{_then_}
-use Rattle.formulas.specs.Lengths.{ρ, D, h, d}
-use Rattle.formulas.specs.Current.{IG}
-use Rattle.formulas.specs.Size.{constants, Kf, smallest, duty, enough, size}
-use Rattle.formulas.specs.Tolerable.{Q, k, rootTime, tolerableTouch, tolerableStep}
-use Rattle.formulas.specs.Mesh.{G}
+use Rattle.case.{specs.{Check.{recordJudged}, Bounds.{Bounds}}, proofs.{Bounds.{record-bounds}, Tests.{_then_}}}
+use Rattle.formulas.specs.{Lengths.{ρ, D, h, d}, Current.{IG}, Size.{constants, Kf, smallest, duty, enough, size}}
+use Rattle.formulas.specs.{Tolerable.{Q, k, rootTime, tolerableTouch, tolerableStep}, Mesh.{G}}
 use Rattle.formulas.specs.Width.{mV, μΩ, μA, billionths, factorWidth, currentWidth}
-use Rattle.formulas.specs.Yards.{yard, sample, wet, rectangle, rodless, yards, Right}
-use Rattle.formulas.specs.Yards.Worked.{conductor}
-use Rattle.formulas.proofs.Tables.{Every}
-use Rattle.formulas.proofs.Positive.{millisecond}
-use Rattle.formulas.proofs.Decrement.{consistent-Df}
-use Rattle.formulas.proofs.Conductors.{quantity-n}
+use Rattle.formulas.specs.Yards.{yard, sample, wet, rectangle, rodless, yards, Right, Worked.{conductor}}
+use Rattle.formulas.proofs.{Tables.{Every}, Positive.{millisecond}, Decrement.{consistent-Df}, Conductors.{quantity-n}}
 use Rattle.formulas.proofs.Quantities.{quantity-IG}
 use Rattle.formulas.proofs.Consistent.{consistent-touch, consistent-tolerable-step, quantity-resistance, consistent-step}
-use Rattle.formulas.proofs.Consistent.{consistent-mesh}
-use Rattle.formulas.proofs.ReportedSize.{size-reported}
+use Rattle.formulas.proofs.{Consistent.{consistent-mesh}, ReportedSize.{size-reported}}
 use Rattle.formulas.proofs.Known.{Known, digits, atMost, inside, rounded, known-exactly, known-product, holds-known, inside-within}
-use Rattle.formulas.proofs.Known.{at-most}
-use Rattle.formulas.proofs.KnownFunctions.{tests}
+use Rattle.formulas.proofs.{Known.{at-most}, KnownFunctions.{tests}}
 use Rattle.formulas.proofs.KnownFactor.{factor-3000-10, factor-1000-10, factor-500-10, factor-99-11, factor-100-11, factor-499-40}
 use Rattle.formulas.proofs.KnownFactor.{factor-500-40}
-use Rattle.formulas.proofs.SampleYard.{touch-sample, tolerable-step-sample, mesh-sample, step-sample, resistance-sample}
-use Rattle.formulas.proofs.SampleYard.{touch-wet, tolerable-step-wet, mesh-wet, step-wet}
+use Rattle.formulas.proofs.SampleYard.{touch-sample, tolerable-step-sample, mesh-sample, step-sample, resistance-sample, touch-wet}
+use Rattle.formulas.proofs.SampleYard.{tolerable-step-wet, mesh-wet, step-wet}
 use Rattle.formulas.proofs.RectangleYard.{n-rectangle, mesh-rectangle, step-rectangle, resistance-rectangle, mesh-rodless}
 use Rattle.formulas.proofs.RectangleYard.{step-rodless, resistance-rodless}
 

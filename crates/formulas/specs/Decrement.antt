@@ -1,9 +1,6 @@
 -- The decrement factor. Request (d) of document 02 (IEEE Std 80-2013, equation 84).
-use Rattle.exact.specs.Fraction.{Fraction, whole, decimal, _·f_}
-use Rattle.exact.specs.Exact.{Exact, exactly, _+x_, _−x_, _·x_, _÷x_, minus}
-use Rattle.exact.specs.Root.{root}
-use Rattle.exact.specs.Exponential.{exp}
-use Rattle.exact.specs.Pi.{π}
+use Rattle.exact.specs.{Fraction.{Fraction, whole, decimal, _·f_}, Exact.{Exact, exactly, _+x_, _−x_, _·x_, _÷x_, minus}, Root.{root}}
+use Rattle.exact.specs.{Exponential.{exp}, Pi.{π}}
 use Rattle.case.specs.declared.Case.{Case}
 
 module _ (c : Case) where

@@ -1,12 +1,9 @@
 -- The conductor size and the half-powers computed on examples.
 use Prim.Native.Nat.{ℕ}
-use mathlib.Core.Path.{_≡_, refl}
-use mathlib.Core.List.{[], _∷_, map}
-use Rattle.exact.specs.Fraction.{Fraction, whole, inv}
-use Rattle.exact.specs.Exact.{exactly}
+use mathlib.Core.{Path.{_≡_, refl}, List.{[], _∷_, map}}
+use Rattle.exact.specs.{Fraction.{Fraction, whole, inv}, Exact.{exactly}}
 use Rattle.case.specs.Case.{caseOf}
-use Rattle.formulas.specs.Step.{halfPower}
-use Rattle.formulas.specs.Size.{constants, Kf, smallest, duty, enough, size}
+use Rattle.formulas.specs.{Step.{halfPower}, Size.{constants, Kf, smallest, duty, enough, size}}
 
 -- the size by fault, wire, metal and the reported upper end of the factor
 sizeOf : ℕ → ℕ → ℕ → ℕ → ℕ

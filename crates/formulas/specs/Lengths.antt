@@ -3,9 +3,7 @@
 use Prim.Native.Nat.{_-_}
 use mathlib.Core.Bool.{Bool, cond}
 use lib.Dec.{eqb}
-use Rattle.exact.specs.Fraction.{Fraction, whole, decimal, _+f_, _·f_, _÷f_}
-use Rattle.exact.specs.Exact.{Exact, exactly, _+x_, _·x_, _÷x_}
-use Rattle.exact.specs.Root.{root}
+use Rattle.exact.specs.{Fraction.{Fraction, whole, decimal, _+f_, _·f_, _÷f_}, Exact.{Exact, exactly, _+x_, _·x_, _÷x_}, Root.{root}}
 use Rattle.case.specs.declared.Case.{Case}
 
 module _ (c : Case) where

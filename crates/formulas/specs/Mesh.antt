@@ -1,15 +1,10 @@
 -- Mesh voltage in volts. Document 01, 'The formulas', and request (c) of document 02.
 use mathlib.Core.Bool.{cond}
 use lib.Dec.{eqb}
-use Rattle.exact.specs.Fraction.{Fraction, whole, decimal, _+f_, _−f_, _·f_, _÷f_}
-use Rattle.exact.specs.Exact.{Exact, exactly, _+x_, _−x_, _·x_, _÷x_, minus}
-use Rattle.exact.specs.Root.{root}
-use Rattle.exact.specs.Logarithm.{ln}
-use Rattle.exact.specs.Exponential.{exp}
-use Rattle.exact.specs.Pi.{π}
+use Rattle.exact.specs.{Fraction.{Fraction, whole, decimal, _+f_, _−f_, _·f_, _÷f_}, Exact.{Exact, exactly, _+x_, _−x_, _·x_, _÷x_, minus}}
+use Rattle.exact.specs.{Root.{root}, Logarithm.{ln}, Exponential.{exp}, Pi.{π}}
 use Rattle.case.specs.declared.Case.{Case}
-use Rattle.formulas.specs.Lengths.{ρ, D, h, d, Lr, Lx, Ly, Lc, LR, LT, equalCounts, n, Ki}
-use Rattle.formulas.specs.Current.{IG}
+use Rattle.formulas.specs.{Lengths.{ρ, D, h, d, Lr, Lx, Ly, Lc, LR, LT, equalCounts, n, Ki}, Current.{IG}}
 
 module _ (c : Case) where
   -- "G = D²/(16hd) + (D+2h)²/(8Dd) − h/(4d)"

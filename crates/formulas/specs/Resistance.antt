@@ -1,11 +1,8 @@
 -- Resistance of the grid in ohms and ground potential rise in volts. Document 01, 'The formulas', and request (c) of
 -- document 02.
-use Rattle.exact.specs.Fraction.{whole}
-use Rattle.exact.specs.Exact.{Exact, exactly, _+x_, _·x_, _÷x_}
-use Rattle.exact.specs.Root.{root}
+use Rattle.exact.specs.{Fraction.{whole}, Exact.{Exact, exactly, _+x_, _·x_, _÷x_}, Root.{root}}
 use Rattle.case.specs.declared.Case.{Case}
-use Rattle.formulas.specs.Lengths.{ρ, h, s, LT}
-use Rattle.formulas.specs.Current.{IG}
+use Rattle.formulas.specs.{Lengths.{ρ, h, s, LT}, Current.{IG}}
 
 unfoldable pub √20 : Exact
 √20 = root 2 (exactly (whole 20))

@@ -1,12 +1,8 @@
 -- Conductor size. Document 01, 'The formulas' (IEEE Std 80-2013, equations 47 and 48, Table 2), and request (d) of document 02.
 use Prim.Native.Nat.{ℕ, zero, suc, _*_, _^_}
-use mathlib.Core.Bool.{Bool, cond}
-use mathlib.Core.List.{List, [], _∷_}
-use lib.ListN.{getD}
-use lib.Dec.{leb}
-use Rattle.exact.specs.Fraction.{decimal, _·f_}
-use Rattle.exact.specs.Exact.{Exact, exactly, _·x_}
-use Rattle.exact.specs.Root.{root}
+use mathlib.Core.{Bool.{Bool, cond}, List.{List, [], _∷_}}
+use lib.{ListN.{getD}, Dec.{leb}}
+use Rattle.exact.specs.{Fraction.{decimal, _·f_}, Exact.{Exact, exactly, _·x_}, Root.{root}}
 use Rattle.case.specs.declared.Case.{Case}
 
 -- "Each metal has its own Kf constant", in hundredths; no metal has the number 0

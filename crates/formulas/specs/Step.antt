@@ -1,14 +1,10 @@
 -- Step voltage in volts. Document 01, 'The formulas', and requests (b) and (c) of document 02.
 use Prim.Native.Nat.{_-_, _^_}
 use mathlib.Core.Bool.{cond}
-use Rattle.exact.specs.Fraction.{Fraction, whole, decimal, _+f_, _·f_, inv}
-use Rattle.exact.specs.Exact.{Exact, exactly, _+x_, _−x_, _·x_, _÷x_, minus}
-use Rattle.exact.specs.Logarithm.{ln}
-use Rattle.exact.specs.Exponential.{exp}
-use Rattle.exact.specs.Pi.{π}
+use Rattle.exact.specs.{Fraction.{Fraction, whole, decimal, _+f_, _·f_, inv}, Exact.{Exact, exactly, _+x_, _−x_, _·x_, _÷x_, minus}}
+use Rattle.exact.specs.{Logarithm.{ln}, Exponential.{exp}, Pi.{π}}
 use Rattle.case.specs.declared.Case.{Case}
-use Rattle.formulas.specs.Lengths.{ρ, D, h, Lc, LR, equalCounts, n, Ki}
-use Rattle.formulas.specs.Current.{IG}
+use Rattle.formulas.specs.{Lengths.{ρ, D, h, Lc, LR, equalCounts, n, Ki}, Current.{IG}}
 
 module _ (c : Case) where
   -- 0.5^(n−2): of a square one over 2^(n−2), as (b) has it, "working the power of one half itself"; else, as (c) has it, "e to the power

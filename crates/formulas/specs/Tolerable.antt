@@ -1,9 +1,7 @@
 -- Tolerable touch and step voltage in volts. Document 01, 'The formulas'.
 use mathlib.Core.Bool.{cond}
 use lib.Dec.{eqb}
-use Rattle.exact.specs.Fraction.{Fraction, whole, decimal, _+f_, _−f_, _·f_, _÷f_}
-use Rattle.exact.specs.Exact.{Exact, exactly, _÷x_}
-use Rattle.exact.specs.Root.{root}
+use Rattle.exact.specs.{Fraction.{Fraction, whole, decimal, _+f_, _−f_, _·f_, _÷f_}, Exact.{Exact, exactly, _÷x_}, Root.{root}}
 use Rattle.case.specs.declared.Case.{Case}
 use Rattle.formulas.specs.Lengths.{ρ}
 

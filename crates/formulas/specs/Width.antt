@@ -1,11 +1,8 @@
 -- How far apart the two ends of a reported pair may be. Document 01, 'What exact means', and requests (j), (c) and (d) of
 -- document 02.
-use Rattle.exact.specs.Fraction.{Fraction, decimal, _+f_, _·f_, _÷f_}
-use Rattle.exact.specs.Ends.{Ends}
-use Rattle.exact.specs.Reported.{Scale, ten}
+use Rattle.exact.specs.{Fraction.{Fraction, decimal, _+f_, _·f_, _÷f_}, Ends.{Ends}, Reported.{Scale, ten}}
 use Rattle.case.specs.declared.Case.{Case}
-use Rattle.formulas.specs.Lengths.{ρ, LT, na}
-use Rattle.formulas.specs.Step.{LS}
+use Rattle.formulas.specs.{Lengths.{ρ, LT, na}, Step.{LS}}
 
 -- millivolts, micro-ohms, microamperes, and the billionths of the decrement factor
 unfoldable pub mV : Scale

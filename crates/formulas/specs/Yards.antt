@@ -2,23 +2,13 @@
 -- sample yard, and the rectangle of IEEE Std 80-2013, B.3. Request (d) of document 02: "Document 01's cases of factor, current, size and
 -- the verdict sheet are worked anew at hz 60, with X/R 10 where none is named." proofs/Yards.antt has the claim.
 use Prim.Native.Nat.{ℕ}
-use mathlib.Core.Path.{_≡_}
-use mathlib.Core.List.{List, [], _∷_}
+use mathlib.Core.{Path.{_≡_}, List.{List, [], _∷_}}
 use lib.IntN.{natAbs}
-use Rattle.interval.specs.declared.Interval.{Interval}
-use Rattle.interval.specs.Operations.{natural}
-use Rattle.exact.specs.Fraction.{Fraction, _≈f_, whole, _÷f_}
-use Rattle.exact.specs.Exact.{Exact, Holds}
-use Rattle.exact.specs.Reported.{Scale, reported, Reports}
+use Rattle.interval.specs.{declared.Interval.{Interval}, Operations.{natural}}
+use Rattle.exact.specs.{Fraction.{Fraction, _≈f_, whole, _÷f_}, Exact.{Exact, Holds}, Reported.{Scale, reported, Reports}}
 use Rattle.case.specs.declared.Case.{Case}
-use Rattle.formulas.specs.Lengths.{n}
-use Rattle.formulas.specs.Decrement.{Df}
-use Rattle.formulas.specs.Current.{IG}
-use Rattle.formulas.specs.Size.{size}
-use Rattle.formulas.specs.Tolerable.{tolerableTouch, tolerableStep}
-use Rattle.formulas.specs.Mesh.{G, mesh}
-use Rattle.formulas.specs.Step.{step}
-use Rattle.formulas.specs.Resistance.{resistance}
+use Rattle.formulas.specs.{Lengths.{n}, Decrement.{Df}, Current.{IG}, Size.{size}, Tolerable.{tolerableTouch, tolerableStep}}
+use Rattle.formulas.specs.{Mesh.{G, mesh}, Step.{step}, Resistance.{resistance}}
 use Rattle.formulas.specs.Width.{mV, μΩ, μA, billionths, factorWidth, currentWidth}
 
 -- a yard of bare soil without rods: what the document does not name is as in its

@@ -1,9 +1,7 @@
 -- Names that have no column yet.
 use Prim.Native.Nat.{ℕ, zero, suc, _≤_, _<_}
-use mathlib.Core.Path.{_≡_, refl, sym, ap}
-use mathlib.Core.List.{List, [], _∷_}
-use native.Mathlib.Nat.{le-of-suc-le-suc, not-suc-le-zero}
-use native.Mathlib.Omega.{arith}
+use mathlib.Core.{Path.{_≡_, refl, sym, ap}, List.{List, [], _∷_}}
+use native.Mathlib.{Nat.{le-of-suc-le-suc, not-suc-le-zero}, Omega.{arith}}
 use lib.ListN.{length, getD, set, replicate}
 
 -- how many names have no column

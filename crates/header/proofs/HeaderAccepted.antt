@@ -1,17 +1,11 @@
 -- A header with no wrong column gives each name a column.
 use Prim.Native.Nat.{ℕ, _+_, _≤_, _<_}
-use mathlib.Core.Path.{_≡_, refl}
-use mathlib.Core.Bool.{Bool, true, false, cond, _&&_}
-use mathlib.Core.List.{List, [], _∷_}
-use native.Mathlib.Numerals.{add-one}
-use native.Mathlib.Omega.{arith}
-use lib.ListN.{length, getD, set}
-use lib.Dec.{eqb, ltb, leb}
+use mathlib.Core.{Path.{_≡_, refl}, Bool.{Bool, true, false, cond, _&&_}, List.{List, [], _∷_}}
+use native.Mathlib.{Numerals.{add-one}, Omega.{arith}}
+use lib.{ListN.{length, getD, set}, Dec.{eqb, ltb, leb}}
 use borrow.Author.Tests.{eqb-true, leb-false}
-use Rattle.case.specs.Columns.{Form, nameIndex}
-use Rattle.case.specs.Bounds.{Placed}
-use Rattle.header.specs.declared.names.Found.the-variants.{At}
-use Rattle.header.specs.Header.{noColumns, fresh, wrongName, columnsFrom, columnsOf}
+use Rattle.case.specs.{Columns.{Form, nameIndex}, Bounds.{Placed}}
+use Rattle.header.specs.{declared.names.Found.the-variants.{At}, Header.{noColumns, fresh, wrongName, columnsFrom, columnsOf}}
 use Rattle.header.specs.Parts.{foundName}
 use Rattle.header.proofs.HeaderReading.{HeaderAt, header-start, header-step, header-placed}
 
@@ -26,8 +20,7 @@ unfolding fresh foundName
 fresh-name form at t c r h = go (ltb (nameIndex form t) (length form)) refl (eqb (getD at (nameIndex form t) 0) 0) refl
   where
     go : (p : Bool) → ltb (nameIndex form t) (length form) ≡ p → (q : Bool) → eqb (getD at (nameIndex form t) 0) 0 ≡ q
-        → cond (p && q) r c ≡ 0
-        → Fresh form at t r
+        → cond (p && q) r c ≡ 0 → Fresh form at t r
     go true e true f z = record { found = rw e; first = eqb-true _ 0 f; then = z }
     go true e false f z = absurd (omega arith)
     go false e q f z = absurd (omega arith)

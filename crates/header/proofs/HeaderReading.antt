@@ -1,23 +1,13 @@
 -- The reading of a header: what holds while the fields fs are left, column c is next, and `at` holds the columns left of it.
 use Prim.Native.Nat.{ℕ, zero, suc, _+_, _-_, _≤_, _<_}
-use mathlib.Core.Path.{_≡_, refl, sym, ap, _∙_}
-use mathlib.Core.Bool.{Bool, true, false, cond}
-use mathlib.Core.List.{List, [], _∷_}
-use native.Mathlib.Numerals.{add-one}
-use native.Mathlib.Decide.{ℕ-discrete}
-use native.Mathlib.Omega.{arith}
-use lib.ListN.{length, getD, set, replicate, length-set, length-replicate}
-use lib.Seq.{getD-set-same, getD-set-other}
-use lib.Dec.{ltb}
+use mathlib.Core.{Path.{_≡_, refl, sym, ap, _∙_}, Bool.{Bool, true, false, cond}, List.{List, [], _∷_}}
+use native.Mathlib.{Numerals.{add-one}, Decide.{ℕ-discrete}, Omega.{arith}}
+use lib.{ListN.{length, getD, set, replicate, length-set, length-replicate}, Seq.{getD-set-same, getD-set-other}, Dec.{ltb}}
 use borrow.Author.Tests.{eq-eqb, ne-eqb, le-leb, lt-leb, ltb-true}
-use Rattle.text.proofs.Clash.{clash}
-use Rattle.text.specs.Text.{fieldsOf}
-use Rattle.case.specs.Columns.{Form, nameIndex}
-use Rattle.case.specs.Bounds.{Placed}
-use Rattle.case.specs.Order.{Ordered}
+use Rattle.text.{specs.Text.{fieldsOf}, proofs.Clash.{clash}}
+use Rattle.case.specs.{Columns.{Form, nameIndex}, Bounds.{Placed}, Order.{Ordered}}
 use Rattle.header.specs.Header.{noColumns, fresh, wrongName, columnsFrom, columnsOf}
-use Rattle.header.specs.declared.names.Found.the-variants.{At, Nothing}
-use Rattle.header.specs.Parts.{Header, foundName}
+use Rattle.header.specs.{declared.names.Found.the-variants.{At, Nothing}, Parts.{Header, foundName}}
 use Rattle.header.proofs.FreeNames.{free, free-zeros, free-set, free-none, set-under}
 
 -- what the search for a name says of its index
@@ -173,8 +163,7 @@ order-step {form} {at = at} {order} {c = c} k a o h m e =
         rw (q, other (getD at j 0 - 1) (λ z. omega (arith, a .under j))) (o .name-of j t)
 
 pub order-end : {form : Form} {all : List (List ℕ)} {at order : List ℕ} {c : ℕ} → HeaderAt form all at [] c → OrderAt form at order c
-    → length form < c
-    → Ordered (length form) at order
+    → length form < c → Ordered (length form) at order
 order-end a o h =
     record {
       count = o .count;

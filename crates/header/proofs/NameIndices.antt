@@ -1,14 +1,10 @@
 -- Names and their indices in a form: a text whose index is within the form is that name, byte for byte.
 use Prim.Native.Nat.{ℕ, zero, suc, _<_}
-use mathlib.Core.Path.{_≡_, refl}
-use mathlib.Core.Bool.{Bool, true, false, cond, _&&_}
-use mathlib.Core.List.{List, [], _∷_}
+use mathlib.Core.{Path.{_≡_, refl}, Bool.{Bool, true, false, cond, _&&_}, List.{List, [], _∷_}}
 use native.Mathlib.Omega.{arith}
-use lib.ListN.{length}
-use lib.Dec.{eqb}
+use lib.{ListN.{length}, Dec.{eqb}}
 use borrow.Author.Tests.{eq-eqb, eqb-true}
-use Rattle.text.proofs.Clash.{clash}
-use Rattle.text.specs.Text.{same}
+use Rattle.text.{specs.Text.{same}, proofs.Clash.{clash}}
 use Rattle.case.specs.Columns.{Form, nameIndex}
 use Rattle.header.specs.Parts.{nameAt}
 

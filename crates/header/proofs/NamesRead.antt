@@ -1,20 +1,12 @@
 -- The names of a line in turn: what holds of the columns left of column c, while the fields fs are left, and what becomes of the next
 -- field.
 use Prim.Native.Nat.{ℕ, _+_, _-_, _≤_, _<_}
-use mathlib.Core.Path.{_≡_, refl, sym, ap, _∙_}
-use mathlib.Core.Bool.{Bool, true, false, cond, _&&_}
-use mathlib.Core.List.{List, [], _∷_}
-use native.Mathlib.Decide.{ℕ-discrete}
-use native.Mathlib.Omega.{arith}
-use lib.ListN.{length, getD, set, drop}
-use lib.Seq.{getD-set-same, getD-set-other, getD-drop, drop-drop}
-use lib.Dec.{eqb, ltb}
+use mathlib.Core.{Path.{_≡_, refl, sym, ap, _∙_}, Bool.{Bool, true, false, cond, _&&_}, List.{List, [], _∷_}}
+use native.Mathlib.{Decide.{ℕ-discrete}, Omega.{arith}}
+use lib.{ListN.{length, getD, set, drop}, Seq.{getD-set-same, getD-set-other, getD-drop, drop-drop}, Dec.{eqb, ltb}}
 use borrow.Author.Tests.{eqb-true, eqb-false, ltb-true, ltb-false}
 use Rattle.case.specs.Columns.{Form, nameIndex}
-use Rattle.header.specs.declared.names.Found.the-variants.{At}
-use Rattle.header.specs.Header.{noColumns, fresh}
-use Rattle.header.specs.Parts.{foundName}
-use Rattle.header.specs.Names.{fieldAt}
+use Rattle.header.specs.{declared.names.Found.the-variants.{At}, Header.{noColumns, fresh}, Parts.{foundName}, Names.{fieldAt}}
 use Rattle.header.proofs.HeaderReading.{HeaderAt, header-start, header-step}
 
 pub record NamedAt (form : Form) (all : List (List ℕ)) (at : List ℕ) (fs : List (List ℕ)) (c : ℕ) : Type 0 where

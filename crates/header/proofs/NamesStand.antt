@@ -1,19 +1,13 @@
 -- A line of names in words: where it has no wrong column, each name of the form stands in its column and in no other; else what is wrong.
 use Prim.Native.Nat.{ℕ, zero, suc, _+_, _≤_, _<_}
-use mathlib.Core.Path.{_≡_, refl, sym, ap, _∙_}
-use mathlib.Core.Bool.{Bool, true, false, cond}
-use mathlib.Core.List.{List, [], _∷_}
-use native.Mathlib.Numerals.{add-one}
-use native.Mathlib.Omega.{arith}
-use lib.ListN.{length, getD, set}
-use lib.Dec.{leb}
+use mathlib.Core.{Path.{_≡_, refl, sym, ap, _∙_}, Bool.{Bool, true, false, cond}, List.{List, [], _∷_}}
+use native.Mathlib.{Numerals.{add-one}, Omega.{arith}}
+use lib.{ListN.{length, getD, set}, Dec.{leb}}
 use borrow.Author.Tests.{leb-true, leb-false}
 use Rattle.case.specs.Columns.{Form, nameIndex}
-use Rattle.header.specs.Header.{noColumns, wrongName, columnsFrom, columnsOf}
-use Rattle.header.specs.Parts.{nameAt}
+use Rattle.header.specs.{Header.{noColumns, wrongName, columnsFrom, columnsOf}, Parts.{nameAt}}
 use Rattle.header.specs.Names.{fieldAt, StandsAt, StandsOnce, KnownName, WrongName, unknown, again, missing}
-use Rattle.header.proofs.HeaderReading.{header-placed}
-use Rattle.header.proofs.NameIndices.{index-name, name-known}
+use Rattle.header.proofs.{HeaderReading.{header-placed}, NameIndices.{index-name, name-known}}
 use Rattle.header.proofs.NamesRead.{NamedAt, named-start, field-here, named-step, Next, new, strange, known, next}
 
 -- each name of the form stands in its column, and each column has its name
@@ -117,8 +111,7 @@ wrong-from form all (t ∷ fs) at c a e =
 
     go : {w : ℕ} → Next form at t (wrongName form (suc c) (set at (nameIndex form t) c) fs) c w → (w ≡ 0 → ⊥)
         → (NamedAt form all (set at (nameIndex form t) c) fs (c + 1) → (wrongName form (suc c) (set at (nameIndex form t) c) fs ≡ 0 → ⊥)
-        → WrongName form all (wrongName form (suc c) (set at (nameIndex form t) c) fs))
-        → WrongName form all w
+        → WrongName form all (wrongName form (suc c) (set at (nameIndex form t) c) fs)) → WrongName form all w
     go (new p q r) z then = then (named-step a p q r) z
     go (strange l) z then = unknown (a .header .first) (omega (arith, a .size)) (λ n. omega (arith, here n))
     go (known l m) z then =

@@ -1,19 +1,12 @@
 -- The search for a name: what holds while a text is none of the first k names.
 use Prim.Native.Nat.{ℕ, _+_, _≤_, _<_}
-use mathlib.Core.Path.{_≡_, sym, _∙_}
-use mathlib.Core.Bool.{true, false}
-use mathlib.Core.List.{List}
-use native.Mathlib.Nat.{zero-add}
-use native.Mathlib.Numerals.{add-one}
-use native.Mathlib.Omega.{arith}
-use lib.ListN.{length, drop, drop-of-length-le}
-use lib.Seq.{drop-cons}
+use mathlib.Core.{Path.{_≡_, sym, _∙_}, Bool.{true, false}, List.{List}}
+use native.Mathlib.{Nat.{zero-add}, Numerals.{add-one}, Omega.{arith}}
+use lib.{ListN.{length, drop, drop-of-length-le}, Seq.{drop-cons}}
 use borrow.Author.Tests.{lt-ltb, le-ltb}
 use Rattle.text.specs.Text.{same}
-use Rattle.case.specs.Columns.{Form, nameIndex}
-use Rattle.case.specs.Parts.{noColumn}
-use Rattle.header.specs.declared.names.Found.the-variants.{At, Nothing}
-use Rattle.header.specs.Parts.{nameAt, foundName}
+use Rattle.case.specs.{Columns.{Form, nameIndex}, Parts.{noColumn}}
+use Rattle.header.specs.{declared.names.Found.the-variants.{At, Nothing}, Parts.{nameAt, foundName}}
 
 pub record Naming (form : Form) (t : List ℕ) (k : ℕ) : Type 0 where
   pub within : k ≤ length form
@@ -31,8 +24,7 @@ module _ {form : Form} {t : List ℕ} {k : ℕ} (a : Naming form t k) where
 
   pub naming-step : k < length form → same t (nameAt form k) ≡ false → Naming form t (k + 1)
   unfolding nameIndex nameAt
-  naming-step h e =
-      record { within = omega arith; passed = a .passed ∙ rw (drop-cons form k noColumn h, e, add-one) (omega arith) }
+  naming-step h e = record { within = omega arith; passed = a .passed ∙ rw (drop-cons form k noColumn h, e, add-one) (omega arith) }
 
   pub naming-end : length form ≤ k → Nothing ≡ foundName form t
   unfolding nameIndex foundName

@@ -1,10 +1,8 @@
 -- The line of names of a form. Document 01, 'The sheet': "The 18 names stand once each, in any order"; how many they are now, the form
 -- says.
 use Prim.Native.Nat.{ℕ, suc}
-use mathlib.Core.Bool.{Bool, cond, _&&_}
-use mathlib.Core.List.{List, [], _∷_}
-use lib.ListN.{length, getD, set, replicate}
-use lib.Dec.{leb, ltb, eqb}
+use mathlib.Core.{Bool.{Bool, cond, _&&_}, List.{List, [], _∷_}}
+use lib.{ListN.{length, getD, set, replicate}, Dec.{leb, ltb, eqb}}
 use Rattle.case.specs.Columns.{Form, nameIndex}
 
 -- Below, `at` lists for each name of the form the column, from 1, in which it stands, and 0 while it has not been seen.

@@ -1,7 +1,6 @@
 -- The names of a first line in words: where each stands, and what is wrong with a name. Document 01, 'The sheet' and 'The result table'.
 use Prim.Native.Nat.{ℕ, _+_, _-_, _≤_, _<_}
-use mathlib.Core.Path.{_≡_}
-use mathlib.Core.List.{List, []}
+use mathlib.Core.{Path.{_≡_}, List.{List, []}}
 use lib.ListN.{length, getD}
 use Rattle.case.specs.Columns.{Form}
 use Rattle.header.specs.Parts.{nameAt}

@@ -1,18 +1,10 @@
 -- What the parts of reading a header promise.
 use Prim.Native.Nat.{ℕ, _-_, _≤_}
-use mathlib.Core.Path.{_≡_}
-use mathlib.Core.Bool.{cond}
-use mathlib.Core.List.{List, _++_}
-use lib.ListN.{length, getD, take, replicate}
-use lib.Dec.{ltb}
+use mathlib.Core.{Path.{_≡_}, Bool.{cond}, List.{List, _++_}}
+use lib.{ListN.{length, getD, take, replicate}, Dec.{ltb}}
 use Rattle.text.specs.Text.{fieldsOf}
-use Rattle.case.specs.Columns.{Column, Form, nameIndex}
-use Rattle.case.specs.Bounds.{Placed}
-use Rattle.case.specs.Order.{Ordered}
-use Rattle.case.specs.Parts.{noColumn}
-use Rattle.header.specs.declared.names.Name.{Name}
-use Rattle.header.specs.declared.names.Found.{Found}
-use Rattle.header.specs.declared.names.Found.the-variants.{At, Nothing}
+use Rattle.case.specs.{Columns.{Column, Form, nameIndex}, Bounds.{Placed}, Order.{Ordered}, Parts.{noColumn}}
+use Rattle.header.specs.declared.names.{Name.{Name}, Found.{Found, the-variants.{At, Nothing}}}
 use Rattle.header.specs.Header.{noColumns, wrongName, columnsOf}
 
 -- the name with index k

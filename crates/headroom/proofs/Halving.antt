@@ -1,18 +1,10 @@
 -- The search for the headroom: with less fault current a safe case stays safe, so one row decides every fault current on one side of it.
 use Prim.Native.Nat.{ℕ, _+_, _≤_, _<_}
-use mathlib.Core.Path.{_≡_, refl, sym, _∙_}
-use mathlib.Core.Bool.{true, false}
+use mathlib.Core.{Path.{_≡_, refl, sym, _∙_}, Bool.{true, false}}
 use native.Mathlib.Omega.{arith}
-use Rattle.case.specs.declared.Case.{Case}
-use Rattle.case.specs.Bounds.{Bounds}
-use Rattle.case.specs.Fault.{withFault}
-use Rattle.case.proofs.Eased.{eased-bounds}
-use Rattle.row.specs.LessFault.{LessFault}
-use Rattle.row.proofs.Right.{row-verdict}
-use Rattle.row.proofs.StaysSafe.{safe-stays}
-use Rattle.yards.specs.Yards.{isSafe}
-use Rattle.yards.proofs.Found.{means-safe}
-use Rattle.yards.proofs.Answers.{answered-yard, not-safe}
+use Rattle.case.{specs.{declared.Case.{Case}, Bounds.{Bounds}, Fault.{withFault}}, proofs.Eased.{eased-bounds}}
+use Rattle.row.{specs.LessFault.{LessFault}, proofs.{Right.{row-verdict}, StaysSafe.{safe-stays}}}
+use Rattle.yards.{specs.Yards.{isSafe}, proofs.{Found.{means-safe}, Answers.{answered-yard, not-safe}}}
 use Rattle.headroom.specs.Headroom.{InRange, SafeWith, AnsweredWithin, Headroom, NoHeadroom}
 
 -- every fault current in range up to `safe` is safe, and none from `over` on

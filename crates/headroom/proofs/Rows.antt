@@ -1,9 +1,7 @@
 -- How many rows the search works: each turn halves what is left, so the count of halvings falls with each row.
 use Prim.Native.Nat.{ℕ, zero, suc, _+_, _*_, _^_, _≤_, _<_}
-use mathlib.Core.Path.{_≡_, refl}
-use mathlib.Core.Bool.{Bool, true, false, cond}
-use native.Mathlib.Omega.{arith}
-use native.Mathlib.Nat.{pow-suc}
+use mathlib.Core.{Path.{_≡_, refl}, Bool.{Bool, true, false, cond}}
+use native.Mathlib.{Omega.{arith}, Nat.{pow-suc}}
 use lib.Dec.{leb}
 use borrow.Author.Tests.{leb-true, le-leb}
 

@@ -2,17 +2,11 @@
 -- which the case, all else equal, is answered safe, or none".
 use Prim.Native.Nat.{ℕ, _≤_}
 use mathlib.Core.Path.{_≡_}
-use Rattle.case.specs.declared.Case.{Case}
-use Rattle.case.specs.declared.Judged.{Judged}
+use Rattle.case.specs.{declared.{Case.{Case}, Judged.{Judged}}, Check.{recordJudged}, Bounds.{Between}, Fault.{withFault}}
 use Rattle.case.specs.declared.Judged.the-variants as judged
-use Rattle.case.specs.Check.{recordJudged}
-use Rattle.case.specs.Bounds.{Between}
-use Rattle.case.specs.Fault.{withFault}
-use Rattle.row.specs.declared.Verdict.the-variants.{Safe}
-use Rattle.row.specs.Ends.{rowOf}
+use Rattle.row.specs.{declared.Verdict.the-variants.{Safe}, Ends.{rowOf}}
 use Rattle.yards.specs.Fewest.{AnsweredYard}
-use Rattle.headroom.specs.declared.Room.{Room}
-use Rattle.headroom.specs.declared.Room.the-variants.{UpTo, None, Refused}
+use Rattle.headroom.specs.declared.Room.{Room, the-variants.{UpTo, None, Refused}}
 
 abbrev pub InRange : ℕ → Type 0
 InRange f = Between 100 f 80000

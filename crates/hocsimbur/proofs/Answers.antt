@@ -5,37 +5,23 @@ use mathlib.Core.Path.{_≡_, refl, sym, _∙_}
 use Rattle.text.proofs.Clash.{clash}
 use Rattle.interval.specs.declared.Interval.{Interval}
 use Rattle.interval.specs.declared.Pair.the-variants as pair
-use Rattle.exact.specs.Fraction.{Fraction}
-use Rattle.exact.specs.Ends.{Ends}
-use Rattle.exact.specs.Exact.{Exact}
-use Rattle.exact.specs.Reported.{Scale, Reports}
-use Rattle.exact.specs.Answered.{RightPair}
-use Rattle.case.specs.declared.Case.{Case}
-use Rattle.case.specs.declared.Judged.{Judged}
-use Rattle.case.specs.declared.Judged.the-variants.{Sound, Refused}
-use Rattle.case.specs.Check.{recordJudged, recordAnswer}
-use Rattle.case.specs.Bounds.{Bounds}
-use Rattle.case.proofs.Bounds.{record-bounds}
-use Rattle.case.proofs.BoundsSound.{bounds-sound}
-use Rattle.formulas.specs.Decrement.{Df}
-use Rattle.formulas.specs.Resistance.{resistance}
-use Rattle.formulas.specs.Width.{μΩ, billionths, factorWidth, resistanceWidth}
+use Rattle.exact.specs.{Fraction.{Fraction}, Ends.{Ends}, Exact.{Exact}, Reported.{Scale, Reports}, Answered.{RightPair}}
+use Rattle.case.specs.{declared.{Case.{Case}, Judged.{Judged, the-variants.{Sound, Refused}}}, Check.{recordJudged, recordAnswer}}
+use Rattle.case.{specs.Bounds.{Bounds}, proofs.{Bounds.{record-bounds}, BoundsSound.{bounds-sound}}}
+use Rattle.formulas.specs.{Decrement.{Df}, Resistance.{resistance}, Width.{μΩ, billionths, factorWidth, resistanceWidth}}
 use Rattle.formulas.proofs.Size.{duty-pos, size-not-below, size-smallest}
 use Rattle.decrement.proofs.Right.{factor-reports}
 use Rattle.current.proofs.GridCurrent.{upper-bounds}
-use Rattle.tolerable.specs.declared.TouchAndStep.{TouchAndStep}
-use Rattle.tolerable.specs.Ends.{touchEnds, stepEnds, touchAndStep}
-use Rattle.row.specs.declared.Row.{Row}
-use Rattle.row.specs.declared.Verdict.{Verdict}
-use Rattle.row.specs.Ends.{caseVerdict, rowOf}
+use Rattle.tolerable.specs.{declared.TouchAndStep.{TouchAndStep}, Ends.{touchEnds, stepEnds, touchAndStep}}
+use Rattle.row.specs.{declared.{Row.{Row}, Verdict.{Verdict}}, Ends.{caseVerdict, rowOf}}
 use Rattle.row.proofs.Right.{tolerable-touch-reports, tolerable-step-reports, resistance-reports, row-verdict, right-row}
 use Rattle.hocsimbur.specs.declared.Number.the-variants as number
 use Rattle.hocsimbur.specs.declared.Tolerable.the-variants as tolerable
 use Rattle.hocsimbur.specs.declared.RowAnswer.{RowAnswer}
-use Rattle.hocsimbur.specs.declared.RowAnswer.the-variants as row
 use Rattle.hocsimbur.specs.Asked.{pairAnswer, PairAnswered, factorInRow, resistanceInRow, sizeByRow, sizeAnswer, SmallestSize}
-use Rattle.hocsimbur.specs.Asked.{RightSize, SizeAnswered}
-use Rattle.hocsimbur.specs.Asked.{tolerableAnswer, RightTolerable, TolerableAnswered, rowAnswer, RightAnswer, RowAnswered}
+use Rattle.hocsimbur.specs.Asked.{RightSize, SizeAnswered, tolerableAnswer, RightTolerable, TolerableAnswered, rowAnswer, RightAnswer}
+use Rattle.hocsimbur.specs.Asked.{RowAnswered}
+use Rattle.hocsimbur.specs.declared.RowAnswer.the-variants as row
 
 -- ---- what holds of the ends and the size by their names
 

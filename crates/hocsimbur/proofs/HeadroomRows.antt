@@ -1,17 +1,12 @@
 -- The headroom of a case, of the answers of `row`: a fault current in range is answered safe if and only if it is at most the headroom.
 use Prim.Native.Nat.{ℕ, _≤_}
-use mathlib.Core.Path.{_≡_}
-use mathlib.Core.Logic.{_↔_}
-use Rattle.case.specs.declared.Case.{Case}
-use Rattle.case.specs.Fault.{withFault}
-use Rattle.row.specs.declared.Verdict.the-variants.{Safe}
-use Rattle.row.specs.Ends.{rowOf}
+use mathlib.Core.{Path.{_≡_}, Logic.{_↔_}}
+use Rattle.case.specs.{declared.Case.{Case}, Fault.{withFault}}
+use Rattle.row.specs.{declared.Verdict.the-variants.{Safe}, Ends.{rowOf}}
 use Rattle.yards.specs.Fewest.{AnsweredYard}
-use Rattle.headroom.specs.declared.Room.the-variants.{UpTo, None}
-use Rattle.headroom.specs.Headroom.{InRange, RightRoom, HeadroomAnswered}
-use Rattle.hocsimbur.specs.declared.RowAnswer.{RowAnswer}
+use Rattle.headroom.specs.{declared.Room.the-variants.{UpTo, None}, Headroom.{InRange, RightRoom, HeadroomAnswered}}
+use Rattle.hocsimbur.specs.{declared.RowAnswer.{RowAnswer}, Asked.{RowAnswered, AnsweredWith}}
 use Rattle.hocsimbur.specs.declared.RowAnswer.the-variants as row
-use Rattle.hocsimbur.specs.Asked.{RowAnswered, AnsweredWith}
 use Rattle.hocsimbur.proofs.Answers.{sound-answered}
 
 -- a yard that is answered, is answered safe just where its row is safe

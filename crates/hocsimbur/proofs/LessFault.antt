@@ -3,17 +3,12 @@
 use Prim.Native.Nat.{_≤_}
 use mathlib.Core.Path.{_≡_}
 use native.Mathlib.Omega.{arith}
-use Rattle.case.specs.declared.Case.{Case}
-use Rattle.case.specs.Bounds.{Between, Bounds}
-use Rattle.row.specs.declared.Row.{Row}
-use Rattle.row.specs.declared.Verdict.the-variants.{Safe}
-use Rattle.row.specs.LessFault.{LessFault}
+use Rattle.case.specs.{declared.Case.{Case}, Bounds.{Between, Bounds}}
+use Rattle.row.specs.{declared.{Row.{Row}, Verdict.the-variants.{Safe}}, LessFault.{LessFault}}
 use Rattle.row.proofs.StaysSafe.{less-stays, less-no-worse}
-use Rattle.hocsimbur.specs.declared.RowAnswer.{RowAnswer}
+use Rattle.hocsimbur.specs.{declared.RowAnswer.{RowAnswer}, Asked.{RowAnswered, AnsweredWith}}
 use Rattle.hocsimbur.specs.declared.RowAnswer.the-variants as row
-use Rattle.hocsimbur.specs.Asked.{RowAnswered, AnsweredWith}
-use Rattle.hocsimbur.proofs.Answers.{row-says}
-use Rattle.hocsimbur.proofs.NoWorse.{no-worse-row-safe}
+use Rattle.hocsimbur.proofs.{Answers.{row-says}, NoWorse.{no-worse-row-safe}}
 
 pub row-stays-safe : {c d : Case} {r : Row} {a : RowAnswer} → RowAnswered c (row.Is r) → r .verdict ≡ Safe → LessFault c d
     → Between 1 (d .station) 65535 → Between 1 (d .season) 4 → 100 ≤ d .fault → RowAnswered d a → AnsweredWith Safe a

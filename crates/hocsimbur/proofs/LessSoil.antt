@@ -2,18 +2,13 @@
 -- the higher resistivity is answered safe the other is never answered unsafe.
 use mathlib.Core.Path.{_≡_}
 use Rattle.case.specs.declared.Case.{Case}
-use Rattle.row.specs.declared.Row.{Row}
-use Rattle.row.specs.declared.Verdict.the-variants.{Safe, Unsafe}
-use Rattle.row.specs.LessSoil.{LessSoil}
-use Rattle.row.proofs.LessSoil.{drier-decides}
-use Rattle.hocsimbur.specs.declared.RowAnswer.{RowAnswer}
+use Rattle.row.{specs.{declared.{Row.{Row}, Verdict.the-variants.{Safe, Unsafe}}, LessSoil.{LessSoil}}, proofs.LessSoil.{drier-decides}}
+use Rattle.hocsimbur.specs.{declared.RowAnswer.{RowAnswer}, Asked.{RowAnswered, AnsweredWith}}
 use Rattle.hocsimbur.specs.declared.RowAnswer.the-variants as row
-use Rattle.hocsimbur.specs.Asked.{RowAnswered, AnsweredWith}
 use Rattle.hocsimbur.proofs.Answers.{row-says}
 
 pub drier-row-decides : {c d : Case} {r : Row} {a : RowAnswer} → RowAnswered c (row.Is r) → r .verdict ≡ Safe → LessSoil c d
-    → RowAnswered d a
-    → ¬ AnsweredWith Unsafe a
+    → RowAnswered d a → ¬ AnsweredWith Unsafe a
 drier-row-decides {c} {d} h e l a u =
     let says = row-says h e in
     let other : RowAnswered d (row.Is (u .row)) = (rw (u .is) at a) in

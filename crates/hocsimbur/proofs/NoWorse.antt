@@ -1,21 +1,13 @@
 -- No worse, of the answers of `row`: where a case is answered safe, a case that is no worse, all else equal, and itself in range is
 -- answered safe.
 use Prim.Native.Nat.{_≤_}
-use mathlib.Core.Path.{_≡_, sym, subst, _∙_}
-use mathlib.Core.Logic.{_⊎_}
+use mathlib.Core.{Path.{_≡_, sym, subst, _∙_}, Logic.{_⊎_}}
 use native.Mathlib.Omega.{arith}
-use Rattle.case.specs.declared.Case.{Case}
-use Rattle.case.specs.Bounds.{Between, Bounds}
-use Rattle.case.proofs.Eased.{eased-bounds}
-use Rattle.row.specs.declared.Row.{Row}
-use Rattle.row.specs.declared.Verdict.the-variants.{Safe}
-use Rattle.row.specs.Ends.{rowOf}
-use Rattle.row.specs.NoWorse.{NoWorse}
-use Rattle.row.proofs.Right.{row-verdict}
+use Rattle.case.{specs.{declared.Case.{Case}, Bounds.{Between, Bounds}}, proofs.Eased.{eased-bounds}}
+use Rattle.row.{specs.{declared.{Row.{Row}, Verdict.the-variants.{Safe}}, Ends.{rowOf}, NoWorse.{NoWorse}}, proofs.Right.{row-verdict}}
 use Rattle.row.proofs.NoWorse.{no-worse-safe}
-use Rattle.hocsimbur.specs.declared.RowAnswer.{RowAnswer}
+use Rattle.hocsimbur.specs.{declared.RowAnswer.{RowAnswer}, Asked.{RowAnswered, AnsweredWith}}
 use Rattle.hocsimbur.specs.declared.RowAnswer.the-variants as row
-use Rattle.hocsimbur.specs.Asked.{RowAnswered, AnsweredWith}
 use Rattle.hocsimbur.proofs.Answers.{row-says, bounds-answered}
 
 module _ {c d : Case} (n : NoWorse c d) (k : Between 1 (d .station) 65535) (s : Between 1 (d .season) 4) (f : Between 100 (d .fault) 80000)

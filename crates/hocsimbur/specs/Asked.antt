@@ -4,33 +4,20 @@
 use Prim.Native.Nat.{ℕ, _<_}
 use mathlib.Core.Path.{_≡_}
 use lib.IntN.{natAbs}
-use Rattle.interval.specs.declared.Interval.{Interval}
-use Rattle.interval.specs.declared.Pair.{Pair}
+use Rattle.interval.specs.declared.{Interval.{Interval}, Pair.{Pair}}
 use Rattle.interval.specs.declared.Pair.the-variants as pair
-use Rattle.exact.specs.Fraction.{Fraction, whole}
-use Rattle.exact.specs.Ends.{Ends}
-use Rattle.exact.specs.Exact.{Exact, exactly, Above, AtOrBelow}
-use Rattle.exact.specs.Reported.{Scale, Reports}
+use Rattle.exact.specs.{Fraction.{Fraction, whole}, Ends.{Ends}, Exact.{Exact, exactly, Above, AtOrBelow}, Reported.{Scale, Reports}}
 use Rattle.exact.specs.Answered.{RightPair}
-use Rattle.case.specs.declared.Case.{Case}
-use Rattle.case.specs.Check.{recordJudged, recordAnswer}
-use Rattle.formulas.specs.Decrement.{Df}
-use Rattle.formulas.specs.Size.{required, size}
-use Rattle.formulas.specs.Tolerable.{tolerableTouch, tolerableStep}
-use Rattle.formulas.specs.Resistance as R
+use Rattle.case.specs.{declared.Case.{Case}, Check.{recordJudged, recordAnswer}}
+use Rattle.formulas.specs.{Decrement.{Df}, Size.{required, size}, Tolerable.{tolerableTouch, tolerableStep}}
 use Rattle.formulas.specs.Width.{mV, μΩ, billionths, factorWidth, tolerableWidth, resistanceWidth}
+use Rattle.formulas.specs.Resistance as R
 use Rattle.tolerable.specs.Ends.{touchEnds, stepEnds}
-use Rattle.row.specs.declared.Row.{Row}
-use Rattle.row.specs.declared.Verdict.{Verdict}
-use Rattle.row.specs.Row.{RightRow}
-use Rattle.row.specs.Ends.{rowOf}
-use Rattle.hocsimbur.specs.declared.Number.{Number}
+use Rattle.row.specs.{declared.{Row.{Row}, Verdict.{Verdict}}, Row.{RightRow}, Ends.{rowOf}}
+use Rattle.hocsimbur.specs.declared.{Number.{Number}, Tolerable.{Tolerable}, RowAnswer.{RowAnswer, the-variants.{Is}}}
 use Rattle.hocsimbur.specs.declared.Number.the-variants as number
-use Rattle.hocsimbur.specs.declared.Tolerable.{Tolerable}
 use Rattle.hocsimbur.specs.declared.Tolerable.the-variants as tolerable
-use Rattle.hocsimbur.specs.declared.RowAnswer.{RowAnswer}
 use Rattle.hocsimbur.specs.declared.RowAnswer.the-variants as row
-use Rattle.hocsimbur.specs.declared.RowAnswer.the-variants.{Is}
 
 -- a pair, or refusal 5 or 6 with line 0
 unfoldable pub pairAnswer : (Case → Interval) → Case → Pair

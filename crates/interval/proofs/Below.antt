@@ -1,16 +1,11 @@
 -- Intervals of naturals of which one lies below another, lower end by lower end and upper end by upper end: what the operations keep.
 use Prim.Native.Nat.{ℕ, _*_, _/_, _≤_, _<_}
 use mathlib.Core.Path.{_≡_, sym, ap, _∙_}
-use native.Mathlib.Omega.{arith}
-use native.Mathlib.Nat.{le-refl, le-trans, mul-le-mul, mul-le-mul-left, mul-le-mul-right}
-use lib.IntN.{pos}
-use lib.Signed.{_≤ℤ_}
-use Rattle.interval.specs.declared.Interval.{Interval}
-use Rattle.interval.specs.Whole.{ceilDiv}
-use Rattle.interval.specs.Operations.{natural, outwardOf, scaledOf, productOf, quotientOf}
-use Rattle.interval.specs.Span.{Span}
-use Rattle.interval.proofs.Choice.{pos≤}
-use Rattle.interval.proofs.Natural.{natural-scaled, natural-outward, natural-product, natural-quotient}
+use native.Mathlib.{Omega.{arith}, Nat.{le-refl, le-trans, mul-le-mul, mul-le-mul-left, mul-le-mul-right}}
+use lib.{IntN.{pos}, Signed.{_≤ℤ_}}
+use Rattle.interval.specs.{declared.Interval.{Interval}, Whole.{ceilDiv}}
+use Rattle.interval.specs.{Operations.{natural, outwardOf, scaledOf, productOf, quotientOf}, Span.{Span}}
+use Rattle.interval.proofs.{Choice.{pos≤}, Natural.{natural-scaled, natural-outward, natural-product, natural-quotient}}
 use Rattle.interval.proofs.Rounding.{floorDiv-below, floorDiv-by, floorDiv-falls, ceilDiv-above, ceilDiv-by, ceilDiv-falls}
 use Rattle.interval.proofs.Span.{floor≤ceil}
 

@@ -1,16 +1,10 @@
 -- What signed locals hold: bits, which a need reads back as `toZ w64 (ofZ w64 z)`. Where z fits, that is z.
 use Prim.Native.Nat.{ℕ, suc, _-_, _≤_, _<_, _^_}
-use mathlib.Core.Path.{_≡_, refl}
-use mathlib.Core.Bool.{true, false}
+use mathlib.Core.{Path.{_≡_, refl}, Bool.{true, false}}
 use native.Mathlib.Omega.{arith}
-use lib.IntN.{ℤ, pos, negsuc, negℤ, natAbs, _-ℤ_, +ℤ-idl}
-use lib.Dec.{T, leb·suc-zero}
-use lib.Signed.{mag, nonNeg, ltZ}
-use mir.Syntax.{w64}
-use mir.Val.{Fits, SFits, toZ, ofZ}
-use mir.Facts.{toZ-ofZ, toZ-pos, toZ-neg, fits-natAbs}
-use Rattle.interval.specs.Whole.{flipZ}
-use Rattle.interval.specs.declared.Interval.{Interval}
+use lib.{IntN.{ℤ, pos, negsuc, negℤ, natAbs, _-ℤ_, +ℤ-idl}, Dec.{T, leb·suc-zero}, Signed.{mag, nonNeg, ltZ}}
+use mir.{Syntax.{w64}, Val.{Fits, SFits, toZ, ofZ}, Facts.{toZ-ofZ, toZ-pos, toZ-neg, fits-natAbs}}
+use Rattle.interval.specs.{Whole.{flipZ}, declared.Interval.{Interval}}
 use Rattle.interval.proofs.Signed.{size-neg}
 
 abbrev pub read : ℤ → ℤ

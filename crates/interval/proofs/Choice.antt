@@ -1,12 +1,8 @@
 -- The lesser and the greater of two signed numbers: each is one of the two, and in order with both.
 use Prim.Native.Nat.{ℕ, _≤_}
-use mathlib.Core.Path.{_≡_, refl, ap}
-use mathlib.Core.Bool.{Bool, true, false, not, cond}
-use native.Mathlib.Nat.{le-antisymm}
-use native.Mathlib.Omega.{arith}
-use lib.Dec.{T, leb→le, nleb→lt, le→leb}
-use lib.IntN.{ℤ, pos, negsuc}
-use lib.Signed.{_≤ℤ_, leZ, leZ-yes, ≤ℤ-refl}
+use mathlib.Core.{Path.{_≡_, refl, ap}, Bool.{Bool, true, false, not, cond}}
+use native.Mathlib.{Nat.{le-antisymm}, Omega.{arith}}
+use lib.{Dec.{T, leb→le, nleb→lt, le→leb}, IntN.{ℤ, pos, negsuc}, Signed.{_≤ℤ_, leZ, leZ-yes, ≤ℤ-refl}}
 use Rattle.interval.specs.Whole.{minZ, maxZ}
 use Rattle.interval.proofs.Signed.{le-halves, halves-le}
 

@@ -1,8 +1,6 @@
 -- The corners are in order with each of the four products of ends.
-use lib.IntN.{ℤ, _*ℤ_}
-use lib.Signed.{_≤ℤ_}
-use Rattle.interval.specs.Operations.{cornersOf}
-use Rattle.interval.specs.declared.Interval.{Interval}
+use lib.{IntN.{ℤ, _*ℤ_}, Signed.{_≤ℤ_}}
+use Rattle.interval.specs.{Operations.{cornersOf}, declared.Interval.{Interval}}
 use Rattle.interval.proofs.Choice.{≤ℤ-trans, min-left, min-right, max-left, max-right}
 
 -- a property of each product: lower and lower, lower and upper, upper and lower, upper and upper

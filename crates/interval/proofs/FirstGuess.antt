@@ -1,10 +1,8 @@
 -- The first guess of a whole root: one less than a power of two whose square is above the number.
 use Prim.Native.Nat.{ℕ, _+_, _-_, _*_, _%_, _^_, _≤_, _<_}
 use mathlib.Core.Path.{_≡_, subst, _∙_}
-use native.Mathlib.Omega.{arith}
-use native.Mathlib.Nat.{lt-of-lt-of-le, le-trans, le-of-eq, one-mul}
-use lib.Dec.{lit<}
-use lib.Pow.{pow-mono, pow-add, shl-exact}
+use native.Mathlib.{Omega.{arith}, Nat.{lt-of-lt-of-le, le-trans, le-of-eq, one-mul}}
+use lib.{Dec.{lit<}, Pow.{pow-mono, pow-add, shl-exact}}
 use Rattle.interval.specs.Root.{NotBelow}
 
 module _ (l : ℕ) (most : l ≤ 32) where

@@ -1,8 +1,7 @@
 -- The operations on intervals of naturals, whose ends are in order: each end by naturals alone.
 use Prim.Native.Nat.{ℕ, zero, suc, _+_, _-_, _*_, _/_, _≤_, _<_}
 use mathlib.Core.Path.{_≡_, refl, ap}
-use native.Mathlib.Omega.{arith}
-use native.Mathlib.Nat.{mul-le-mul-left, mul-le-mul-right}
+use native.Mathlib.{Omega.{arith}, Nat.{mul-le-mul-left, mul-le-mul-right}}
 use borrow.Author.Tests.{le-ltb}
 use lib.IntN.{pos, _-ℤ_}
 use Rattle.interval.specs.Whole.{ceilDiv}

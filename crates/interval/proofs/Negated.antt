@@ -1,18 +1,13 @@
 -- Intervals below 0 as minus an interval of naturals: products with one, and sums.
 use Prim.Native.Nat.{ℕ, zero, suc, _+_, _-_, _*_, _/_, _≤_, _<_}
 use mathlib.Core.Path.{_≡_, refl, sym, ap, _∙_}
-use native.Mathlib.Omega.{arith}
-use native.Mathlib.Nat.{mul-le-mul-left, mul-le-mul-right}
-use lib.IntN.{pos, negℤ, negℤ-negℤ, _*ℤ_}
-use lib.Signed.{_≤ℤ_}
-use Rattle.interval.specs.declared.Interval.{Interval}
-use Rattle.interval.specs.Whole.{floorZ, ceilZ, ceilDiv, minZ, maxZ}
+use native.Mathlib.{Omega.{arith}, Nat.{mul-le-mul-left, mul-le-mul-right}}
+use lib.{IntN.{pos, negℤ, negℤ-negℤ, _*ℤ_}, Signed.{_≤ℤ_}}
+use Rattle.interval.specs.{declared.Interval.{Interval}, Whole.{floorZ, ceilZ, ceilDiv, minZ, maxZ}}
 use Rattle.interval.specs.Operations.{natural, point, size, sumOf, differenceOf, minusOf, cornersOf, outwardOf, productOf}
 use Rattle.interval.specs.Span.{Span}
-use Rattle.interval.proofs.Signed.{neg-plus, neg-minus, size-neg, le-halves}
-use Rattle.interval.proofs.Choice.{min-cases, max-cases}
-use Rattle.interval.proofs.Rounding.{floor-pos, ceil-pos}
-use Rattle.interval.proofs.Natural.{point-natural, natural-difference, natural-product}
+use Rattle.interval.proofs.{Signed.{neg-plus, neg-minus, size-neg, le-halves}, Choice.{min-cases, max-cases}}
+use Rattle.interval.proofs.{Rounding.{floor-pos, ceil-pos}, Natural.{point-natural, natural-difference, natural-product}}
 
 -- ---- products
 

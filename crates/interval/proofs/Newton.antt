@@ -1,9 +1,7 @@
 -- Newton's steps for a whole root: a step from a guess above the root falls, and no step falls below the root.
 use Prim.Native.Nat.{ℕ, zero, suc, _+_, _*_, _/_, _≤_, _<_}
 use mathlib.Core.Path.{subst}
-use native.Mathlib.Omega.{arith}
-use native.Mathlib.Nat.{le-dest, lt-suc-self, mul-le-mul-right, div-lt-iff-lt-mul}
-use native.Mathlib.Decide.{decLe}
+use native.Mathlib.{Omega.{arith}, Nat.{le-dest, lt-suc-self, mul-le-mul-right, div-lt-iff-lt-mul}, Decide.{decLe}}
 
 -- twice a product is at most the sum of the squares
 product-le-squares : (a b : ℕ) → 2 * (a * b) ≤ a * a + b * b

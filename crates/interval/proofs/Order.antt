@@ -1,6 +1,5 @@
 -- The ends stay in order.
-use lib.IntN.{ℤ}
-use lib.Signed.{≤ℤ-refl}
+use lib.{IntN.{ℤ}, Signed.{≤ℤ-refl}}
 use Rattle.interval.specs.Operations.{point, Ordered}
 
 pub ordered-point : (z : ℤ) → Ordered (point z)

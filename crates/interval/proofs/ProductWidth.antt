@@ -1,15 +1,9 @@
 -- How wide a product is: two products of ends differ by at most one size times the other width, twice.
 use Prim.Native.Nat.{ℕ, suc, _+_, _*_, _≤_}
-use native.Mathlib.Omega.{arith}
-use native.Mathlib.Nat.{mul-le-mul-left, mul-le-mul-right}
-use lib.IntN.{ℤ, pos, negsuc, natAbs, _*ℤ_, *ℤ-comm}
-use lib.Signed.{_≤ℤ_, ≤ℤ-refl}
-use Rattle.interval.specs.Signed.{plus, minus}
-use Rattle.interval.specs.Operations.{size, Ordered, Narrow}
-use Rattle.interval.specs.declared.Interval.{Interval}
-use Rattle.interval.proofs.Signed.{mul-plus, mul-minus, le-halves}
-use Rattle.interval.proofs.Corners.{Corners}
-use Rattle.interval.proofs.Sizes.{size-lower, size-upper}
+use native.Mathlib.{Omega.{arith}, Nat.{mul-le-mul-left, mul-le-mul-right}}
+use lib.{IntN.{ℤ, pos, negsuc, natAbs, _*ℤ_, *ℤ-comm}, Signed.{_≤ℤ_, ≤ℤ-refl}}
+use Rattle.interval.specs.{Signed.{plus, minus}, Operations.{size, Ordered, Narrow}, declared.Interval.{Interval}}
+use Rattle.interval.proofs.{Signed.{mul-plus, mul-minus, le-halves}, Corners.{Corners}, Sizes.{size-lower, size-upper}}
 
 -- c ≤ z + w
 pub record Near (w : ℕ) (c z : ℤ) : Type 0 where
@@ -20,15 +14,11 @@ slide : (x y y′ : ℤ) (s n : ℕ) → natAbs x ≤ s → Near n y y′ → Ne
 slide (pos p) y y′ s n h k k′ =
     let f : ℤ = pos p in
     let size = mul-le-mul-right n h in
-    record {
-      near = omega (arith, mul-plus f y, mul-plus f y′, mul-minus f y, mul-minus f y′, mul-le-mul-left p (k .near), size);
-    }
+    record { near = omega (arith, mul-plus f y, mul-plus f y′, mul-minus f y, mul-minus f y′, mul-le-mul-left p (k .near), size) }
 slide (negsuc p) y y′ s n h k k′ =
     let f : ℤ = negsuc p in
     let size = mul-le-mul-right n h in
-    record {
-      near = omega (arith, mul-plus f y, mul-plus f y′, mul-minus f y, mul-minus f y′, mul-le-mul-left (suc p) (k′ .near), size);
-    }
+    record { near = omega (arith, mul-plus f y, mul-plus f y′, mul-minus f y, mul-minus f y′, mul-le-mul-left (suc p) (k′ .near), size) }
 
 swap : {w : ℕ} (a b c d : ℤ) → Near w (a *ℤ b) (c *ℤ d) → Near w (b *ℤ a) (d *ℤ c)
 swap a b c d h = rw (*ℤ-comm b a, *ℤ-comm d c) h
@@ -59,8 +49,7 @@ module _ {a : Interval} {m : ℕ} (o : Ordered a) (h : Narrow a m) where
   upper-end = record { small = size-upper a; from = o .ordered; to = record { near = omega (arith, h .narrow) } }
 
 module _ {a b : Interval} {m n : ℕ} (oa : Ordered a) (ob : Ordered b) (h : Narrow a m) (k : Narrow b n) where
-  all : (P : ℤ → Type 0)
-      → ((x y : ℤ) → End (size a) m (a .lower) x → End (size b) n (b .lower) y → P (x *ℤ y)) → Corners P a b
+  all : (P : ℤ → Type 0) → ((x y : ℤ) → End (size a) m (a .lower) x → End (size b) n (b .lower) y → P (x *ℤ y)) → Corners P a b
   all P f =
       let al = lower-end oa h in
       let au = upper-end oa h in

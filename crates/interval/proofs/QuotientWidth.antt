@@ -1,19 +1,13 @@
 -- How wide a quotient is: a rounded-up end over one divisor against a rounded-down end over another.
 use Prim.Native.Nat.{ℕ, _+_, _*_, _≤_, _<_}
-use mathlib.Core.Path.{_≡_, ap}
-use mathlib.Core.Logic.{_⊎_, ⊎-elim}
+use mathlib.Core.{Path.{_≡_, ap}, Logic.{_⊎_, ⊎-elim}}
 use native.Mathlib.Omega.{arith}
 use native.Mathlib.Nat.{mul-le-mul, mul-le-mul-left, mul-le-mul-right, le-refl, le-trans, lt-of-mul-lt-mul-right, le-of-suc-le-suc}
-use lib.IntN.{pos, natAbs, _*ℤ_}
-use lib.Signed.{_≤ℤ_}
-use Rattle.interval.specs.Signed.{plus, minus}
-use Rattle.interval.specs.Whole.{floorZ, ceilZ, minZ}
-use Rattle.interval.specs.Operations.{size, quotientOf, hullOf, outwardOf, scaledOf, Ordered, Narrow}
-use Rattle.interval.specs.declared.Interval.{Interval}
-use Rattle.interval.proofs.Signed.{halves, size-is, floor-above, scale-plus, scale-minus}
-use Rattle.interval.proofs.Choice.{≤ℤ-trans, min-cases, max-cases}
-use Rattle.interval.proofs.Rounding.{ceil-below}
-use Rattle.interval.proofs.Sizes.{size-lower, size-positive, size-rises, positive-halves}
+use lib.{IntN.{pos, natAbs, _*ℤ_}, Signed.{_≤ℤ_}}
+use Rattle.interval.specs.{Signed.{plus, minus}, Whole.{floorZ, ceilZ, minZ}}
+use Rattle.interval.specs.{Operations.{size, quotientOf, hullOf, outwardOf, scaledOf, Ordered, Narrow}, declared.Interval.{Interval}}
+use Rattle.interval.proofs.{Signed.{halves, size-is, floor-above, scale-plus, scale-minus}, Choice.{≤ℤ-trans, min-cases, max-cases}}
+use Rattle.interval.proofs.{Rounding.{ceil-below}, Sizes.{size-lower, size-positive, size-rises, positive-halves}}
 use Rattle.interval.proofs.ProductWidth.{Near}
 
 -- c − c′ over d1 rounded up and f − f′ over d2 rounded down are at most w + 1 apart, where the exact ones are at most w

@@ -1,18 +1,13 @@
 -- How relative widths go through sums, products and quotients.
 use Prim.Native.Nat.{ℕ, _+_, _-_, _*_, _/_, _≤_, _<_}
-use mathlib.Core.Path.{_≡_, sym, ap, _∙_}
-use mathlib.Core.List.{[], _∷_}
+use mathlib.Core.{Path.{_≡_, sym, ap, _∙_}, List.{[], _∷_}}
 use native.Mathlib.Omega.{arith}
 use native.Mathlib.Nat.{mul-le-mul, mul-le-mul-left, mul-le-mul-right, le-trans, le-of-mul-le-mul-right, lt-of-mul-lt-mul-right}
-use native.Mathlib.Nat.{le-of-suc-le-suc}
-use native.Mathlib.Decide.{decLe}
+use native.Mathlib.{Nat.{le-of-suc-le-suc}, Decide.{decLe}}
 use lib.IntN.{pos, natAbs}
-use Rattle.interval.specs.declared.Interval.{Interval}
-use Rattle.interval.specs.Whole.{ceilDiv}
-use Rattle.interval.specs.Operations.{natural, point, sumOf, productOf, quotientOf}
+use Rattle.interval.specs.{declared.Interval.{Interval}, Whole.{ceilDiv}, Operations.{natural, point, sumOf, productOf, quotientOf}}
 use Rattle.interval.specs.Span.{Span, Relative}
-use Rattle.interval.proofs.Rules.{_≼_, Kept}
-use Rattle.interval.proofs.Natural.{point-natural, natural-sum, natural-product, natural-quotient}
+use Rattle.interval.proofs.{Rules.{_≼_, Kept}, Natural.{point-natural, natural-sum, natural-product, natural-quotient}}
 use Rattle.interval.proofs.Rounding.{floorDiv-above, ceilDiv-below}
 
 -- the width, by ends that are known
@@ -107,8 +102,7 @@ divided r a b c d k L U p h u l =
 
 pub relative-divided : {i j : Interval} {l h w l′ h′ w′ : ℕ} (k p q r : ℕ)
     → Kept ((1 ≼ l′) ∷ (p * w ≼ l) ∷ (q * w′ ≼ l′) ∷ (1 ≼ p * q) ∷ ((p + 1) * (q + 1) * r ≼ p * q * (r + 1)) ∷ [])
-    → Span i l h w → Span j l′ h′ w′
-    → Relative (quotientOf i j k) r 2
+    → Span i l h w → Span j l′ h′ w′ → Relative (quotientOf i j k) r 2
 relative-divided k p q r t s u =
     let c : 0 < u .a = le-trans (t .at 0) (u .from) in
     record {

@@ -1,8 +1,6 @@
 -- Bounds on a root in whole numbers, by bounds on the number.
 use Prim.Native.Nat.{ℕ, _+_, _*_, _≤_, _<_}
-use native.Mathlib.Omega.{arith}
-use native.Mathlib.Nat.{mul-le-mul}
-use native.Mathlib.Decide.{decLe}
+use native.Mathlib.{Omega.{arith}, Nat.{mul-le-mul}, Decide.{decLe}}
 use Rattle.interval.specs.Root.{IsRoot}
 
 -- squares rise

@@ -1,13 +1,11 @@
 -- Division rounded down and up, of naturals and of signed numbers.
 use Prim.Native.Nat.{ℕ, suc, _+_, _-_, _*_, _/_, _≤_, _<_}
-use mathlib.Core.Path.{_≡_, sym, ap}
-use mathlib.Core.Logic.{⊎-elim}
+use mathlib.Core.{Path.{_≡_, sym, ap}, Logic.{⊎-elim}}
 use native.Mathlib.Omega.{arith}
 use native.Mathlib.Nat.{div-mul-le-self, lt-div-mul-add, mul-pos, mul-le-mul-left, mul-le-mul-right, mul-lt-mul-of-pos-left}
 use native.Mathlib.Nat.{le-of-suc-le-suc, lt-of-mul-lt-mul-right}
 use lib.IntN.{ℤ, pos, negsuc, negℤ, natAbs}
-use Rattle.interval.specs.Signed.{plus, minus}
-use Rattle.interval.specs.Whole.{floorZ, ceilZ, ceilDiv}
+use Rattle.interval.specs.{Signed.{plus, minus}, Whole.{floorZ, ceilZ, ceilDiv}}
 use Rattle.interval.proofs.Signed.{halves, size-is, neg-plus, neg-minus, floor-below, floor-above, size-neg, size-floor}
 
 -- ---- naturals: the quotient rounded down, then up
@@ -108,5 +106,4 @@ size-floor-by z {d} {w} t h =
 
 pub size-ceil-by : (z : ℤ) {d w : ℕ} → 0 < d → natAbs z ≤ w * d → natAbs (ceilZ z d) ≤ w
 unfolding ceilZ
-size-ceil-by z {d} {w} t h =
-    omega (arith, size-neg (floorZ (negℤ z) d), size-floor-by (negℤ z) {w = w} t (omega (arith, size-neg z)))
+size-ceil-by z {d} {w} t h = omega (arith, size-neg (floorZ (negℤ z) d), size-floor-by (negℤ z) {w = w} t (omega (arith, size-neg z)))

@@ -1,7 +1,6 @@
 -- Several rules a ≤ b between numbers that compute, by one test of all of them.
 use Prim.Native.Nat.{ℕ, zero, suc, _≤_}
-use mathlib.Core.Bool.{Bool, true, _&&_}
-use mathlib.Core.List.{List, [], _∷_}
+use mathlib.Core.{Bool.{Bool, true, _&&_}, List.{List, [], _∷_}}
 use lib.Dec.{T, leb, leb→le, lit≤}
 use mir.Facts.{and-yes}
 

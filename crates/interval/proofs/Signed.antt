@@ -1,15 +1,10 @@
 -- The bridge from ℤ to `omega`: for each operation, an equation or an order of the halves `plus` and `minus`, which are naturals.
 use Prim.Native.Nat.{ℕ, zero, suc, _+_, _-_, _*_, _≤_, _<_}
-use mathlib.Core.Path.{_≡_, refl, _∙_}
-use mathlib.Core.Bool.{Bool, true, false, not, cond}
-use mathlib.Core.Logic.{_⊎_, inl, inr, ⊎-elim}
-use native.Mathlib.Omega.{arith}
-use native.Mathlib.Nat.{div-mul-le-self, div-le-self, lt-div-mul-add}
-use lib.Dec.{T, ltb, ltb→lt, lt→ltb, nltb→le, leb→le, le→leb}
-use lib.IntN.{ℤ, pos, negsuc, negℤ, natAbs, subℕ, _+ℤ_, _-ℤ_, _*ℤ_}
+use mathlib.Core.{Path.{_≡_, refl, _∙_}, Bool.{Bool, true, false, not, cond}, Logic.{_⊎_, inl, inr, ⊎-elim}}
+use native.Mathlib.{Omega.{arith}, Nat.{div-mul-le-self, div-le-self, lt-div-mul-add}}
+use lib.{Dec.{T, ltb, ltb→lt, lt→ltb, nltb→le, leb→le, le→leb}, IntN.{ℤ, pos, negsuc, negℤ, natAbs, subℕ, _+ℤ_, _-ℤ_, _*ℤ_}}
 use lib.Signed.{_≤ℤ_, _<ℤ_}
-use Rattle.interval.specs.Signed.{plus, minus}
-use Rattle.interval.specs.Whole.{floorZ}
+use Rattle.interval.specs.{Signed.{plus, minus}, Whole.{floorZ}}
 
 -- one half is 0, and the other the size
 pub halves : (z : ℤ) → (plus z ≡ 0) ⊎ (minus z ≡ 0)

@@ -1,20 +1,14 @@
 -- How large the ends grow: what a caller shows so that an operation stays within 64 bits.
 use Prim.Native.Nat.{ℕ, _+_, _*_, _≤_, _<_}
 use mathlib.Core.Path.{_≡_, refl}
-use native.Mathlib.Omega.{arith}
-use native.Mathlib.Nat.{mul-le-mul, le-trans, le-of-eq}
-use lib.IntN.{ℤ, pos, negsuc, natAbs, _*ℤ_}
-use lib.Dec.{T}
-use lib.Signed.{_≤ℤ_, nonNeg, yes-nonNeg}
-use Rattle.interval.specs.Signed.{plus, minus}
-use Rattle.interval.specs.Whole.{minZ, maxZ}
+use native.Mathlib.{Omega.{arith}, Nat.{mul-le-mul, le-trans, le-of-eq}}
+use lib.{IntN.{ℤ, pos, negsuc, natAbs, _*ℤ_}, Dec.{T}, Signed.{_≤ℤ_, nonNeg, yes-nonNeg}}
+use Rattle.interval.specs.{Signed.{plus, minus}, Whole.{minZ, maxZ}}
 use Rattle.interval.specs.Operations.{natural, point, size, sumOf, differenceOf, timesOf, cornersOf, outwardOf, scaledOf, hullOf}
-use Rattle.interval.specs.Operations.{productOf}
-use Rattle.interval.specs.declared.Interval.{Interval}
-use Rattle.interval.proofs.Signed.{size-floor, le-halves, halves-le, size-is}
-use Rattle.interval.proofs.Signed as signed
-use Rattle.interval.proofs.Choice.{min-cases, max-cases}
+use Rattle.interval.specs.{Operations.{productOf}, declared.Interval.{Interval}}
+use Rattle.interval.proofs.{Signed.{size-floor, le-halves, halves-le, size-is}, Choice.{min-cases, max-cases}}
 use Rattle.interval.proofs.Rounding.{size-ceil, size-floor-by, size-ceil-by}
+use Rattle.interval.proofs.Signed as signed
 
 pub size-lower : (a : Interval) → natAbs (a .lower) ≤ size a
 unfolding size
@@ -116,8 +110,7 @@ size-corners a b = rw corners-hull (size-hull _ _ (size-times (a .lower) b (size
 
 pub size-outward : (a : Interval) (d : ℕ) → size (outwardOf a d) ≤ size a
 unfolding outwardOf
-size-outward a d =
-    size-ends _ (le-trans (size-floor (a .lower) d) (size-lower a)) (le-trans (size-ceil (a .upper) d) (size-upper a))
+size-outward a d = size-ends _ (le-trans (size-floor (a .lower) d) (size-lower a)) (le-trans (size-ceil (a .upper) d) (size-upper a))
 
 pub size-product : (a b : Interval) (d : ℕ) → size (productOf a b d) ≤ size a * size b
 unfolding productOf

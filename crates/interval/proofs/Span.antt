@@ -4,16 +4,12 @@ use mathlib.Core.Path.{_≡_, refl, ap}
 use native.Mathlib.Omega.{arith}
 use native.Mathlib.Nat.{mul-le-mul, mul-le-mul-left, mul-le-mul-right, le-trans, lt-of-mul-lt-mul-right, mul-lt-mul-of-pos-right}
 use native.Mathlib.Nat.{le-of-suc-le-suc}
-use lib.IntN.{pos}
-use lib.Signed.{_≤ℤ_}
-use Rattle.interval.specs.Whole.{ceilDiv}
-use Rattle.interval.specs.Operations.{natural, point, size, sumOf, outwardOf, scaledOf, productOf, quotientOf}
-use Rattle.interval.specs.declared.Interval.{Interval}
-use Rattle.interval.specs.Span.{Span}
+use lib.{IntN.{pos}, Signed.{_≤ℤ_}}
+use Rattle.interval.specs.{Whole.{ceilDiv}, Operations.{natural, point, size, sumOf, outwardOf, scaledOf, productOf, quotientOf}}
+use Rattle.interval.specs.{declared.Interval.{Interval}, Span.{Span}}
 use Rattle.interval.proofs.Natural.{point-natural, natural-sum, natural-scaled, natural-outward, natural-product, natural-quotient}
 use Rattle.interval.proofs.Rounding.{floorDiv-below, floorDiv-above, ceilDiv-above, ceilDiv-below, ceilDiv-by, floorDiv-by}
-use Rattle.interval.proofs.Signed.{halves-le}
-use Rattle.interval.proofs.Sizes.{size-natural}
+use Rattle.interval.proofs.{Signed.{halves-le}, Sizes.{size-natural}}
 
 -- ---- natural ends
 
@@ -69,12 +65,10 @@ span-scaled k s =
 -- ---- rounding outward: a number n from a to b, m d apart, gives quotients at most m + 1 apart
 
 pub round-near : (a b d m : ℕ) → 0 < d → b ≤ a + m * d → ceilDiv b d ≤ a / d + (m + 1)
-round-near a b d m p h =
-    le-of-suc-le-suc (lt-of-mul-lt-mul-right d (omega (arith, ceilDiv-below b p, floorDiv-above a p)))
+round-near a b d m p h = le-of-suc-le-suc (lt-of-mul-lt-mul-right d (omega (arith, ceilDiv-below b p, floorDiv-above a p)))
 
 pub floor≤ceil : (a b d : ℕ) → 0 < d → a ≤ b → a / d ≤ ceilDiv b d
-floor≤ceil a b d p h =
-    le-of-suc-le-suc (lt-of-mul-lt-mul-right d (omega (arith, floorDiv-below a d, ceilDiv-above b p, p)))
+floor≤ceil a b d p h = le-of-suc-le-suc (lt-of-mul-lt-mul-right d (omega (arith, floorDiv-below a d, ceilDiv-above b p, p)))
 
 -- `l′ d ≤ l`, `h ≤ h′ d` and `w ≤ m d` give the bounds of the quotient
 pub span-outward : {i : Interval} {l h w : ℕ} (d l′ h′ m : ℕ) → 0 < d → l′ * d ≤ l → h ≤ h′ * d → w ≤ m * d → Span i l h w
@@ -149,8 +143,7 @@ span-quotient k low high m p q r t s u =
 
 -- by one number
 pub span-divide : {i : Interval} {l h w : ℕ} (d k low high m : ℕ) → 0 < d → low * d ≤ l * k → h * k ≤ high * d → w * k ≤ m * d
-    → Span i l h w
-    → Span (quotientOf i (point (pos d)) k) low high (m + 1)
+    → Span i l h w → Span (quotientOf i (point (pos d)) k) low high (m + 1)
 span-divide d k low high m p q r t s =
     record {
       a = s .a * k / d;

@@ -1,16 +1,11 @@
 -- What the methods of an interval require, from spans.
 use Prim.Native.Nat.{ℕ, _+_, _*_, _^_, _≤_, _<_}
-use native.Mathlib.Omega.{arith}
-use native.Mathlib.Nat.{mul-le-mul, mul-le-mul-right, lt-of-le-of-lt}
+use native.Mathlib.{Omega.{arith}, Nat.{mul-le-mul, mul-le-mul-right, lt-of-le-of-lt}}
 use mathlib.Core.Path.{_≡_, _∙_}
-use lib.IntN.{pos}
-use lib.Signed.{_≤ℤ_}
-use Rattle.interval.specs.Operations.{size}
-use Rattle.interval.specs.Span.{Span}
-use Rattle.interval.specs.declared.Interval.{Interval}
+use lib.{IntN.{pos}, Signed.{_≤ℤ_}}
+use Rattle.interval.specs.{Operations.{size}, Span.{Span}, declared.Interval.{Interval}}
 use mir.Facts.{toZ-ofZ}
-use Rattle.interval.proofs.Bits.{read, Held}
-use Rattle.interval.proofs.Span.{span-lower, span-upper, span-size, span-divisor}
+use Rattle.interval.proofs.{Bits.{read, Held}, Span.{span-lower, span-upper, span-size, span-divisor}}
 
 pub sum-fits : {i j : Interval} {l h w l′ h′ w′ : ℕ} → h + h′ < 2 ^ 63 → Span i l h w → Span j l′ h′ w′ → size i + size j < 2 ^ 63
 sum-fits p s t = omega (arith, span-size s, span-size t)

@@ -4,13 +4,9 @@ use mathlib.Core.Path.{_≡_, sym, ap, _∙_}
 use native.Mathlib.Omega.{arith}
 use native.Mathlib.Nat.{add-zero, mod-lt, div-add-mod', mul-add-div-right, mul-le-mul, mul-le-mul-left, mul-le-mul-right, le-of-lt}
 use native.Mathlib.Nat.{le-of-suc-le-suc, lt-of-mul-lt-mul-right}
-use Rattle.interval.specs.Whole.{ceilDiv}
-use Rattle.interval.specs.Wide.{WideFits, Wide}
-use Rattle.interval.specs.Span.{Span}
-use Rattle.interval.specs.declared.Interval.{Interval}
+use Rattle.interval.specs.{Whole.{ceilDiv}, Wide.{WideFits, Wide}, Span.{Span}, declared.Interval.{Interval}}
 use Rattle.interval.specs.Operations.{natural, productOf}
-use Rattle.interval.proofs.Natural.{natural-product}
-use Rattle.interval.proofs.Rounding.{floorDiv-below, floorDiv-by}
+use Rattle.interval.proofs.{Natural.{natural-product}, Rounding.{floorDiv-below, floorDiv-by}}
 
 module _ (k x : ℕ) {d : ℕ} (p : 0 < d) where
   -- k · x is k · (x / d) times d, and k · (x % d)

@@ -1,8 +1,7 @@
 -- The span of an interval of natural numbers: bounds on its ends and on its width.
 use Prim.Native.Nat.{ℕ, _+_, _*_, _≤_}
 use mathlib.Core.Path.{_≡_}
-use Rattle.interval.specs.declared.Interval.{Interval}
-use Rattle.interval.specs.Operations.{natural}
+use Rattle.interval.specs.{declared.Interval.{Interval}, Operations.{natural}}
 
 -- i has natural ends, not below `low`, not above `high`, and at most `width` apart
 pub record Span (i : Interval) (low high width : ℕ) : Type 0 where

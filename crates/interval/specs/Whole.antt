@@ -1,8 +1,7 @@
 -- Signed whole numbers rounded down and up, and the lesser and the greater of two.
 use Prim.Native.Nat.{ℕ, _+_, _-_, _/_}
 use mathlib.Core.Bool.{cond}
-use lib.IntN.{ℤ, pos, negsuc, negℤ}
-use lib.Signed.{shrZ, leZ}
+use lib.{IntN.{ℤ, pos, negsuc, negℤ}, Signed.{shrZ, leZ}}
 
 -- −1 − z
 abbrev pub flipZ : ℤ → ℤ

@@ -1,8 +1,7 @@
 -- Where a product over a divisor is worked within 64 bits, though the product itself may pass them.
 use Prim.Native.Nat.{ℕ, _+_, _*_, _/_, _^_, _≤_, _<_}
 use mathlib.Core.Path.{_≡_}
-use Rattle.interval.specs.declared.Interval.{Interval}
-use Rattle.interval.specs.Operations.{natural}
+use Rattle.interval.specs.{declared.Interval.{Interval}, Operations.{natural}}
 
 -- k · (x / den) and k · (x % den) with their sums
 pub record WideFits (k x den : ℕ) : Type 0 where

@@ -1,18 +1,13 @@
 -- A sheet that is judged by the count of its value lines has passed every check.
 use Prim.Native.Nat.{ℕ}
-use mathlib.Core.Path.{_≡_}
-use mathlib.Core.List.{List, []}
+use mathlib.Core.{Path.{_≡_}, List.{List, []}}
 use native.Mathlib.Omega.{arith}
 use lib.ListN.{length}
 use Rattle.case.specs.Columns.{Form}
-use Rattle.header.specs.Header.{columnsOf}
-use Rattle.header.proofs.HeaderAccepted.{header-accepted}
-use Rattle.judgement.specs.declared.Judgement.the-variants.{Lines}
-use Rattle.judgement.specs.Limits.{Limits, today}
-use Rattle.judgement.specs.Sheet.{names, valueLines, judgementWithin, judgement}
-use Rattle.judgement.specs.Accepted.{AcceptedWithin, Accepted}
-use Rattle.judgement.proofs.LinesAccepted.{lines-sound}
-use Rattle.judgement.proofs.Causes.{Cause, lines, cause}
+use Rattle.header.{specs.Header.{columnsOf}, proofs.HeaderAccepted.{header-accepted}}
+use Rattle.judgement.specs.{declared.Judgement.the-variants.{Lines}, Limits.{Limits, today}}
+use Rattle.judgement.specs.{Sheet.{names, valueLines, judgementWithin, judgement}, Accepted.{AcceptedWithin, Accepted}}
+use Rattle.judgement.proofs.{LinesAccepted.{lines-sound}, Causes.{Cause, lines, cause}}
 
 pub accepted-within : (form : Form) (limits : Limits) (s : List ℕ) (n : ℕ) → judgementWithin form limits s ≡ Lines n
     → AcceptedWithin form limits s n

@@ -1,16 +1,11 @@
 -- Every judgement has its cause: the test that decided it.
 use Prim.Native.Nat.{ℕ, _+_, _≤_, _<_}
-use mathlib.Core.Path.{_≡_, refl}
-use mathlib.Core.Bool.{Bool, true, false, cond}
-use mathlib.Core.List.{List, []}
-use lib.ListN.{length}
-use lib.Dec.{ltb, eqb}
+use mathlib.Core.{Path.{_≡_, refl}, Bool.{Bool, true, false, cond}, List.{List, []}}
+use lib.{ListN.{length}, Dec.{ltb, eqb}}
 use borrow.Author.Tests.{eqb-true, eqb-false, ltb-true, ltb-false}
 use Rattle.case.specs.Columns.{Form}
 use Rattle.header.specs.Header.{noColumns, wrongName, columnsOf}
-use Rattle.judgement.specs.declared.Judgement.{Judgement}
-use Rattle.judgement.specs.declared.Judgement.the-variants.{Lines, Refused}
-use Rattle.judgement.specs.Limits.{Limits}
+use Rattle.judgement.specs.{declared.Judgement.{Judgement, the-variants.{Lines, Refused}}, Limits.{Limits}}
 use Rattle.judgement.specs.Refusal.{textRefused, nameRefused, noLineRefused, manyLinesRefused}
 use Rattle.judgement.specs.Sheet.{names, valueLines, badText, linesJudgement, valuesJudgement, namesJudgement, judgementWithin}
 
@@ -30,8 +25,7 @@ module _ (form : Form) (s : List ℕ) where
     no-line : length (valueLines s) ≡ 0 → Cause limits (Refused 4 2 0)
     many-lines : limits .lines < length (valueLines s) → Cause limits (Refused 4 (limits .lines + 2) 0)
     lines : {j : Judgement} → badText limits s ≡ false → wrongColumn ≡ 0 → (length (valueLines s) ≡ 0 → ⊥)
-        → length (valueLines s) ≤ limits .lines
-        → linesJudged ≡ j → Cause limits j
+        → length (valueLines s) ≤ limits .lines → linesJudged ≡ j → Cause limits j
 
   pub cause : (limits : Limits) → Cause limits (judgementWithin form limits s)
   unfolding judgementWithin namesJudgement valuesJudgement textRefused nameRefused noLineRefused manyLinesRefused

@@ -1,28 +1,16 @@
 -- Stations and seasons of earlier lines, kept as one number each.
 use Prim.Native.Nat.{ℕ, zero, suc, _+_, _*_, _/_, _%_, _≤_, _<_}
-use mathlib.Core.Path.{_≡_, refl, _∙_}
-use mathlib.Core.Bool.{Bool, true, false, cond, _&&_, _||_, or-comm}
-use mathlib.Core.List.{List, [], _∷_, map}
-use native.Mathlib.Numerals.{add-one}
-use native.Mathlib.Decide.{ℕ-discrete}
-use native.Mathlib.Omega.{arith}
-use lib.ListN.{length, getD, set}
-use lib.Seq.{getD-set-same, getD-set-other}
-use lib.Dec.{T, eqb, leb, leb→le}
+use mathlib.Core.{Path.{_≡_, refl, _∙_}, Bool.{Bool, true, false, cond, _&&_, _||_, or-comm}, List.{List, [], _∷_, map}}
+use native.Mathlib.{Numerals.{add-one}, Decide.{ℕ-discrete}, Omega.{arith}}
+use lib.{ListN.{length, getD, set}, Seq.{getD-set-same, getD-set-other}, Dec.{T, eqb, leb, leb→le}}
 use borrow.Author.Tests.{eq-eqb, ne-eqb, eqb-true}
 use mir.Facts.{and-yes}
-use Rattle.text.proofs.Clash.{clash}
-use Rattle.text.specs.Text.{bytes, same}
-use Rattle.case.specs.declared.Form.{Form as CodeForm}
-use Rattle.case.specs.declared.Form.the-variants.{Present, Former}
+use Rattle.text.{specs.Text.{bytes, same}, proofs.Clash.{clash}}
+use Rattle.case.specs.declared.Form.{Form as CodeForm, the-variants.{Present, Former}}
+use Rattle.case.specs.{Columns.{Form, columns, formerColumns, nameIndex, named, inRange}, Check.{outOfRange, disagreement, finding}}
+use Rattle.case.{specs.{Bounds.{Placed}, Parts.{formOf, rangeAt}}, proofs.Ranges.{in-range, in-range-at, some-columns}}
 use Rattle.case.specs.declared.Finding.the-variants as found
-use Rattle.case.specs.Columns.{Form, columns, formerColumns, nameIndex, named, inRange}
-use Rattle.case.specs.Check.{outOfRange, disagreement, finding}
-use Rattle.case.specs.Bounds.{Placed}
-use Rattle.case.specs.Parts.{formOf, rangeAt}
-use Rattle.case.proofs.Ranges.{in-range, in-range-at, some-columns}
-use Rattle.judgement.specs.Findings.{sameKey, repeats, lineFinding}
-use Rattle.judgement.specs.Parts.{keyOf, Keyable, packed, keysOf, seenIn}
+use Rattle.judgement.specs.{Findings.{sameKey, repeats, lineFinding}, Parts.{keyOf, Keyable, packed, keysOf, seenIn}}
 
 -- a form whose first two names are station and season
 pub record Keyed (form : Form) : Type 0 where
@@ -135,8 +123,7 @@ in-ranges form at v h = go (eqb (outOfRange form at v) 0) refl h
     go false t k = clash cc
 
 pub key-fits : (form : CodeForm) {at : List ℕ} (v : List ℕ) → Placed (length (formOf form)) at → length v ≡ length (formOf form)
-    → finding (formOf form) at v ≡ found.Sound
-    → Keyable (getD v 0 0) (getD v 1 0)
+    → finding (formOf form) at v ≡ found.Sound → Keyable (getD v 0 0) (getD v 1 0)
 unfolding formOf columns formerColumns inRange rangeAt
 key-fits form {at} v p l h =
     go form (in-range-at (formOf form) v l (in-range (formOf form) at v (p .count) (some-columns at _ (p .count) (p .some))

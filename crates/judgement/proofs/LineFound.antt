@@ -1,15 +1,10 @@
 -- What each finding of a value line says of its fields, its values and the values of earlier lines.
 use Prim.Native.Nat.{ℕ}
-use mathlib.Core.Path.{_≡_, refl}
-use mathlib.Core.Bool.{Bool, true, false, cond, _&&_}
-use mathlib.Core.List.{List}
-use lib.ListN.{length}
-use lib.Dec.{eqb}
+use mathlib.Core.{Path.{_≡_, refl}, Bool.{Bool, true, false, cond, _&&_}, List.{List}}
+use lib.{ListN.{length}, Dec.{eqb}}
 use borrow.Author.Tests.{eqb-true, eqb-false}
-use Rattle.case.specs.declared.Finding.{Finding}
+use Rattle.case.specs.{declared.Finding.{Finding}, Columns.{Form, named}, Check.{outOfRange, agree, disagreement, finding}}
 use Rattle.case.specs.declared.Finding.the-variants as found
-use Rattle.case.specs.Columns.{Form, named}
-use Rattle.case.specs.Check.{outOfRange, agree, disagreement, finding}
 use Rattle.line.specs.Line.{wrongForm, lineValues}
 use Rattle.judgement.specs.declared.LineFinding.{LineFinding}
 use Rattle.judgement.specs.declared.LineFinding.the-variants.{Sound, Form as WrongForm, OutOfRange, Disagreement, Repeated}
@@ -29,16 +24,14 @@ module _ (form : Form) (at : List ℕ) where
     sound : ValuesFound v found.Sound
     range : (outOfRange form at v ≡ 0 → ⊥) → ValuesFound v (found.OutOfRange (outOfRange form at v))
     layer : layerAgrees form v ≡ false → ValuesFound v (found.Disagreement (named form at "layer"))
-    rods : rodsAgree form v ≡ false
-        → ValuesFound v (found.Disagreement (named form at "rods"))
+    rods : rodsAgree form v ≡ false → ValuesFound v (found.Disagreement (named form at "rods"))
 
   values-found : (v : List ℕ) → ValuesFound v (finding form at v)
   unfolding finding disagreement
   values-found v =
       go (eqb (outOfRange form at v) 0) refl (layerAgrees form v) refl (rodsAgree form v) refl
     where
-      go : (a : Bool) → eqb (outOfRange form at v) 0 ≡ a → (b : Bool) → layerAgrees form v ≡ b
-          → (c : Bool) → rodsAgree form v ≡ c
+      go : (a : Bool) → eqb (outOfRange form at v) 0 ≡ a → (b : Bool) → layerAgrees form v ≡ b → (c : Bool) → rodsAgree form v ≡ c
           → ValuesFound v
           (cond a (cond b (cond c found.Sound (found.Disagreement (named form at "rods"))) (found.Disagreement (named form at "layer")))
           (found.OutOfRange (outOfRange form at v)))
@@ -62,8 +55,7 @@ module _ (form : Form) (at : List ℕ) where
       wrong-form : (wrongForm (length form) 1 fields ≡ 0 → ⊥) → LineFound (WrongForm (wrongForm (length form) 1 fields))
       out-of-range : RightForm → (outOfRange form at v ≡ 0 → ⊥) → LineFound (OutOfRange (outOfRange form at v))
       layer-differs : RightForm → layerAgrees form v ≡ false → LineFound (Disagreement (named form at "layer"))
-      rods-differ : RightForm → rodsAgree form v ≡ false
-          → LineFound (Disagreement (named form at "rods"))
+      rods-differ : RightForm → rodsAgree form v ≡ false → LineFound (Disagreement (named form at "rods"))
       repeated : RightForm → repeats form v earlier ≡ true → LineFound Repeated
 
     pub line-found : LineFound (lineFinding form at earlier fields)

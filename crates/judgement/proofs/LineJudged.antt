@@ -1,24 +1,15 @@
 -- The judgement of one line: its form, then its values.
 use Prim.Native.Nat.{ℕ}
-use mathlib.Core.Path.{_≡_, refl, sym, _∙_}
-use mathlib.Core.Bool.{cond}
-use mathlib.Core.List.{List}
+use mathlib.Core.{Path.{_≡_, refl, sym, _∙_}, Bool.{cond}, List.{List}}
 use lib.ListN.{length, getD}
 use borrow.Author.Tests.{eq-eqb, ne-eqb}
-use Rattle.text.proofs.Clash.{clash}
-use Rattle.text.specs.Text.{fieldsOf}
-use Rattle.case.specs.Columns.{Form}
-use Rattle.case.specs.declared.Finding.{Finding}
+use Rattle.text.{specs.Text.{fieldsOf}, proofs.Clash.{clash}}
+use Rattle.case.specs.{Columns.{Form}, declared.Finding.{Finding}, Check.{finding}}
 use Rattle.case.specs.declared.Finding.the-variants as found
-use Rattle.case.specs.Check.{finding}
-use Rattle.line.specs.Line.{lineValues}
-use Rattle.line.specs.Parts.{LineValues}
-use Rattle.judgement.specs.declared.Judgement.{Judgement}
-use Rattle.judgement.specs.declared.Judgement.the-variants.{Lines, Refused}
-use Rattle.judgement.specs.declared.LineFinding.{LineFinding}
+use Rattle.line.specs.{Line.{lineValues}, Parts.{LineValues}}
+use Rattle.judgement.specs.declared.{Judgement.{Judgement, the-variants.{Lines, Refused}}, LineFinding.{LineFinding}}
 use Rattle.judgement.specs.declared.LineFinding.the-variants.{Sound, Form as WrongForm, OutOfRange, Disagreement, Repeated}
-use Rattle.judgement.specs.Refusal.{lineJudgement}
-use Rattle.judgement.specs.Findings.{orFinding, lineFinding}
+use Rattle.judgement.specs.{Refusal.{lineJudgement}, Findings.{orFinding, lineFinding}}
 use Rattle.judgement.specs.Parts.{Keyable, packed, keysOf, seenIn, Checks}
 use Rattle.judgement.proofs.Keys.{Keyed, seen-repeats}
 
@@ -39,16 +30,10 @@ module _ {form : Form} {order line row : List ℕ} {c : ℕ} (at : List ℕ) (l 
   pub judged-form : (earlier : List (List ℕ)) → (c ≡ 0 → ⊥) → Checks form at earlier line (WrongForm c) row
   unfolding lineFinding
   judged-form earlier h =
-      record {
-        found-is = rw (← l .wrong-is, ne-eqb c 0 h);
-        row-is = λ e. clash cc;
-        count = l .count;
-        keyable = λ e. clash cc;
-      }
+      record { found-is = rw (← l .wrong-is, ne-eqb c 0 h); row-is = λ e. clash cc; count = l .count; keyable = λ e. clash cc }
 
   pub judged-values : {f : LineFinding} (keys : List ℕ) (n : ℕ) → Keyed form
-      → (finding form at row ≡ found.Sound → Keyable (getD row 0 0) (getD row 1 0)) → c ≡ 0
-      → row ≡ lineValues at (fieldsOf line)
+      → (finding form at row ≡ found.Sound → Keyable (getD row 0 0) (getD row 1 0)) → c ≡ 0 → row ≡ lineValues at (fieldsOf line)
       → f ≡ orFinding (finding form at row) (cond (seenIn (packed (getD row 0 0) (getD row 1 0)) keys n) Repeated Sound)
       → Checks form at (keysOf keys n) line f row
   unfolding lineFinding
@@ -66,8 +51,7 @@ module _ {form : Form} {order line row : List ℕ} {c : ℕ} (at : List ℕ) (l 
 
 -- a refused line is refused whatever follows
 pub refused-line : {k l c : ℕ} {a : Judgement} (n : ℕ) (sound : Judgement) (f : LineFinding) → a ≡ lineJudgement n (Lines 0) f
-    → a ≡ Refused k l c
-    → lineJudgement n sound f ≡ Refused k l c
+    → a ≡ Refused k l c → lineJudgement n sound f ≡ Refused k l c
 unfolding lineJudgement
 refused-line n sound Sound p q = clash cc
 refused-line n sound (WrongForm column) p q = cc

@@ -1,23 +1,15 @@
 -- Lines whose answer is a count of lines are sound.
 use Prim.Native.Nat.{ℕ, zero, suc, _<_}
-use mathlib.Core.Path.{_≡_, refl}
-use mathlib.Core.Bool.{Bool, true, false, cond}
-use mathlib.Core.List.{List, [], _∷_}
+use mathlib.Core.{Path.{_≡_, refl}, Bool.{Bool, true, false, cond}, List.{List, [], _∷_}}
 use native.Mathlib.Omega.{arith}
-use lib.ListN.{length, getD}
-use lib.Dec.{eqb}
+use lib.{ListN.{length, getD}, Dec.{eqb}}
 use borrow.Author.Tests.{eqb-true}
-use Rattle.text.proofs.Clash.{clash}
-use Rattle.text.specs.Text.{fieldsOf}
+use Rattle.text.{specs.Text.{fieldsOf}, proofs.Clash.{clash}}
 use Rattle.case.specs.Columns.{Form}
-use Rattle.judgement.specs.declared.Judgement.{Judgement}
-use Rattle.judgement.specs.declared.Judgement.the-variants.{Lines}
-use Rattle.judgement.specs.declared.LineFinding.{LineFinding}
-use Rattle.judgement.specs.declared.LineFinding.the-variants.{Sound, Form as WrongForm}
+use Rattle.judgement.specs.declared.{Judgement.{Judgement, the-variants.{Lines}}, LineFinding.{LineFinding}}
+use Rattle.judgement.specs.{declared.LineFinding.the-variants.{Sound, Form as WrongForm}, Findings.{lineFinding}}
+use Rattle.judgement.specs.{Sheet.{linesJudgement}, Accepted.{SoundLine}}
 use Rattle.line.specs.Line.{wrongForm, lineValues}
-use Rattle.judgement.specs.Findings.{lineFinding}
-use Rattle.judgement.specs.Sheet.{linesJudgement}
-use Rattle.judgement.specs.Accepted.{SoundLine}
 use Rattle.judgement.proofs.LineJudged.{sound-line, sound-case}
 
 sound-form : (b : Bool) (c : ℕ) (f : LineFinding) → cond b f (WrongForm c) ≡ Sound → (b ≡ true) × (f ≡ Sound)
@@ -36,8 +28,7 @@ pub record LinesSound (form : Form) (at : List ℕ) (ls : List (List ℕ)) (soun
   pub then : sound ≡ Lines m
 
 pub lines-sound : (form : Form) (at : List ℕ) (earlier : List (List ℕ)) (n m : ℕ) (sound : Judgement) (ls : List (List ℕ))
-    → linesJudgement form at earlier n sound ls ≡ Lines m
-    → LinesSound form at ls sound m
+    → linesJudgement form at earlier n sound ls ≡ Lines m → LinesSound form at ls sound m
 unfolding linesJudgement
 lines-sound form at earlier n m sound [] e = record { each = λ i h. absurd (omega arith); then = e }
 lines-sound form at earlier n m sound (l ∷ ls) e =

@@ -1,22 +1,14 @@
 -- The value lines in turn: which line a refusal is of, and what the lines before it leave.
 use Prim.Native.Nat.{ℕ, zero, suc, _+_, _<_}
-use mathlib.Core.Path.{_≡_, refl}
-use mathlib.Core.Bool.{Bool, true, false, _||_}
-use mathlib.Core.Logic.{_⊎_, inl, inr}
-use mathlib.Core.List.{List, [], _∷_}
+use mathlib.Core.{Path.{_≡_, refl}, Bool.{Bool, true, false, _||_}, Logic.{_⊎_, inl, inr}, List.{List, [], _∷_}}
 use native.Mathlib.Omega.{arith}
 use lib.ListN.{length, getD}
-use Rattle.text.proofs.Clash.{clash}
-use Rattle.text.specs.Text.{fieldsOf}
+use Rattle.text.{specs.Text.{fieldsOf}, proofs.Clash.{clash}}
 use Rattle.case.specs.Columns.{Form}
 use Rattle.line.specs.Line.{lineValues}
-use Rattle.judgement.specs.declared.Judgement.{Judgement}
-use Rattle.judgement.specs.declared.Judgement.the-variants.{Lines, Refused}
-use Rattle.judgement.specs.declared.LineFinding.{LineFinding}
+use Rattle.judgement.specs.declared.{Judgement.{Judgement, the-variants.{Lines, Refused}}, LineFinding.{LineFinding}}
 use Rattle.judgement.specs.declared.LineFinding.the-variants.{Sound, Form as WrongForm, OutOfRange, Disagreement, Repeated}
-use Rattle.judgement.specs.Refusal.{lineJudgement}
-use Rattle.judgement.specs.Findings.{sameKey, repeats, lineFinding}
-use Rattle.judgement.specs.Sheet.{linesJudgement}
+use Rattle.judgement.specs.{Refusal.{lineJudgement}, Findings.{sameKey, repeats, lineFinding}, Sheet.{linesJudgement}}
 use Rattle.judgement.proofs.LineJudged.{sound-line}
 
 module _ (form : Form) (at : List ℕ) where
@@ -61,8 +53,7 @@ module _ (form : Form) (at : List ℕ) where
       cons q r zero h = q
       cons q r (suc j) h = r j (omega arith)
 
-      later : foundOf earlier x ≡ Sound → RefusedAt (valuesOf x ∷ earlier) (suc n) ls k l c
-          → RefusedAt earlier n (x ∷ ls) k l c
+      later : foundOf earlier x ≡ Sound → RefusedAt (valuesOf x ∷ earlier) (suc n) ls k l c → RefusedAt earlier n (x ∷ ls) k l c
       later q r =
           record {
             index = suc (r .index);

@@ -1,20 +1,14 @@
 -- A sheet that is accepted within some limits, judged within others: request (h) of document 02.
 use Prim.Native.Nat.{ℕ, _+_, _≤_, _<_}
-use mathlib.Core.Path.{_≡_, _∙_}
-use mathlib.Core.Bool.{cond, or-false}
-use mathlib.Core.List.{List}
+use mathlib.Core.{Path.{_≡_, _∙_}, Bool.{cond, or-false}, List.{List}}
 use native.Mathlib.Omega.{arith}
-use lib.ListN.{length}
-use lib.Dec.{ltb}
+use lib.{ListN.{length}, Dec.{ltb}}
 use borrow.Author.Tests.{eq-eqb, ne-eqb, lt-ltb, le-ltb}
 use Rattle.case.specs.Columns.{Form}
-use Rattle.judgement.specs.declared.Judgement.the-variants.{Lines, Refused}
-use Rattle.judgement.specs.Limits.{Limits, earlier, today}
+use Rattle.judgement.specs.{declared.Judgement.the-variants.{Lines, Refused}, Limits.{Limits, earlier, today}}
 use Rattle.judgement.specs.Refusal.{textRefused, manyLinesRefused}
-use Rattle.judgement.specs.Sheet.{badText, valuesJudgement, namesJudgement, judgementWithin, judgement}
-use Rattle.judgement.specs.Accepted.{RightText}
-use Rattle.judgement.proofs.Whole.{text-right}
-use Rattle.judgement.proofs.Accepted.{accepted-within}
+use Rattle.judgement.specs.{Sheet.{badText, valuesJudgement, namesJudgement, judgementWithin, judgement}, Accepted.{RightText}}
+use Rattle.judgement.proofs.{Whole.{text-right}, Accepted.{accepted-within}}
 
 -- of a text that is right within some limits, others refuse the bytes alone
 bytes-alone : {limits : Limits} {s : List ℕ} (others : Limits) → RightText limits s → badText others s ≡ ltb (others .bytes) (length s)

@@ -1,33 +1,18 @@
 -- The pass over the value lines: what holds when n lines are sound, rest holds the others, the array the keys of the n lines, and the store
 -- their values.
 use Prim.Native.Nat.{ℕ, _+_, _*_, _-_, _≤_, _<_}
-use mathlib.Core.Path.{_≡_, refl, sym, ap, _∙_}
-use mathlib.Core.Logic.{_⊎_, inl, inr}
-use mathlib.Core.List.{List, [], _∷_, map}
-use native.Mathlib.Nat.{add-zero, eq-or-lt-of-le, mul-le-mul-left}
-use native.Mathlib.Omega.{arith}
+use mathlib.Core.{Path.{_≡_, refl, sym, ap, _∙_}, Logic.{_⊎_, inl, inr}, List.{List, [], _∷_, map}}
+use native.Mathlib.{Nat.{add-zero, eq-or-lt-of-le, mul-le-mul-left}, Omega.{arith}}
 use lib.ListN.{length, getD, take, drop, set, replicate, length-set, length-drop}
-use Rattle.text.proofs.Clash.{clash}
-use Rattle.text.specs.Text.{indexOf, linesOf, fieldsOf}
-use Rattle.text.specs.Parts.{Skipped}
-use Rattle.text.proofs.Lines.{lines-next, lines-none}
+use Rattle.text.{specs.{Text.{indexOf, linesOf, fieldsOf}, Parts.{Skipped}}, proofs.{Clash.{clash}, Lines.{lines-next, lines-none}}}
 use Rattle.text.proofs.LineTurns.{line-turn, line-shorter, next-of}
-use Rattle.tables.specs.Parts.{partAt}
-use Rattle.tables.proofs.Writing.{part-kept}
-use Rattle.tables.proofs.Parts.{part-entry}
+use Rattle.tables.{specs.Parts.{partAt}, proofs.{Writing.{part-kept}, Parts.{part-entry}}}
 use Rattle.case.specs.Columns.{Form, named}
 use Rattle.line.specs.Line.{lineValues}
-use Rattle.judgement.specs.declared.Judgement.{Judgement}
-use Rattle.judgement.specs.declared.Judgement.the-variants.{Lines, Refused}
-use Rattle.judgement.specs.declared.LineFinding.{LineFinding}
-use Rattle.judgement.specs.Refusal.{lineJudgement}
-use Rattle.judgement.specs.Limits.{mostLines}
-use Rattle.judgement.specs.Findings.{lineFinding}
-use Rattle.judgement.specs.Sheet.{linesJudgement}
-use Rattle.judgement.specs.Parts.{packed, keysOf, LineStored}
-use Rattle.judgement.specs.Read.{LinesRead}
-use Rattle.judgement.proofs.Keys.{Keyed, kept, finding-kept, keys-more}
-use Rattle.judgement.proofs.LineJudged.{refused-line, sound-line}
+use Rattle.judgement.specs.declared.{Judgement.{Judgement, the-variants.{Lines, Refused}}, LineFinding.{LineFinding}}
+use Rattle.judgement.specs.{Refusal.{lineJudgement}, Limits.{mostLines}, Findings.{lineFinding}, Sheet.{linesJudgement}}
+use Rattle.judgement.specs.{Parts.{packed, keysOf, LineStored}, Read.{LinesRead}}
+use Rattle.judgement.proofs.{Keys.{Keyed, kept, finding-kept, keys-more}, LineJudged.{refused-line, sound-line}}
 
 pub record Passing (form : Form) (s at keys rest : List ℕ) (n : ℕ) (sound : Judgement) (before store : List ℕ) : Type 0 where
   pub earlier : List (List ℕ)

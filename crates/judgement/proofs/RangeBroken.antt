@@ -1,16 +1,10 @@
 -- A column out of range is that of a name whose value is out of its range.
 use Prim.Native.Nat.{ℕ, zero, suc, _<_}
-use mathlib.Core.Path.{_≡_, refl}
-use mathlib.Core.Bool.{Bool, true, false, cond}
-use mathlib.Core.Logic.{_⊎_, inl, inr}
-use mathlib.Core.List.{List, [], _∷_}
+use mathlib.Core.{Path.{_≡_, refl}, Bool.{Bool, true, false, cond}, Logic.{_⊎_, inl, inr}, List.{List, [], _∷_}}
 use native.Mathlib.Omega.{arith}
-use lib.ListN.{length, getD}
-use lib.Dec.{leb, eqb}
+use lib.{ListN.{length, getD}, Dec.{leb, eqb}}
 use borrow.Author.Tests.{eqb-false}
-use Rattle.case.specs.Columns.{Form, inRange}
-use Rattle.case.specs.Check.{leftOf, outOfRange}
-use Rattle.case.specs.Parts.{rangeAt}
+use Rattle.case.specs.{Columns.{Form, inRange}, Check.{leftOf, outOfRange}, Parts.{rangeAt}}
 
 pub record RangeBroken (form : Form) (at v : List ℕ) (column : ℕ) : Type 0 where
   pub name : ℕ
@@ -44,7 +38,6 @@ range-broken (k ∷ ks) (c ∷ at) (x ∷ v) e = go (inRange (k .range) x) refl 
     go false q h then = which (left-one c (outOfRange ks at v))
       where
         which : ((leftOf c (outOfRange ks at v) ≡ c) ⊎ ((leftOf c (outOfRange ks at v) ≡ outOfRange ks at v) × (outOfRange ks at v ≡ 0
-            → ⊥)))
-            → RangeBroken (k ∷ ks) (c ∷ at) (x ∷ v) (leftOf c (outOfRange ks at v))
+            → ⊥))) → RangeBroken (k ∷ ks) (c ∷ at) (x ∷ v) (leftOf c (outOfRange ks at v))
         which (inl p) = record { name = zero; known = omega arith; column-is = p; outside = q }
         which (inr p) = rw (p .0) (later (then (p .1)))

@@ -1,18 +1,14 @@
 -- The values of an accepted sheet's lines as the parts of their store.
 use Prim.Native.Nat.{ℕ, zero, suc, _<_}
-use mathlib.Core.Path.{_≡_, refl, sym, ap, _∙_}
-use mathlib.Core.List.{List, [], _∷_, map}
+use mathlib.Core.{Path.{_≡_, refl, sym, ap, _∙_}, List.{List, [], _∷_, map}}
 use native.Mathlib.Omega.{arith}
 use lib.ListN.{length, getD, length-map}
 use Rattle.text.specs.Text.{fieldsOf}
-use Rattle.tables.specs.Parts.{partsOf}
-use Rattle.tables.proofs.Parts.{parts-are}
+use Rattle.tables.{specs.Parts.{partsOf}, proofs.Parts.{parts-are}}
 use Rattle.case.specs.Columns.{Form}
 use Rattle.header.specs.Header.{columnsOf}
 use Rattle.line.specs.Line.{lineValues}
-use Rattle.judgement.specs.Sheet.{names, valueLines}
-use Rattle.judgement.specs.Accepted.{Accepted}
-use Rattle.judgement.specs.Read.{Stored}
+use Rattle.judgement.specs.{Sheet.{names, valueLines}, Accepted.{Accepted}, Read.{Stored}}
 
 pub map-at : (f : List ℕ → List ℕ) (ls : List (List ℕ)) (i : ℕ) → i < length ls → getD (map f ls) i [] ≡ f (getD ls i [])
 map-at f [] i h = absurd (omega arith)

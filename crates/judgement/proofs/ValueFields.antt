@@ -1,14 +1,8 @@
 -- The fields of a value line: where no column is wrong, each is a value; else what is wrong.
 use Prim.Native.Nat.{ℕ, suc, _+_, _-_, _≤_, _<_}
-use mathlib.Core.Path.{_≡_, refl, sym, ap, _∙_}
-use mathlib.Core.Bool.{Bool, true, false, cond, _&&_}
-use mathlib.Core.List.{List, [], _∷_}
-use native.Mathlib.Numerals.{add-one}
-use native.Mathlib.Decide.{ℕ-discrete}
-use native.Mathlib.Omega.{arith}
-use lib.ListN.{length, getD, drop}
-use lib.Seq.{getD-drop, drop-drop}
-use lib.Dec.{leb}
+use mathlib.Core.{Path.{_≡_, refl, sym, ap, _∙_}, Bool.{Bool, true, false, cond, _&&_}, List.{List, [], _∷_}}
+use native.Mathlib.{Numerals.{add-one}, Decide.{ℕ-discrete}, Omega.{arith}}
+use lib.{ListN.{length, getD, drop}, Seq.{getD-drop, drop-drop}, Dec.{leb}}
 use borrow.Author.Tests.{leb-true, leb-false}
 use Rattle.text.specs.Value.{isValue}
 use Rattle.header.specs.Names.{fieldAt}
@@ -77,8 +71,7 @@ right-from n all (t ∷ fs) c a e =
     go (next n t (wrongForm n (suc c) fs) c) e (λ b z. right-from n all fs (suc c) (rw (add-one c) at b) z)
   where
     go : {w : ℕ} → Next n t (wrongForm n (suc c) fs) c w → w ≡ 0
-        → (ValuesLeft n all fs (c + 1) → wrongForm n (suc c) fs ≡ 0 → RightValues n all)
-        → RightValues n all
+        → (ValuesLeft n all fs (c + 1) → wrongForm n (suc c) fs ≡ 0 → RightValues n all) → RightValues n all
     go (value h f) z then = then (values-step a h f) z
     go (surplus h) z then = absurd (omega (arith, a .first))
     go (no-value h f) z then = absurd (omega (arith, a .first))

@@ -1,28 +1,18 @@
 -- The whole sheet: its text, its header, its value lines.
 use Prim.Native.Nat.{ℕ, _+_, _-_, _≤_, _<_}
-use mathlib.Core.Path.{_≡_, refl, _∙_}
-use mathlib.Core.Bool.{Bool, true, false, not, _||_}
-use mathlib.Core.Logic.{_⊎_, inl, inr}
-use mathlib.Core.List.{List}
+use mathlib.Core.{Path.{_≡_, refl, _∙_}, Bool.{Bool, true, false, not, _||_}, Logic.{_⊎_, inl, inr}, List.{List}}
 use native.Mathlib.Omega.{arith}
-use lib.ListN.{length, getD, take, drop}
-use lib.Dec.{eqb, ltb}
+use lib.{ListN.{length, getD, take, drop}, Dec.{eqb, ltb}}
 use borrow.Author.Tests.{eq-eqb, ne-eqb, lt-ltb, le-ltb, eqb-true, eqb-false, ltb-true, ltb-false, not-true, not-false}
-use Rattle.text.proofs.Clash.{clash}
-use Rattle.text.specs.Text.{indexOf, linesOf, fieldsOf}
-use Rattle.text.specs.Parts.{Skipped}
+use Rattle.text.{specs.{Text.{indexOf, linesOf, fieldsOf}, Parts.{Skipped}}, proofs.{Clash.{clash}, Lines.{lines-next}}}
+use Rattle.text.proofs.LineTurns.{line-turn}
 use Rattle.case.specs.Columns.{Form}
-use Rattle.text.proofs.Lines.{lines-next}
-use Rattle.judgement.specs.declared.Judgement.{Judgement}
-use Rattle.judgement.specs.declared.Judgement.the-variants.{Lines, Refused}
+use Rattle.judgement.specs.declared.Judgement.{Judgement, the-variants.{Lines, Refused}}
 use Rattle.judgement.specs.Limits.{Limits, today, mostBytes, mostLines}
 use Rattle.judgement.specs.Refusal.{textRefused, nameRefused, noLineRefused, manyLinesRefused}
 use Rattle.judgement.specs.Sheet.{names, valueLines, badText, valuesJudgement, namesJudgement, judgementWithin, judgement}
-use Rattle.judgement.specs.Read.{LinesRead, ValuesRead, Read}
-use Rattle.judgement.specs.Accepted.{RightText}
-use Rattle.header.specs.Header.{columnsOf}
-use Rattle.header.specs.Parts.{Header}
-use Rattle.text.proofs.LineTurns.{line-turn}
+use Rattle.judgement.specs.{Read.{LinesRead, ValuesRead, Read}, Accepted.{RightText}}
+use Rattle.header.specs.{Header.{columnsOf}, Parts.{Header}}
 
 -- ---- the text
 
@@ -79,8 +69,7 @@ read-refused : {form : Form} {s : List ℕ} {k l c : ℕ} (store : List ℕ) →
 read-refused store e = record { answer-is = e; size = refl; stored = λ n q. absurd (not-lines q) }
 
 lines-refused : {form : Form} {at : List ℕ} {ls : List (List ℕ)} {k l c : ℕ} (store : List ℕ)
-    → Refused k l c ≡ valuesJudgement form today at ls
-    → ValuesRead form at ls store store (Refused k l c)
+    → Refused k l c ≡ valuesJudgement form today at ls → ValuesRead form at ls store store (Refused k l c)
 lines-refused store e = record { answer-is = e; size = refl; stored = λ n q. absurd (not-lines q) }
 
 pub read-text : (form : Form) (s store : List ℕ) → badText today s ≡ true → Read form s store store (Refused 1 0 0)

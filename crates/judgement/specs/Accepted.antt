@@ -1,18 +1,13 @@
 -- What holds of a sheet that is judged to have n value lines within some limits: proved in proofs/Accepted.antt.
 use Prim.Native.Nat.{ℕ, _-_, _≤_, _<_}
-use mathlib.Core.Path.{_≡_}
-use mathlib.Core.Bool.{false}
-use mathlib.Core.List.{List, []}
+use mathlib.Core.{Path.{_≡_}, Bool.{false}, List.{List, []}}
 use lib.ListN.{length, getD}
 use Rattle.text.specs.Text.{fieldsOf}
 use Rattle.case.specs.declared.Finding.the-variants as found
-use Rattle.case.specs.Columns.{Form}
-use Rattle.case.specs.Check.{finding}
-use Rattle.case.specs.Bounds.{Placed}
+use Rattle.case.specs.{Columns.{Form}, Check.{finding}, Bounds.{Placed}}
 use Rattle.header.specs.Header.{noColumns, wrongName, columnsOf}
 use Rattle.line.specs.Line.{wrongForm, lineValues}
-use Rattle.judgement.specs.Limits.{Limits, today}
-use Rattle.judgement.specs.Sheet.{names, valueLines, badText, linesJudgement}
+use Rattle.judgement.specs.{Limits.{Limits, today}, Sheet.{names, valueLines, badText, linesJudgement}}
 use Rattle.judgement.specs.declared.Judgement.the-variants.{Lines}
 
 -- a text that is not "empty, over" the most bytes, "or last byte not 10"

@@ -1,13 +1,9 @@
 -- What the checks of a value line find. Document 01, 'The result table'.
 use Prim.Native.Nat.{ℕ}
-use mathlib.Core.Bool.{Bool, false, cond, _&&_, _||_}
-use mathlib.Core.List.{List, [], _∷_}
-use lib.Dec.{eqb}
-use lib.ListN.{length}
-use Rattle.case.specs.declared.Finding.{Finding}
+use mathlib.Core.{Bool.{Bool, false, cond, _&&_, _||_}, List.{List, [], _∷_}}
+use lib.{Dec.{eqb}, ListN.{length}}
+use Rattle.case.specs.{declared.Finding.{Finding}, Columns.{Form, named}, Check.{finding}}
 use Rattle.case.specs.declared.Finding.the-variants as found
-use Rattle.case.specs.Columns.{Form, named}
-use Rattle.case.specs.Check.{finding}
 use Rattle.line.specs.Line.{wrongForm, lineValues}
 use Rattle.judgement.specs.declared.LineFinding.{LineFinding}
 use Rattle.judgement.specs.declared.LineFinding.the-variants.{Sound, Form as WrongForm, OutOfRange, Disagreement, Repeated}

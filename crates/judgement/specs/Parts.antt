@@ -1,17 +1,12 @@
 -- What the parts of judging a sheet promise.
 use Prim.Native.Nat.{ℕ, zero, suc, _+_, _*_, _/_, _%_, _^_, _<_}
-use mathlib.Core.Path.{_≡_}
-use mathlib.Core.Bool.{Bool, false, _||_}
-use mathlib.Core.List.{List, [], _∷_}
-use lib.Dec.{eqb}
-use lib.ListN.{length, getD}
+use mathlib.Core.{Path.{_≡_}, Bool.{Bool, false, _||_}, List.{List, [], _∷_}}
+use lib.{Dec.{eqb}, ListN.{length, getD}}
 use Rattle.text.specs.Text.{fieldsOf}
 use Rattle.tables.specs.Parts.{Written}
 use Rattle.case.specs.Columns.{Form}
 use Rattle.line.specs.Line.{lineValues}
-use Rattle.judgement.specs.declared.LineFinding.{LineFinding}
-use Rattle.judgement.specs.declared.LineFinding.the-variants.{Sound}
-use Rattle.judgement.specs.Findings.{lineFinding}
+use Rattle.judgement.specs.{declared.LineFinding.{LineFinding, the-variants.{Sound}}, Findings.{lineFinding}}
 
 -- values of which only station and season, the first two, are kept
 unfoldable pub keyOf : ℕ → ℕ → List ℕ

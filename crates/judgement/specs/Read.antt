@@ -1,16 +1,13 @@
 -- What reading a sheet promises: its judgement, and where it counts value lines, their values in a store.
 use Prim.Native.Nat.{ℕ, _<_}
-use mathlib.Core.Path.{_≡_}
-use mathlib.Core.List.{List, []}
+use mathlib.Core.{Path.{_≡_}, List.{List, []}}
 use lib.ListN.{length, getD}
 use Rattle.text.specs.Text.{fieldsOf}
 use Rattle.tables.specs.Parts.{partAt}
 use Rattle.case.specs.Columns.{Form}
 use Rattle.header.specs.Header.{columnsOf}
 use Rattle.line.specs.Line.{lineValues}
-use Rattle.judgement.specs.declared.Judgement.{Judgement}
-use Rattle.judgement.specs.declared.Judgement.the-variants.{Lines}
-use Rattle.judgement.specs.Limits.{today}
+use Rattle.judgement.specs.{declared.Judgement.{Judgement, the-variants.{Lines}}, Limits.{today}}
 use Rattle.judgement.specs.Sheet.{names, valueLines, linesJudgement, valuesJudgement, judgement}
 
 -- the values of some lines stand one after the other in a store, each line's in the order of the form

@@ -1,17 +1,13 @@
 -- The judgement of every sheet of a form within some limits: the count of its value lines, or a refusal. Document 01, 'The result table':
 -- "The order is 1, 2, 4; then line by line 3, 5, 6, 7".
 use Prim.Native.Nat.{ℕ, suc, _-_}
-use mathlib.Core.Bool.{Bool, cond, not, _||_}
-use mathlib.Core.List.{List, [], _∷_}
-use lib.ListN.{length, getD, drop}
-use lib.Dec.{ltb, eqb}
+use mathlib.Core.{Bool.{Bool, cond, not, _||_}, List.{List, [], _∷_}}
+use lib.{ListN.{length, getD, drop}, Dec.{ltb, eqb}}
 use Rattle.text.specs.Text.{linesOf, fieldsOf}
 use Rattle.case.specs.Columns.{Form}
 use Rattle.header.specs.Header.{noColumns, wrongName, columnsOf}
 use Rattle.line.specs.Line.{lineValues}
-use Rattle.judgement.specs.declared.Judgement.{Judgement}
-use Rattle.judgement.specs.declared.Judgement.the-variants.{Lines}
-use Rattle.judgement.specs.Limits.{Limits, today}
+use Rattle.judgement.specs.{declared.Judgement.{Judgement, the-variants.{Lines}}, Limits.{Limits, today}}
 use Rattle.judgement.specs.Refusal.{textRefused, nameRefused, noLineRefused, manyLinesRefused, lineJudgement}
 use Rattle.judgement.specs.Findings.{lineFinding}
 

@@ -1,8 +1,6 @@
 -- The fields of a value line in words: the right form, and what is wrong with it. Document 01, 'The sheet' and 'The result table'.
 use Prim.Native.Nat.{ℕ, _+_, _≤_, _<_}
-use mathlib.Core.Path.{_≡_}
-use mathlib.Core.Bool.{true, false}
-use mathlib.Core.List.{List}
+use mathlib.Core.{Path.{_≡_}, Bool.{true, false}, List.{List}}
 use lib.ListN.{length}
 use Rattle.text.specs.Value.{isValue}
 use Rattle.header.specs.Names.{fieldAt}

@@ -1,14 +1,10 @@
 -- The lengths in millimetres are those of the formulas, and lie within bounds.
 use Prim.Native.Nat.{ℕ, _+_, _-_, _*_, _≤_}
 use mathlib.Core.Logic.{⊎-elim}
-use native.Mathlib.Omega.{arith}
-use native.Mathlib.Nat.{mul-le-mul}
-use Rattle.exact.specs.Fraction.{Fraction, _≈f_, whole, decimal, _+f_, _·f_}
-use Rattle.exact.proofs.Order.{refl≈, trans≈}
-use Rattle.exact.proofs.Sums.{cong+}
+use native.Mathlib.{Omega.{arith}, Nat.{mul-le-mul}}
+use Rattle.exact.{specs.Fraction.{Fraction, _≈f_, whole, decimal, _+f_, _·f_}, proofs.{Order.{refl≈, trans≈}, Sums.{cong+}}}
 use Rattle.exact.proofs.Products.{cong·}
-use Rattle.case.specs.declared.Case.{Case}
-use Rattle.case.specs.Bounds.{Between, Bounds, Rodless, Rodded}
+use Rattle.case.specs.{declared.Case.{Case}, Bounds.{Between, Bounds, Rodless, Rodded}}
 use Rattle.formulas.specs.Lengths.{D, Lr, Lx, Ly, Lc, LR, LT}
 use Rattle.lengths.specs.Lengths.{sideOf, sideX, sideY, conductorLength, rodLength, totalLength}
 
@@ -41,10 +37,7 @@ module _ {c : Case} (b : Bounds c) where
   pub conductor-bounds : Between 10000 (conductorLength c) 36000000
   unfolding conductorLength
   conductor-bounds =
-      record {
-        low = omega (arith, across-bounds .low, along-bounds .low);
-        high = omega (arith, across-bounds .high, along-bounds .high);
-      }
+      record { low = omega (arith, across-bounds .low, along-bounds .low); high = omega (arith, across-bounds .high, along-bounds .high) }
 
   pub rods-high : c .rods ≤ 200
   rods-high = ⊎-elim (λ (r : Rodless c). omega (arith, r .rods)) (λ (r : Rodded c). r .rods .high) (b .rods)
@@ -58,8 +51,7 @@ module _ {c : Case} (b : Bounds c) where
 
   pub total-bounds : Between 10000 (totalLength c) 38000000
   unfolding totalLength
-  total-bounds =
-      record { low = omega (arith, conductor-bounds .low); high = omega (arith, conductor-bounds .high, rod-bound) }
+  total-bounds = record { low = omega (arith, conductor-bounds .low); high = omega (arith, conductor-bounds .high, rod-bound) }
 
 -- ---- the formulas' lengths
 

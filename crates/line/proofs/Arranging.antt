@@ -1,16 +1,11 @@
 -- The values of a line, put at the indices of their columns' names, are its values in the order of the names.
 use Prim.Native.Nat.{ℕ, zero, suc, _-_, _<_}
-use mathlib.Core.Path.{_≡_, refl, sym, ap, _∙_}
-use mathlib.Core.List.{List, [], _∷_, map}
+use mathlib.Core.{Path.{_≡_, refl, sym, ap, _∙_}, List.{List, [], _∷_, map}}
 use native.Mathlib.Omega.{arith}
-use lib.ListN.{length, getD, length-map}
-use lib.Seq.{ext-getD}
-use Rattle.text.specs.Text.{fieldsOf}
-use Rattle.text.specs.Value.{valueOf}
-use Rattle.case.specs.Bounds.{Placed}
-use Rattle.case.specs.Order.{Ordered}
-use Rattle.line.specs.Line.{lineValues}
-use Rattle.line.specs.Parts.{LineValues}
+use lib.{ListN.{length, getD, length-map}, Seq.{ext-getD}}
+use Rattle.text.specs.{Text.{fieldsOf}, Value.{valueOf}}
+use Rattle.case.specs.{Bounds.{Placed}, Order.{Ordered}}
+use Rattle.line.specs.{Line.{lineValues}, Parts.{LineValues}}
 
 map-at : (f : ℕ → ℕ) (l : List ℕ) (k : ℕ) → k < length l → getD (map f l) k 0 ≡ f (getD l k 0)
 map-at f [] k h = absurd (omega arith)
@@ -18,8 +13,7 @@ map-at f (x ∷ l) zero h = refl
 map-at f (x ∷ l) (suc k) h = map-at f l k (omega arith)
 
 pub arranged : {n : ℕ} {at order line row : List ℕ} {wrong : ℕ} → Placed n at → Ordered n at order → LineValues n order line wrong row
-    → wrong ≡ 0
-    → row ≡ lineValues at (fieldsOf line)
+    → wrong ≡ 0 → row ≡ lineValues at (fieldsOf line)
 unfolding lineValues
 arranged {n} {at} {order} {line} {row} p o v z =
     ext-getD 0 row (map value at) (v .count ∙ sym (length-map at value ∙ p .count)) (λ k h. same k (omega (arith, v .count)))

@@ -1,22 +1,12 @@
 -- The reading of a value line of n columns: what holds while the fields fs are left, and the values of c columns are put.
 use Prim.Native.Nat.{ℕ, suc, _+_, _≤_, _<_}
-use mathlib.Core.Path.{_≡_, refl, sym, ap, _∙_}
-use mathlib.Core.Bool.{Bool, true, false, cond}
-use mathlib.Core.List.{List, [], _∷_, map}
-use native.Mathlib.Numerals.{add-one}
-use native.Mathlib.Nat.{add-zero, zero-add}
-use native.Mathlib.Decide.{ℕ-discrete}
-use native.Mathlib.Omega.{arith}
-use lib.ListN.{length, getD, set, length-set}
-use lib.Seq.{getD-set-same, getD-set-other}
+use mathlib.Core.{Path.{_≡_, refl, sym, ap, _∙_}, Bool.{Bool, true, false, cond}, List.{List, [], _∷_, map}}
+use native.Mathlib.{Numerals.{add-one}, Nat.{add-zero, zero-add}, Decide.{ℕ-discrete}, Omega.{arith}}
+use lib.{ListN.{length, getD, set, length-set}, Seq.{getD-set-same, getD-set-other}}
 use borrow.Author.Tests.{le-leb, lt-leb}
+use Rattle.text.specs.{Text.{fieldsOf}, Value.{isValue, valueOf, fieldValue}, declared.Field.{Field, the-variants.{Wrong, Value}}}
 use Rattle.text.proofs.Clash.{clash}
-use Rattle.text.specs.Text.{fieldsOf}
-use Rattle.text.specs.Value.{isValue, valueOf, fieldValue}
-use Rattle.text.specs.declared.Field.{Field}
-use Rattle.text.specs.declared.Field.the-variants.{Wrong, Value}
-use Rattle.line.specs.Line.{wrongForm}
-use Rattle.line.specs.Parts.{LineValues, ValuesAt}
+use Rattle.line.specs.{Line.{wrongForm}, Parts.{LineValues, ValuesAt}}
 use Rattle.case.specs.Order.{Distinct}
 
 -- what a field's value says of its form
@@ -76,8 +66,7 @@ pub values-refused : {n : ℕ} {order line row : List ℕ} (c : ℕ) → length 
 values-refused c k e = record { wrong-is = sym e; count = k; values = λ z. absurd (omega arith) }
 
 pub values-many : {n : ℕ} {order line row t : List ℕ} {fs ts : List (List ℕ)} {c : ℕ} → ValuesAt n order (fieldsOf line) row fs c
-    → fs ≡ t ∷ ts → n ≤ c
-    → LineValues n order line (n + 1) row
+    → fs ≡ t ∷ ts → n ≤ c → LineValues n order line (n + 1) row
 unfolding wrongForm
 values-many {n} {c = c} a next h =
     values-refused n (a .count) (a .wrong-left ∙ rw (next, lt-leb (c + 1) n (omega arith)) (omega (arith, a .most)))

@@ -1,12 +1,9 @@
 -- A value line: its form, its values and its case. Document 01, 'The sheet' and 'The result table'.
 use Prim.Native.Nat.{ℕ, suc, _-_}
-use mathlib.Core.Bool.{cond, _&&_}
-use mathlib.Core.List.{List, [], _∷_, map}
-use lib.ListN.{getD}
-use lib.Dec.{leb}
+use mathlib.Core.{Bool.{cond, _&&_}, List.{List, [], _∷_, map}}
+use lib.{ListN.{getD}, Dec.{leb}}
 use Rattle.text.specs.Value.{isValue, valueOf}
-use Rattle.case.specs.declared.Case.{Case}
-use Rattle.case.specs.Case.{caseOf}
+use Rattle.case.specs.{declared.Case.{Case}, Case.{caseOf}}
 
 -- "value of a wrong form; too few values (first missing column); too many (19)": the leftmost wrong column from column c on of a form of n
 -- names, or 0; the surplus column is one past the names

@@ -1,10 +1,8 @@
 -- What the parts of reading a value line promise.
 use Prim.Native.Nat.{ℕ, _+_, _≤_, _<_}
-use mathlib.Core.Path.{_≡_}
-use mathlib.Core.List.{List, map}
+use mathlib.Core.{Path.{_≡_}, List.{List, map}}
 use lib.ListN.{length, getD}
-use Rattle.text.specs.Text.{fieldsOf}
-use Rattle.text.specs.Value.{valueOf}
+use Rattle.text.specs.{Text.{fieldsOf}, Value.{valueOf}}
 use Rattle.line.specs.Line.{wrongForm}
 
 -- the values of a line of n columns, each at the index of its column's name

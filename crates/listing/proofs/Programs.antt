@@ -4,17 +4,13 @@ use mathlib.Core.List.{List}
 use native.Mathlib.Omega.{arith}
 use lib.ListN.{length}
 use Rattle.case.specs.declared.Form.the-variants.{Present, Former}
-use Rattle.listing.specs.declared.Program.{Program}
-use Rattle.listing.specs.declared.Program.the-variants.{Verdict, Rows, Margins, Summary, Fewest, Carry, CarryBack}
-use Rattle.row_text.specs.declared.Shown.the-variants as shown
+use Rattle.listing.specs.declared.Program.{Program, the-variants.{Verdict, Rows, Margins, Summary, Fewest, Carry, CarryBack}}
 use Rattle.listing.specs.Programs.{programText}
-use Rattle.row_text.specs.Room.{textRoom}
-use Rattle.sheet_text.proofs.SheetTexts.{shown-fits}
-use Rattle.sheet_text.proofs.StationTexts.{summary-fits}
+use Rattle.row_text.specs.declared.Shown.the-variants as shown
+use Rattle.row_text.{specs.Room.{textRoom}, proofs.Texts.{verdictLine, rowLine, marginLine}}
+use Rattle.sheet_text.proofs.{SheetTexts.{shown-fits}, StationTexts.{summary-fits}, Texts.{verdict-shown, rows-shown, margins-shown}}
 use Rattle.search_text.proofs.SearchTexts.{fewest-fits}
 use Rattle.carry_text.proofs.CarriedTexts.{carried-fits}
-use Rattle.row_text.proofs.Texts.{verdictLine, rowLine, marginLine}
-use Rattle.sheet_text.proofs.Texts.{verdict-shown, rows-shown, margins-shown}
 
 pub program-fits : (program : Program) (s : List ℕ) → length (programText program s) ≤ textRoom
 unfolding programText

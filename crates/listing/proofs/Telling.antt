@@ -1,12 +1,8 @@
 -- A text put at the start of a buffer, or none: specs/Told.antt.
 use Prim.Native.Nat.{ℕ, _≤_, _<_}
-use mathlib.Core.Path.{_≡_, refl, sym, ap, _∙_}
-use mathlib.Core.Bool.{Bool, true, false, cond}
-use mathlib.Core.List.{List, _++_}
+use mathlib.Core.{Path.{_≡_, refl, sym, ap, _∙_}, Bool.{Bool, true, false, cond}, List.{List, _++_}}
 use native.Mathlib.Omega.{arith}
-use lib.ListN.{length, take, drop, length-append}
-use lib.Seq.{length-take-le}
-use lib.Dec.{leb}
+use lib.{ListN.{length, take, drop, length-append}, Seq.{length-take-le}, Dec.{leb}}
 use borrow.Author.Tests.{le-leb, lt-leb}
 use Rattle.writing.specs.Put.{Put}
 use Rattle.listing.specs.Told.{Told}

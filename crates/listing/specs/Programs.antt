@@ -2,12 +2,8 @@
 use Prim.Native.Nat.{ℕ}
 use mathlib.Core.List.{List}
 use Rattle.case.specs.declared.Form.the-variants.{Present, Former}
-use Rattle.listing.specs.declared.Program.{Program}
-use Rattle.listing.specs.declared.Program.the-variants.{Verdict, Rows, Margins, Summary, Fewest, Carry, CarryBack}
-use Rattle.sheet_text.specs.Texts.{verdictText}
-use Rattle.sheet_text.specs.Texts.{rowsText}
-use Rattle.sheet_text.specs.Texts.{marginsText}
-use Rattle.sheet_text.specs.Texts.{summaryText}
+use Rattle.listing.specs.declared.Program.{Program, the-variants.{Verdict, Rows, Margins, Summary, Fewest, Carry, CarryBack}}
+use Rattle.sheet_text.specs.Texts.{verdictText, rowsText, marginsText, summaryText}
 use Rattle.search_text.specs.Fewest.{fewestText}
 use Rattle.carry_text.specs.Carried.{carryText}
 

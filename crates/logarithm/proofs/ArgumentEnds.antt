@@ -1,21 +1,13 @@
 -- The argument of r = (p/q) / 2^m = p / b: it is (p − b) / (p + b), at most a third, and so many units rounded down.
 use Prim.Native.Nat.{ℕ, _+_, _-_, _*_, _^_, _≤_}
 use mathlib.Core.Path.{_≡_, refl, ap}
-use native.Mathlib.Omega.{arith}
-use native.Mathlib.Nat.{add-zero, div-mul-le-self, mul-le-mul-right, le-of-mul-le-mul-right}
+use native.Mathlib.{Omega.{arith}, Nat.{add-zero, div-mul-le-self, mul-le-mul-right, le-of-mul-le-mul-right}}
 use lib.Pow.{pow-pos}
-use Rattle.exact.specs.Fraction.{Fraction, _≤f_, _≈f_, whole, _+f_, neg, _−f_, _·f_, inv, _÷f_}
-use Rattle.exact.specs.Logarithm.{argument}
-use Rattle.exact.proofs.Order.{trans≤}
-use Rattle.exact.proofs.LogArgument.{argument≤}
-use Rattle.exact.proofs.Quotients.{clamped}
-use Rattle.exact.proofs.Halvings.{reduced-low, reduced-high}
+use Rattle.exact.specs.{Fraction.{Fraction, _≤f_, _≈f_, whole, _+f_, neg, _−f_, _·f_, inv, _÷f_}, Logarithm.{argument}}
+use Rattle.exact.proofs.{Order.{trans≤}, LogArgument.{argument≤}, Quotients.{clamped}, Halvings.{reduced-low, reduced-high}}
 use Rattle.exact.proofs.Rounding.{units, Toward, toward-trans, toward-same, Is, rounded}
-use Rattle.logarithm.specs.Series.{unit}
-use Rattle.logarithm.specs.Ends.{halvingsOf, baseOf, argumentOf}
-use Rattle.logarithm.proofs.Ratio.{ratio-low, base-below, base-above, base-pos}
-use Rattle.logarithm.proofs.Rounding.{binary}
-use Rattle.logarithm.proofs.Rest.{third}
+use Rattle.logarithm.specs.{Series.{unit}, Ends.{halvingsOf, baseOf, argumentOf}}
+use Rattle.logarithm.proofs.{Ratio.{ratio-low, base-below, base-above, base-pos}, Rounding.{binary}, Rest.{third}}
 
 -- p / b
 ratio : ℕ → {b : ℕ} → 1 ≤ b → Fraction
@@ -26,10 +18,7 @@ unfolding ratio argument whole _+f_ neg _−f_ _·f_ inv _÷f_
 argument-is {p} {b} h l =
     let e : inv (ratio p h +f whole 1) .den ≡ p + b = omega arith in
     let n : (p - b) + b ≡ p = omega arith in
-    record {
-      divisor = omega arith;
-      value = omega (arith, ap (λ t. (p - b) * b * t) e, ap (λ t. t * (b * (p + b))) n);
-    }
+    record { divisor = omega arith; value = omega (arith, ap (λ t. (p - b) * b * t) e, ap (λ t. t * (b * (p + b))) n) }
 
 -- p/q divided by 2^m
 abbrev pub reduced : ℕ → ℕ → Fraction
@@ -61,8 +50,7 @@ module _ {p q : ℕ} (hq : 1 ≤ q) (l : q ≤ p) where
 
   argument-toward : (up : ℕ) → Toward up (units binary (argumentOf p q + up)) (argument (reduced p q))
   unfolding argumentOf
-  argument-toward up =
-      toward-trans (rounded (argument-is (base-pos hq l) (base-below hq l)) up) (toward-same up argument-same)
+  argument-toward up = toward-trans (rounded (argument-is (base-pos hq l) (base-below hq l)) up) (toward-same up argument-same)
 
   pub argument-low : units binary (argumentOf p q) ≤f argument (reduced p q)
   argument-low = rw add-zero at (argument-toward 0 .down refl)

@@ -3,8 +3,7 @@ use Prim.Native.Nat.{ℕ, _+_, _*_, _/_, _%_, _^_, _≤_, _<_}
 use mathlib.Core.Path.{_≡_, sym, ap}
 use native.Mathlib.Omega.{arith}
 use native.Mathlib.Nat.{div-add-mod', mod-lt, div-eq-of-lt-le, pow-suc, pow-zero, pow-le-pow-right, one-le-pow, lt-of-mul-lt-mul-right}
-use native.Mathlib.Nat.{mul-lt-mul-of-pos-right, div-lt-iff-lt-mul}
-use native.Mathlib.Numerals.{add-one}
+use native.Mathlib.{Nat.{mul-lt-mul-of-pos-right, div-lt-iff-lt-mul}, Numerals.{add-one}}
 use Rattle.logarithm.specs.Series.{unit}
 
 pub record Digits (n d i z rest : ℕ) : Type 0 where
@@ -23,8 +22,7 @@ digits-again {n} {d} {i} {z} {rest} s =
 
 module _ {n d i z rest : ℕ} (h : n < d) (s : Digits n d i z rest) where
   digits-below : z < 2048 ^ i
-  digits-below =
-      lt-of-mul-lt-mul-right d (omega (arith, s .parts, mul-lt-mul-of-pos-right h (one-le-pow i 2048 (omega arith))))
+  digits-below = lt-of-mul-lt-mul-right d (omega (arith, s .parts, mul-lt-mul-of-pos-right h (one-le-pow i 2048 (omega arith))))
 
   power≤ : i ≤ 2 → 2048 ^ i ≤ 2048 ^ 2
   power≤ l = pow-le-pow-right (omega arith) l

@@ -2,9 +2,7 @@
 use Prim.Native.Nat.{ℕ, _+_, _^_, _≤_, _<_}
 use native.Mathlib.Omega.{arith}
 use Rattle.logarithm.specs.Ends.{Inside, halvingsOf, argumentOf, endOf}
-use Rattle.logarithm.proofs.Ratio.{halvings-small}
-use Rattle.logarithm.proofs.ArgumentEnds.{argument-size}
-use Rattle.logarithm.proofs.Sizes.{end-size}
+use Rattle.logarithm.proofs.{Ratio.{halvings-small}, ArgumentEnds.{argument-size}, Sizes.{end-size}}
 
 pub record Small (m z : ℕ) : Type 0 where
   pub times : m ≤ 49

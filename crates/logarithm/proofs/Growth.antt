@@ -1,18 +1,12 @@
 -- The logarithm's ends grow with its argument.
 use Prim.Native.Nat.{ℕ, _*_, _≤_}
 use native.Mathlib.Omega.{arith}
-use lib.Dec.{lit≤}
-use lib.Signed.{_≤ℤ_}
-use Rattle.exact.specs.Fraction.{_≤f_, whole, _·f_, inv, _÷f_}
-use Rattle.exact.specs.Depth.{workDepth}
-use Rattle.exact.specs.Reported.{ten, reported}
-use Rattle.exact.proofs.Order.{trans≤}
-use Rattle.exact.proofs.Consistency.{proper-at}
-use Rattle.exact.proofs.Logarithm.{ln-rises, consistent-ln-of}
+use lib.{Dec.{lit≤}, Signed.{_≤ℤ_}}
+use Rattle.exact.{specs.{Fraction.{_≤f_, whole, _·f_, inv, _÷f_}, Depth.{workDepth}, Reported.{ten, reported}}, proofs.Order.{trans≤}}
+use Rattle.exact.proofs.{Consistency.{proper-at}, Logarithm.{ln-rises, consistent-ln-of}}
 use Rattle.enclosure.proofs.Counts.{over-le}
 use Rattle.logarithm.specs.Ends.{Inside, lnEnds}
-use Rattle.logarithm.proofs.Ratio.{scaled}
-use Rattle.logarithm.proofs.LnEnds.{ratio-positive, ln-encloses}
+use Rattle.logarithm.proofs.{Ratio.{scaled}, LnEnds.{ratio-positive, ln-encloses}}
 
 module _ {p q p′ q′ : ℕ} (hp : Inside p) (hq : Inside q) (hp′ : Inside p′) (hq′ : Inside q′) (h : p * q′ ≤ p′ * q) where
   ratio≤ : whole p ÷f whole q ≤f whole p′ ÷f whole q′

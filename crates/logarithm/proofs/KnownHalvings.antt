@@ -1,13 +1,11 @@
 -- Where the halvings of a fraction are known, the ends of its logarithm compute.
 use Prim.Native.Nat.{ℕ, _+_, _-_, _*_, _/_, _^_, _≤_, _<_}
 use mathlib.Core.Path.{_≡_}
-use native.Mathlib.Omega.{arith}
-use native.Mathlib.Nat.{mul-le-mul-left}
+use native.Mathlib.{Omega.{arith}, Nat.{mul-le-mul-left}}
 use lib.Pow.{pow-pos}
 use borrow.Author.Tests.{lt-ltb, le-ltb}
 use Rattle.interval.specs.Operations.{natural, minusOf}
-use Rattle.logarithm.specs.Series.{unit}
-use Rattle.logarithm.specs.Ends.{baseOf, argumentOf, endOf, upEnds, downEnds, lnEnds}
+use Rattle.logarithm.specs.{Series.{unit}, Ends.{baseOf, argumentOf, endOf, upEnds, downEnds, lnEnds}}
 use Rattle.logarithm.proofs.Ratio.{halvings-known}
 
 -- with m halvings: p/q lies from 2^m to 2^(m+1)

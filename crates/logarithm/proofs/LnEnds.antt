@@ -1,28 +1,17 @@
 -- The ends of ln (p/q), above and below 1: they enclose the exact ones at the depth of code, are in order, close and small.
 use Prim.Native.Nat.{ℕ, _+_, _*_, _≤_, _<_}
-use mathlib.Core.Path.{_≡_, ap}
-use mathlib.Core.Bool.{Bool, true, false, not, cond}
+use mathlib.Core.{Path.{_≡_, ap}, Bool.{Bool, true, false, not, cond}}
 use native.Mathlib.Omega.{arith}
 use lib.Dec.{T, ltb, ltb→lt, nltb→le}
-use Rattle.interval.specs.declared.Interval.{Interval}
-use Rattle.interval.specs.Operations.{natural, size, minusOf, Ordered, Narrow}
+use Rattle.interval.specs.{declared.Interval.{Interval}, Operations.{natural, size, minusOf, Ordered, Narrow}}
 use Rattle.interval.proofs.Signed.{neg-plus, neg-minus, size-neg, le-halves, halves-le}
-use Rattle.exact.specs.Fraction.{_<f_, _≈f_, whole, _·f_, inv, _÷f_}
-use Rattle.exact.specs.Exact.{Holds}
-use Rattle.exact.specs.Logarithm.{lnOf}
-use Rattle.exact.specs.Reported.{ten, reported}
-use Rattle.exact.specs.Depth.{workDepth, Within}
-use Rattle.exact.proofs.Quotients.{inv-pos}
-use Rattle.exact.proofs.Inclusion.{within-trans, within-same}
-use Rattle.exact.proofs.Logarithm.{ln-value, within-ln-down, consistent-ln-of}
-use Rattle.exact.proofs.Holding.{holds-depth}
+use Rattle.exact.specs.{Fraction.{_<f_, _≈f_, whole, _·f_, inv, _÷f_}, Exact.{Holds}, Logarithm.{lnOf}, Reported.{ten, reported}}
+use Rattle.exact.{specs.Depth.{workDepth, Within}, proofs.{Quotients.{inv-pos}, Inclusion.{within-trans, within-same}}}
+use Rattle.exact.proofs.{Logarithm.{ln-value, within-ln-down, consistent-ln-of}, Holding.{holds-depth}}
 use Rattle.enclosure.proofs.Sums.{minus-within}
 use Rattle.logarithm.specs.Ends.{Inside, halvingsOf, argumentOf, endOf, upEnds, downEnds, lnEnds}
-use Rattle.logarithm.proofs.Sizes.{endBound, end-size}
-use Rattle.logarithm.proofs.Ratio.{ratio-den, scaled, halvings-small}
-use Rattle.logarithm.proofs.ArgumentEnds.{argument-size}
-use Rattle.logarithm.proofs.Width.{Close, end-close}
-use Rattle.logarithm.proofs.UpEnds.{up-encloses}
+use Rattle.logarithm.proofs.{Sizes.{endBound, end-size}, Ratio.{ratio-den, scaled, halvings-small}, ArgumentEnds.{argument-size}}
+use Rattle.logarithm.proofs.{Width.{Close, end-close}, UpEnds.{up-encloses}}
 
 -- minus the ends of ln (q/p), or the ends themselves
 pub ln-cases : (P : Interval → Type 0) (p q : ℕ) → (p < q → P (downEnds p q)) → (q ≤ p → P (upEnds p q)) → P (lnEnds p q)
@@ -121,8 +110,7 @@ minus-tight i t =
 
 ln-tight : {p q : ℕ} → Inside p → Inside q → Tight (lnEnds p q)
 unfolding downEnds
-ln-tight {p} {q} hp hq =
-    ln-cases Tight p q (λ l. minus-tight (upEnds q p) (up-tight hq hp (omega arith))) (up-tight hp hq)
+ln-tight {p} {q} hp hq = ln-cases Tight p q (λ l. minus-tight (upEnds q p) (up-tight hq hp (omega arith))) (up-tight hp hq)
 
 module _ {p q : ℕ} (hp : Inside p) (hq : Inside q) where
   pub ln-ordered : Ordered (lnEnds p q)

@@ -1,33 +1,19 @@
 -- The logarithm of a pair of counts over a number: its ends, and what they enclose.
 use Prim.Native.Nat.{ℕ, _+_, _*_, _≤_, _<_}
 use mathlib.Core.Path.{_≡_, sym, ap, _∙_}
-use native.Mathlib.Omega.{arith}
-use native.Mathlib.Nat.{mul-le-mul-right, le-trans}
-use lib.Dec.{lit≤, lit<}
-use lib.IntN.{pos}
-use Rattle.interval.specs.Operations.{natural, minusOf}
-use Rattle.interval.specs.Span.{Span}
-use Rattle.interval.proofs.Choice.{le-pos}
-use Rattle.interval.proofs.Span.{span-natural}
-use Rattle.exact.specs.Fraction.{_<f_, _≈f_, whole, inv, _·f_, _÷f_}
-use Rattle.exact.specs.Exact.{Exact, exactly, _÷x_}
-use Rattle.exact.specs.Logarithm.{ln}
-use Rattle.exact.specs.Depth.{Consistent, Proper, Positive, PositiveAt}
-use Rattle.exact.specs.Reported.{Scale, ten, over, reported}
-use Rattle.exact.proofs.Order.{refl≤, refl≈, sym≈, trans≈, whole-pos, nonneg}
-use Rattle.exact.proofs.Products.{whole-mul}
-use Rattle.exact.proofs.Divisors.{cong÷, expand}
+use native.Mathlib.{Omega.{arith}, Nat.{mul-le-mul-right, le-trans}}
+use lib.{Dec.{lit≤, lit<}, IntN.{pos}}
+use Rattle.interval.{specs.{Operations.{natural, minusOf}, Span.{Span}}, proofs.{Choice.{le-pos}, Span.{span-natural}}}
+use Rattle.exact.specs.{Fraction.{_<f_, _≈f_, whole, inv, _·f_, _÷f_}, Exact.{Exact, exactly, _÷x_}, Logarithm.{ln}}
+use Rattle.exact.specs.{Depth.{Consistent, Proper, Positive, PositiveAt}, Reported.{Scale, ten, over, reported}}
+use Rattle.exact.proofs.{Order.{refl≤, refl≈, sym≈, trans≈, whole-pos, nonneg}, Products.{whole-mul}, Divisors.{cong÷, expand}}
 use Rattle.exact.proofs.Consistency.{consistent-exactly, consistent-quotient}
-use Rattle.exact.proofs.Inclusion.{within-refl, within-trans, within-same, within-quotient}
-use Rattle.exact.proofs.KnownEnds.{quotient-ends}
-use Rattle.exact.proofs.Logarithm.{ln-within}
-use Rattle.exact.proofs.Quotients.{clamped}
-use Rattle.enclosure.specs.Enclosure.{Encloses}
-use Rattle.enclosure.proofs.Basics.{encloses-proper}
+use Rattle.exact.proofs.{Inclusion.{within-refl, within-trans, within-same, within-quotient}, KnownEnds.{quotient-ends}}
+use Rattle.exact.proofs.{Logarithm.{ln-within}, Quotients.{clamped}}
+use Rattle.enclosure.{specs.Enclosure.{Encloses}, proofs.Basics.{encloses-proper}}
 use Rattle.logarithm.specs.Series.{squareOf, powerOf, termOf, termsOf}
 use Rattle.logarithm.specs.Ends.{Inside, doublings, nearOf, halvingsOf, argumentOf, endOf, upEnds, lnEnds, lnPair}
-use Rattle.logarithm.proofs.KnownHalvings.{up-by, ln-up, ln-down}
-use Rattle.logarithm.proofs.LnEnds.{ln-encloses, ratio-positive, up-tight}
+use Rattle.logarithm.proofs.{KnownHalvings.{up-by, ln-up, ln-down}, LnEnds.{ln-encloses, ratio-positive, up-tight}}
 use Rattle.logarithm.proofs.Growth.{ln-grows}
 
 -- from q up: one end of each logarithm

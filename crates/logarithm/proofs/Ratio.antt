@@ -1,12 +1,9 @@
 -- p / q at least 1, its halvings m and the base b = q · 2^m, which doubling finds: b ≤ p < 2 b.
 use Prim.Native.Nat.{ℕ, suc, _+_, _*_, _^_, _≤_, _<_}
 use mathlib.Core.Path.{_≡_, ap}
-use native.Mathlib.Omega.{arith}
-use native.Mathlib.Nat.{mul-le-mul-left, mul-le-mul-right, mul-pos, pow-suc, pow-zero}
-use native.Mathlib.Numerals.{add-one}
+use native.Mathlib.{Omega.{arith}, Nat.{mul-le-mul-left, mul-le-mul-right, mul-pos, pow-suc, pow-zero}, Numerals.{add-one}}
 use lib.Pow.{pow-pos}
-use Rattle.exact.specs.Fraction.{_≤f_, whole, _·f_, inv, _÷f_, top}
-use Rattle.exact.proofs.Powers.{exponent-lt-inv}
+use Rattle.exact.{specs.Fraction.{_≤f_, whole, _·f_, inv, _÷f_, top}, proofs.Powers.{exponent-lt-inv}}
 use Rattle.exact.proofs.Halvings.{halvings-below, halvings-above, halvings-unique}
 use Rattle.logarithm.specs.Ends.{most, halvingsOf, baseOf}
 

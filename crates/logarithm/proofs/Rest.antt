@@ -1,18 +1,10 @@
 -- What is left of the series after the last term, for an argument up to 1/3: less than one unit.
 use Prim.Native.Nat.{ℕ, zero, suc, _+_, _-_, _*_}
-use native.Mathlib.Omega.{arith}
-use native.Mathlib.Nat.{add-zero, add-suc}
+use native.Mathlib.{Omega.{arith}, Nat.{add-zero, add-suc}}
 use lib.Dec.{lit≤}
-use Rattle.exact.specs.Fraction.{Fraction, _≤f_, whole, _+f_, neg, _−f_, _·f_, inv, _÷f_, powf}
-use Rattle.exact.specs.Logarithm.{argument, term, terms, tail}
-use Rattle.exact.specs.Depth.{workDepth}
-use Rattle.exact.specs.Reported.{over}
-use Rattle.exact.proofs.Order.{refl≤, trans≤, whole≤}
-use Rattle.exact.proofs.Sums.{mono+, add-assoc, le+}
-use Rattle.exact.proofs.Series.{pow≤, tail≤, terms-rise}
-use Rattle.exact.proofs.Sequences.{rising}
-use Rattle.exact.proofs.SeriesBounds.{term-below}
-use Rattle.exact.proofs.LogArgument.{square<1}
+use Rattle.exact.specs.{Fraction.{Fraction, _≤f_, whole, _+f_, neg, _−f_, _·f_, inv, _÷f_, powf}, Logarithm.{argument, term, terms, tail}}
+use Rattle.exact.{specs.{Depth.{workDepth}, Reported.{over}}, proofs.{Order.{refl≤, trans≤, whole≤}, Sums.{mono+, add-assoc, le+}}}
+use Rattle.exact.proofs.{Series.{pow≤, tail≤, terms-rise}, Sequences.{rising}, SeriesBounds.{term-below}, LogArgument.{square<1}}
 use Rattle.exact.proofs.Rounding.{units}
 use Rattle.logarithm.specs.Series.{termCount}
 use Rattle.logarithm.proofs.Rounding.{binary}

@@ -1,9 +1,7 @@
 -- How large the powers and the sums of the series get, for z up to 3·10^9 units: all products stay within 64 bits.
 use Prim.Native.Nat.{ℕ, zero, suc, _+_, _*_, _/_, _≤_, _<_}
-use native.Mathlib.Omega.{arith}
-use native.Mathlib.Nat.{mul-le-mul, mul-le-mul-left, div-mul-le-self, div-le-self}
-use Rattle.logarithm.specs.Series.{unit, termCount, squareOf, powerOf, termOf, termsOf}
-use Rattle.logarithm.specs.Ends.{ln2, doublings, nearOf, endOf}
+use native.Mathlib.{Omega.{arith}, Nat.{mul-le-mul, mul-le-mul-left, div-mul-le-self, div-le-self}}
+use Rattle.logarithm.specs.{Series.{unit, termCount, squareOf, powerOf, termOf, termsOf}, Ends.{ln2, doublings, nearOf, endOf}}
 
 -- the largest argument, and the largest square
 abbrev pub largest : ℕ
@@ -19,8 +17,7 @@ module _ {up z : ℕ} (hu : up ≤ 1) (hz : z ≤ largest) where
 
   -- a third of a power, at most, is left in the next
   pub power-falls : (p : ℕ) → 3 * (p * squareOf up z / unit) ≤ p
-  power-falls p =
-      omega (arith, div-mul-le-self (p * squareOf up z) unit, mul-le-mul-left p square-size)
+  power-falls p = omega (arith, div-mul-le-self (p * squareOf up z) unit, mul-le-mul-left p square-size)
 
   pub power-size : (i : ℕ) → powerOf up z i ≤ largest
   unfolding powerOf
@@ -33,8 +30,7 @@ module _ {up z : ℕ} (hu : up ≤ 1) (hz : z ≤ largest) where
   pub terms-size : (k : ℕ) → termsOf up z k + 3 * powerOf up z k ≤ 3 * z + 4 * k
   unfolding termsOf termOf powerOf
   terms-size zero = omega arith
-  terms-size (suc k) =
-      omega (arith, power-falls (powerOf up z k), terms-size k, div-le-self (2 * powerOf up z k) (2 * k + 1))
+  terms-size (suc k) = omega (arith, power-falls (powerOf up z k), terms-size k, div-le-self (2 * powerOf up z k) (2 * k + 1))
 
 -- ---- the ends
 

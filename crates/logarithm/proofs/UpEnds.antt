@@ -3,25 +3,14 @@ use Prim.Native.Nat.{ℕ, _+_, _≤_}
 use mathlib.Core.Path.{refl}
 use lib.Dec.{lit<}
 use Rattle.interval.specs.Operations.{natural}
-use Rattle.exact.specs.Fraction.{Fraction, _≤f_, whole, _+f_, _·f_, _÷f_}
-use Rattle.exact.specs.Logarithm.{argument, terms, lnNear, lnOf}
-use Rattle.exact.specs.Reported.{ten, reported}
-use Rattle.exact.specs.Depth.{workDepth, Within}
-use Rattle.exact.proofs.Order.{refl≤, trans≤, refl≈, nonneg}
-use Rattle.exact.proofs.Sums.{mono+, add-zero}
-use Rattle.exact.proofs.Products.{mul-left≤}
-use Rattle.exact.proofs.Inclusion.{within-trans, within-same}
-use Rattle.exact.proofs.LogArgument.{argument-nonneg}
-use Rattle.exact.proofs.LogUp.{up-ends}
-use Rattle.exact.proofs.Logarithm.{ln-at-least-one}
-use Rattle.exact.proofs.Computed.{within-ln2}
+use Rattle.exact.specs.{Fraction.{Fraction, _≤f_, whole, _+f_, _·f_, _÷f_}, Logarithm.{argument, terms, lnNear, lnOf}}
+use Rattle.exact.{specs.{Reported.{ten, reported}, Depth.{workDepth, Within}}, proofs.Order.{refl≤, trans≤, refl≈, nonneg}}
+use Rattle.exact.proofs.{Sums.{mono+, add-zero}, Products.{mul-left≤}, Inclusion.{within-trans, within-same}, LogArgument.{argument-nonneg}}
+use Rattle.exact.proofs.{LogUp.{up-ends}, Logarithm.{ln-at-least-one}, Computed.{within-ln2}}
 use Rattle.exact.proofs.Rounding.{units, Toward, from-below, from-above, toward-trans, toward-same, toward-sum, units-zero, units-sum}
 use Rattle.exact.proofs.Rounding.{rounded}
-use Rattle.logarithm.specs.Series.{termCount, termsOf}
-use Rattle.logarithm.specs.Ends.{halvingsOf, argumentOf, ln2, doublings, nearOf, endOf, upEnds}
-use Rattle.logarithm.proofs.Ratio.{ratio-low}
-use Rattle.logarithm.proofs.Rounding.{binary, billionths-are, multiple-is}
-use Rattle.logarithm.proofs.SeriesEnds.{terms-toward}
+use Rattle.logarithm.specs.{Series.{termCount, termsOf}, Ends.{halvingsOf, argumentOf, ln2, doublings, nearOf, endOf, upEnds}}
+use Rattle.logarithm.proofs.{Ratio.{ratio-low}, Rounding.{binary, billionths-are, multiple-is}, SeriesEnds.{terms-toward}}
 use Rattle.logarithm.proofs.Rest.{rest-below, terms-below}
 use Rattle.logarithm.proofs.ArgumentEnds.{reduced, reduced-least, argument-third, argument-low, argument-high}
 

@@ -1,10 +1,8 @@
 -- How far apart the upper and the lower ends are: the numbers of the two series stay close from step to step.
 use Prim.Native.Nat.{ℕ, zero, suc, _+_, _*_, _/_, _≤_, _<_}
-use native.Mathlib.Omega.{arith}
-use native.Mathlib.Nat.{div-mul-le-self, lt-div-mul-add, lt-of-mul-lt-mul-right, mul-le-mul}
+use native.Mathlib.{Omega.{arith}, Nat.{div-mul-le-self, lt-div-mul-add, lt-of-mul-lt-mul-right, mul-le-mul}}
 use lib.Dec.{lit<}
-use Rattle.logarithm.specs.Series.{unit, termCount, squareOf, powerOf, termOf, termsOf}
-use Rattle.logarithm.specs.Ends.{doublings, nearOf, endOf}
+use Rattle.logarithm.specs.{Series.{unit, termCount, squareOf, powerOf, termOf, termsOf}, Ends.{doublings, nearOf, endOf}}
 use Rattle.logarithm.proofs.Sizes.{largest, square-size, power-size}
 
 -- b is at most k above a

@@ -1,15 +1,10 @@
 -- The logarithm asked alone. Document 01, 'What exact means': "The logarithm is answered as a pair in signed billionths that holds the
 -- exact value, at most 2,000 apart. It may be asked alone, of a fraction of two whole numbers from 1 to 10^15".
 use Prim.Native.Nat.{ℕ}
-use mathlib.Core.Path.{_≡_}
-use mathlib.Core.Bool.{Bool, cond, _&&_}
+use mathlib.Core.{Path.{_≡_}, Bool.{Bool, cond, _&&_}}
 use lib.Dec.{leb}
-use Rattle.exact.specs.Fraction.{Fraction, whole, decimal, _÷f_}
-use Rattle.exact.specs.Logarithm.{lnOf}
-use Rattle.exact.specs.Reported.{ten}
-use Rattle.exact.specs.Answered.{RightPair}
-use Rattle.interval.specs.declared.Pair.{Pair}
-use Rattle.interval.specs.declared.Pair.the-variants.{Ends, Refused}
+use Rattle.exact.specs.{Fraction.{Fraction, whole, decimal, _÷f_}, Logarithm.{lnOf}, Reported.{ten}, Answered.{RightPair}}
+use Rattle.interval.specs.declared.Pair.{Pair, the-variants.{Ends, Refused}}
 use Rattle.logarithm.specs.Ends.{most, lnEnds}
 
 -- request (j) of document 02: "The logarithm's ends must be at most 200 billionths apart"

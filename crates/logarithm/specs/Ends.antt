@@ -1,12 +1,9 @@
 -- The ends of ln (p/q) in billionths, by whole numbers alone.
 use Prim.Native.Nat.{ℕ, _+_, _-_, _*_, _/_, _^_, _≤_}
 use mathlib.Core.Bool.{cond}
-use lib.Dec.{ltb}
-use lib.IntN.{natAbs}
-use Rattle.interval.specs.declared.Interval.{Interval}
-use Rattle.interval.specs.Operations.{natural, minusOf}
-use Rattle.exact.specs.Fraction.{whole, _÷f_}
-use Rattle.exact.specs.Logarithm.{halvings}
+use lib.{Dec.{ltb}, IntN.{natAbs}}
+use Rattle.interval.specs.{declared.Interval.{Interval}, Operations.{natural, minusOf}}
+use Rattle.exact.specs.{Fraction.{whole, _÷f_}, Logarithm.{halvings}}
 use Rattle.logarithm.specs.Series.{unit, termCount, termsOf}
 
 -- "whole numbers from 1 to 10^15"

@@ -1,14 +1,10 @@
 -- The definitions at small numbers, computed.
 use Prim.Native.Nat.{ℕ}
 use mathlib.Core.Path.{_≡_, refl}
-use lib.Dec.{lit≤}
-use lib.IntN.{pos, negsuc}
+use lib.{Dec.{lit≤}, IntN.{pos, negsuc}}
 use native.Mathlib.Decide.{decLe}
-use Rattle.interval.specs.Operations.{natural, minusOf}
-use Rattle.exact.specs.Fraction.{_≈f_, whole, decimal, _·f_, inv, _÷f_, top, choose}
-use Rattle.exact.specs.Root.{greatestBelow}
-use Rattle.exact.specs.Logarithm.{halvings}
-use Rattle.interval.specs.declared.Pair.the-variants.{Refused}
+use Rattle.interval.specs.{Operations.{natural, minusOf}, declared.Pair.the-variants.{Refused}}
+use Rattle.exact.specs.{Fraction.{_≈f_, whole, decimal, _·f_, inv, _÷f_, top, choose}, Root.{greatestBelow}, Logarithm.{halvings}}
 use Rattle.logarithm.specs.Series.{squareOf, powerOf, termOf, termsOf}
 use Rattle.logarithm.specs.Ends.{halvingsOf, baseOf, argumentOf, doublings, nearOf, endOf, upEnds, downEnds, lnEnds}
 use Rattle.logarithm.specs.Asked.{width, inside, refused, answerOf}

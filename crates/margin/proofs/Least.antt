@@ -1,16 +1,11 @@
 -- A margin is the smallest whole number that is enough, and at most 0 just where the voltage is at most what is tolerable.
 use Prim.Native.Nat.{ℕ, _+_, _*_, _≤_, _<_}
 use mathlib.Core.Path.{_≡_, ap}
-use native.Mathlib.Omega.{arith}
-use native.Mathlib.Nat.{mul-le-mul-left, mul-le-mul-right}
-use lib.IntN.{pos}
-use lib.Signed.{_≤ℤ_}
-use Rattle.interval.specs.Signed.{plus, minus}
-use Rattle.interval.specs.Whole.{ceilDiv}
-use Rattle.interval.proofs.Signed.{difference-is, le-halves, halves-le}
+use native.Mathlib.{Omega.{arith}, Nat.{mul-le-mul-left, mul-le-mul-right}}
+use lib.{IntN.{pos}, Signed.{_≤ℤ_}}
+use Rattle.interval.{specs.{Signed.{plus, minus}, Whole.{ceilDiv}}, proofs.Signed.{difference-is, le-halves, halves-le}}
 use Rattle.interval.proofs.Rounding.{ceilDiv-above, ceilDiv-below, ceilDiv-by}
-use Rattle.margin.specs.Margin.{whole, margin}
-use Rattle.margin.specs.Meaning.{IsMargin}
+use Rattle.margin.specs.{Margin.{whole, margin}, Meaning.{IsMargin}}
 
 -- all of the tolerable voltage and the margin are the share
 pub share-parts : (v t : ℕ) → whole + plus (margin v t) ≡ ceilDiv (whole * v) t + minus (margin v t)

@@ -1,26 +1,18 @@
 -- The margins of a case's row are right.
 use mathlib.Core.Path.{_≡_, refl, _∙_}
-use lib.IntN.{ℤ, pos}
-use lib.Signed.{_≤ℤ_}
+use lib.{IntN.{ℤ, pos}, Signed.{_≤ℤ_}}
 use Rattle.interval.proofs.Choice.{pos≤, le-pos}
-use Rattle.case.specs.declared.Case.{Case}
-use Rattle.case.specs.Bounds.{Bounds}
+use Rattle.case.specs.{declared.Case.{Case}, Bounds.{Bounds}}
 use Rattle.formulas.proofs.Consistent.{consistent-touch, consistent-tolerable-step, consistent-mesh, consistent-step}
 use Rattle.tolerable.specs.Ends.{touchEnds, stepEnds}
 use Rattle.tolerable.proofs.Enclosed as T
-use Rattle.mesh.specs.Ends.{meshEnds}
-use Rattle.mesh.proofs.Enclosed.{mesh-encloses}
+use Rattle.mesh.{specs.Ends.{meshEnds}, proofs.Enclosed.{mesh-encloses}}
 use Rattle.step.specs.Ends.{stepVoltageEnds}
 use Rattle.step.proofs.Enclosed as S
-use Rattle.row.specs.Row.{numbers}
-use Rattle.row.specs.Ends.{caseVerdict, rowOf}
-use Rattle.row.proofs.Verdicts.{safe-ends, ends-safe}
-use Rattle.margin.specs.declared.Compared.the-variants.{Margins}
-use Rattle.margin.specs.Margin.{margin, fourMargins, marginsOf}
+use Rattle.row.{specs.{Row.{numbers}, Ends.{caseVerdict, rowOf}}, proofs.Verdicts.{safe-ends, ends-safe}}
+use Rattle.margin.specs.{declared.Compared.the-variants.{Margins}, Margin.{margin, fourMargins, marginsOf}}
 use Rattle.margin.specs.Meaning.{RightMargins, Right}
-use Rattle.margin.proofs.Voltages.{Voltages}
-use Rattle.margin.proofs.Least.{at-most-zero, zero-at-most}
-use Rattle.margin.proofs.Share.{share-below}
+use Rattle.margin.proofs.{Voltages.{Voltages}, Least.{at-most-zero, zero-at-most}, Share.{share-below}}
 use Rattle.margin.proofs.RowVoltages.{mesh-voltages, step-voltages, voltages-comparable}
 
 -- the margin of two voltages that may be compared

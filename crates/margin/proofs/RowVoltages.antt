@@ -1,21 +1,13 @@
 -- The ends of a case's voltages may be compared.
 use Prim.Native.Nat.{ℕ, _^_, _≤_}
-use mathlib.Core.Path.{_≡_}
-use mathlib.Core.Bool.{true}
-use mathlib.Core.List.{[], _∷_}
+use mathlib.Core.{Path.{_≡_}, Bool.{true}, List.{[], _∷_}}
 use native.Mathlib.Nat.{le-trans}
-use lib.Dec.{lit≤}
-use lib.IntN.{ℤ, pos}
+use lib.{Dec.{lit≤}, IntN.{ℤ, pos}}
 use borrow.Author.Tests.{le-leb}
-use Rattle.interval.specs.declared.Interval.{Interval}
-use Rattle.interval.specs.Span.{Span}
-use Rattle.interval.proofs.Span.{span-lower, span-upper}
-use Rattle.interval.proofs.Rules.{_≼_, Kept, lits}
+use Rattle.interval.{specs.{declared.Interval.{Interval}, Span.{Span}}, proofs.{Span.{span-lower, span-upper}, Rules.{_≼_, Kept, lits}}}
 use Rattle.interval.proofs.NumeralSpans.{numeral-product, numeral-quotient}
-use Rattle.case.specs.declared.Case.{Case}
-use Rattle.case.specs.Bounds.{Bounds}
-use Rattle.tolerable.specs.Ends.{tolerableEnds, touchEnds, stepEnds}
-use Rattle.tolerable.proofs.Spans.{top-span, time-span}
+use Rattle.case.specs.{declared.Case.{Case}, Bounds.{Bounds}}
+use Rattle.tolerable.{specs.Ends.{tolerableEnds, touchEnds, stepEnds}, proofs.Spans.{top-span, time-span}}
 use Rattle.mesh.specs.Ends.{meshEnds}
 use Rattle.mesh.proofs.DrivenWidths as M
 use Rattle.mesh.proofs.FactorSpans as MF
@@ -37,8 +29,7 @@ module _ {i : Interval} {l h w : ℕ} (low : ℕ) (k : Kept ((low ≼ l) ∷ (h 
 module _ {c : Case} (b : Bounds c) where
   tolerable-span : (weight : ℕ) → weight ≤ 12 → Span (tolerableEnds c weight) 58000 106411112 246
   unfolding tolerableEnds
-  tolerable-span weight h =
-      numeral-quotient 50000 58000 106411112 245 (lits tt) (top-span b weight h) (time-span b)
+  tolerable-span weight h = numeral-quotient 50000 58000 106411112 245 (lits tt) (top-span b weight h) (time-span b)
 
   mesh-span : Span (meshEnds c) 0 148411231984 148411300001
   unfolding meshEnds
@@ -50,13 +41,11 @@ module _ {c : Case} (b : Bounds c) where
 
   pub mesh-voltages : Voltages (meshEnds c .upper) (touchEnds c .lower)
   unfolding touchEnds
-  mesh-voltages =
-      record { v = upper-natural 0 (lits tt) mesh-span; t = lower-natural 1 (lits tt) (tolerable-span 3 (lit≤ tt)) }
+  mesh-voltages = record { v = upper-natural 0 (lits tt) mesh-span; t = lower-natural 1 (lits tt) (tolerable-span 3 (lit≤ tt)) }
 
   pub step-voltages : Voltages (stepVoltageEnds c .upper) (stepEnds c .lower)
   unfolding stepEnds
-  step-voltages =
-      record { v = upper-natural 0 (lits tt) step-span; t = lower-natural 1 (lits tt) (tolerable-span 12 (lit≤ tt)) }
+  step-voltages = record { v = upper-natural 0 (lits tt) step-span; t = lower-natural 1 (lits tt) (tolerable-span 12 (lit≤ tt)) }
 
 -- ---- such voltages may be compared
 

@@ -3,22 +3,12 @@ use Prim.Native.Nat.{ℕ, _*_, _<_}
 use mathlib.Core.Path.{_≡_, refl, ap}
 use native.Mathlib.Omega.{arith}
 use lib.IntN.{pos, _*ℤ_}
-use Rattle.interval.specs.declared.Interval.{Interval}
-use Rattle.interval.specs.Whole.{ceilDiv}
-use Rattle.interval.specs.Operations.{scaledOf}
-use Rattle.interval.proofs.Rounding.{ceilDiv-above}
-use Rattle.exact.specs.Fraction.{_≤f_, _≈f_}
-use Rattle.exact.specs.Exact.{Exact, exactly, _·x_, AtOrBelow}
-use Rattle.exact.specs.Depth.{Consistent}
-use Rattle.exact.specs.Reported.{ten, over, reported}
-use Rattle.exact.proofs.Consistency.{consistent-exactly, consistent-product}
-use Rattle.exact.proofs.Verdict.{at-or-below}
-use Rattle.enclosure.specs.Enclosure.{Encloses}
-use Rattle.enclosure.proofs.Basics.{holds}
-use Rattle.enclosure.proofs.Multiples.{encloses-multiple}
+use Rattle.interval.{specs.{declared.Interval.{Interval}, Whole.{ceilDiv}, Operations.{scaledOf}}, proofs.Rounding.{ceilDiv-above}}
+use Rattle.exact.specs.{Fraction.{_≤f_, _≈f_}, Exact.{Exact, exactly, _·x_, AtOrBelow}, Depth.{Consistent}, Reported.{ten, over, reported}}
+use Rattle.exact.proofs.{Consistency.{consistent-exactly, consistent-product}, Verdict.{at-or-below}}
+use Rattle.enclosure.{specs.Enclosure.{Encloses}, proofs.{Basics.{holds}, Multiples.{encloses-multiple}}}
 use Rattle.formulas.specs.Width.{mV}
-use Rattle.margin.specs.Margin.{whole, margin}
-use Rattle.margin.specs.Meaning.{share}
+use Rattle.margin.specs.{Margin.{whole, margin}, Meaning.{share}}
 use Rattle.margin.proofs.Least.{share-parts}
 
 module _ (v : ℕ) {t : ℕ} (p : 0 < t) where
@@ -33,8 +23,7 @@ module _ (v : ℕ) {t : ℕ} (p : 0 < t) where
   upper-below = record { le = omega (arith, ceilDiv-above (whole * v) p) }
 
   pub share-below : {x y : Exact} {i j : Interval} → Consistent x → Consistent y → Encloses x mV i → Encloses y mV j → i .upper ≡ pos v
-      → j .lower ≡ pos t
-      → AtOrBelow x (exactly (share (margin v t)) ·x y)
+      → j .lower ≡ pos t → AtOrBelow x (exactly (share (margin v t)) ·x y)
   unfolding mV ten reported scaledOf
   share-below cx cy ex ey upper lower =
       at-or-below (holds cx ex)

@@ -1,16 +1,10 @@
 -- Voltages that may be compared are natural numbers, and their margin fits 64 bits.
 use Prim.Native.Nat.{ℕ, _*_, _≤_, _^_}
 use mathlib.Core.Path.{_≡_, refl}
-use native.Mathlib.Omega.{arith}
-use native.Mathlib.Nat.{mul-le-mul-left, div-le-self}
-use lib.Dec.{T}
-use lib.IntN.{ℤ, pos, negsuc}
-use lib.Signed.{leZ, leZ-yes}
+use native.Mathlib.{Omega.{arith}, Nat.{mul-le-mul-left, div-le-self}}
+use lib.{Dec.{T}, IntN.{ℤ, pos, negsuc}, Signed.{leZ, leZ-yes}}
 use mir.Facts.{and-yes}
-use Rattle.interval.specs.Whole.{ceilDiv}
-use Rattle.interval.specs.Wide.{WideFits}
-use Rattle.interval.proofs.Choice.{le-pos}
-use Rattle.interval.proofs.Rounding.{ceilDiv-by}
+use Rattle.interval.{specs.{Whole.{ceilDiv}, Wide.{WideFits}}, proofs.{Choice.{le-pos}, Rounding.{ceilDiv-by}}}
 use Rattle.margin.specs.Margin.{whole, mostVoltage, inRange, comparable}
 
 -- a number from low to the most
@@ -42,8 +36,7 @@ voltages voltage tolerable h =
 -- ---- 64 bits
 
 pub margin-fits : {v t : ℕ} → v ≤ mostVoltage → 1 ≤ t → t ≤ mostVoltage → WideFits whole v t
-margin-fits {v} {t} h p q =
-    record { divisor = p; rest = omega arith; quotient = omega (arith, div-le-self v t) }
+margin-fits {v} {t} h p q = record { divisor = p; rest = omega arith; quotient = omega (arith, div-le-self v t) }
 
 pub share-small : {v t : ℕ} → v ≤ mostVoltage → 1 ≤ t → ceilDiv (whole * v) t ≤ 10 ^ 18
 share-small {v} {t} h p = ceilDiv-by (whole * v) p (omega (arith, mul-le-mul-left (10 ^ 18) p))

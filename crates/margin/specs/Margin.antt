@@ -1,17 +1,11 @@
 -- How far a voltage lies above what is tolerable, in tenths of a percent of the tolerable voltage, from the ends on the cautious side: the
 -- voltage's upper end and the tolerable voltage's lower end.
 use Prim.Native.Nat.{ℕ, _*_, _^_}
-use mathlib.Core.Bool.{Bool, cond, _&&_}
-use mathlib.Core.List.{List}
-use lib.Dec.{eqb}
-use lib.IntN.{ℤ, pos, natAbs, _-ℤ_}
-use lib.ListN.{getD, length}
-use lib.Signed.{leZ}
+use mathlib.Core.{Bool.{Bool, cond, _&&_}, List.{List}}
+use lib.{Dec.{eqb}, IntN.{ℤ, pos, natAbs, _-ℤ_}, ListN.{getD, length}, Signed.{leZ}}
 use Rattle.interval.specs.Whole.{ceilDiv}
-use Rattle.row.specs.Row.{rowLength}
-use Rattle.row.specs.Places.{tolerableTouchLowerPlace, tolerableStepLowerPlace, meshUpperPlace, stepUpperPlace}
-use Rattle.margin.specs.declared.Compared.{Compared}
-use Rattle.margin.specs.declared.Compared.the-variants.{Margins, None}
+use Rattle.row.specs.{Row.{rowLength}, Places.{tolerableTouchLowerPlace, tolerableStepLowerPlace, meshUpperPlace, stepUpperPlace}}
+use Rattle.margin.specs.declared.Compared.{Compared, the-variants.{Margins, None}}
 
 -- a whole tolerable voltage in tenths of a percent
 abbrev pub whole : ℕ

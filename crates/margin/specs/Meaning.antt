@@ -2,20 +2,15 @@
 use Prim.Native.Nat.{ℕ, _+_, _*_, _≤_, _<_}
 use mathlib.Core.Path.{_≡_}
 use native.Mathlib.Nat.{zero-lt-suc}
-use lib.IntN.{ℤ, pos}
-use lib.Signed.{_≤ℤ_}
+use lib.{IntN.{ℤ, pos}, Signed.{_≤ℤ_}}
 use Rattle.interval.specs.Signed.{plus, minus}
-use Rattle.exact.specs.Fraction.{Fraction}
-use Rattle.exact.specs.Exact.{exactly, _·x_, AtOrBelow}
+use Rattle.exact.specs.{Fraction.{Fraction}, Exact.{exactly, _·x_, AtOrBelow}}
 use Rattle.case.specs.declared.Case.{Case}
 use Rattle.formulas.specs.Tolerable.{tolerableTouch, tolerableStep}
 use Rattle.formulas.specs.Mesh as Mesh
 use Rattle.formulas.specs.Step as Step
-use Rattle.row.specs.declared.Verdict.the-variants.{Safe}
-use Rattle.row.specs.Ends.{caseVerdict}
-use Rattle.margin.specs.declared.Compared.{Compared}
-use Rattle.margin.specs.declared.Compared.the-variants.{Margins, None}
-use Rattle.margin.specs.Margin.{whole}
+use Rattle.row.specs.{declared.Verdict.the-variants.{Safe}, Ends.{caseVerdict}}
+use Rattle.margin.specs.{declared.Compared.{Compared, the-variants.{Margins, None}}, Margin.{whole}}
 
 -- the smallest whole number m with 1000·voltage ≤ (1000 + m)·tolerable
 pub record IsMargin (voltage tolerable : ℕ) (m : ℤ) : Type 0 where

@@ -1,21 +1,13 @@
 -- G as a fraction of two whole numbers: it is the formula's, and lies from 25 to 65,536.
 use Prim.Native.Nat.{ℕ, _+_, _-_, _*_, _^_, _≤_}
 use mathlib.Core.Path.{_≡_}
-use native.Mathlib.Omega.{arith}
-use native.Mathlib.Nat.{mul-le-mul, mul-le-mul-left, mul-le-mul-right, le-trans}
-use native.Mathlib.Decide.{decLe}
+use native.Mathlib.{Omega.{arith}, Nat.{mul-le-mul, mul-le-mul-left, mul-le-mul-right, le-trans}, Decide.{decLe}}
 use lib.Dec.{lit≤}
-use Rattle.exact.specs.Fraction.{_≈f_, whole, decimal, _+f_, _·f_, _÷f_}
-use Rattle.exact.proofs.Order.{refl≈, trans≈, whole-pos}
-use Rattle.exact.proofs.Products.{mul-pos}
+use Rattle.exact.{specs.Fraction.{_≈f_, whole, decimal, _+f_, _·f_, _÷f_}, proofs.{Order.{refl≈, trans≈, whole-pos}, Products.{mul-pos}}}
 use Rattle.exact.proofs.Divisors.{cong÷, expand}
 use Rattle.logarithm.specs.Ends.{Inside}
-use Rattle.case.specs.declared.Case.{Case}
-use Rattle.case.specs.Bounds.{Bounds}
-use Rattle.formulas.specs.Lengths.{D, h, d}
-use Rattle.formulas.specs.Mesh.{G, G′}
-use Rattle.formulas.proofs.Positive.{D-pos, h-pos, d-pos}
-use Rattle.formulas.proofs.MeshArgument.{G-forms}
+use Rattle.case.specs.{declared.Case.{Case}, Bounds.{Bounds}}
+use Rattle.formulas.{specs.{Lengths.{D, h, d}, Mesh.{G, G′}}, proofs.{Positive.{D-pos, h-pos, d-pos}, MeshArgument.{G-forms}}}
 use Rattle.mesh.specs.Factor.{argumentTop, argumentBottom}
 
 -- ---- bounds
@@ -56,8 +48,7 @@ module _ {c : Case} (b : Bounds c) where
 
   pub argument-high : argumentTop c ≤ 65536 * argumentBottom c
   unfolding argumentTop argumentBottom
-  argument-high =
-      argument-to (c .space) (c .depth) (c .dia) (b .space .high) (b .space .low) (b .depth .high) (b .depth .low) (b .dia .low)
+  argument-high = argument-to (c .space) (c .depth) (c .dia) (b .space .high) (b .space .low) (b .depth .high) (b .depth .low) (b .dia .low)
 
   pub width-sum-high : c .space + 2 * c .depth ≤ 35000
   width-sum-high = omega (arith, b .space .high, b .depth .high)

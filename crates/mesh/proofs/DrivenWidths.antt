@@ -2,24 +2,17 @@
 -- 940 for each mm of the conductors.
 use Prim.Native.Nat.{ℕ, _+_, _*_, _/_, _≤_, _<_}
 use mathlib.Core.Path.{_≡_}
-use native.Mathlib.Omega.{arith}
-use native.Mathlib.Nat.{mul-le-mul-left, le-trans, lt-of-mul-lt-mul-right, le-of-suc-le-suc, le-of-mul-le-mul-right}
+use native.Mathlib.{Omega.{arith}, Nat.{mul-le-mul-left, le-trans, lt-of-mul-lt-mul-right, le-of-suc-le-suc, le-of-mul-le-mul-right}}
 use lib.Dec.{eqb, lit≤, lit<}
-use Rattle.interval.specs.Whole.{ceilDiv}
-use Rattle.interval.specs.Operations.{natural}
-use Rattle.interval.specs.Span.{Span, Relative}
-use Rattle.interval.proofs.Natural.{natural-quotient}
-use Rattle.interval.proofs.Span.{span-natural}
-use Rattle.interval.proofs.Rounding.{floorDiv-below, floorDiv-above, ceilDiv-above, ceilDiv-below, ceilDiv-by}
-use Rattle.case.specs.declared.Case.{Case}
-use Rattle.case.specs.Bounds.{Bounds}
+use Rattle.interval.{specs.{Whole.{ceilDiv}, Operations.{natural}, Span.{Span, Relative}}, proofs.Natural.{natural-quotient}}
+use Rattle.interval.proofs.{Span.{span-natural}, Rounding.{floorDiv-below, floorDiv-above, ceilDiv-above, ceilDiv-below, ceilDiv-by}}
+use Rattle.interval.proofs.Relatives.{relative-span, relative-point, relative-sum, relative-product, relative-quotient}
+use Rattle.case.specs.{declared.Case.{Case}, Bounds.{Bounds}}
 use Rattle.formulas.proofs.Conductors.{by-place}
 use Rattle.drive.proofs.Spans.{low, high, drive-is, drive-order, drive-near, drive-by-length}
-use Rattle.lengths.specs.Lengths.{conductorLength, rodLength, totalLength}
-use Rattle.lengths.proofs.Lengths.{conductor-bounds}
+use Rattle.lengths.{specs.Lengths.{conductorLength, rodLength, totalLength}, proofs.Lengths.{conductor-bounds}}
 use Rattle.mesh.specs.Ends.{rodWeight, weighedLength, meshLength, drivenEnds}
 use Rattle.mesh.proofs.LengthSpans.{diagonal-span, weight-span, mesh-length-span, mesh-length-low}
-use Rattle.interval.proofs.Relatives.{relative-span, relative-point, relative-sum, relative-product, relative-quotient}
 
 -- ---- LM
 
@@ -37,8 +30,7 @@ mesh-length-relative {c} b =
 -- ---- ρ·Ki·IG/LM: x to y, at most 1/1,870,000, 3 and 940 m apart, over c to d, at most 1/3,535,000 apart
 
 driven-near : (x y c d m L U : ℕ) → 1870000 * y ≤ 1870001 * x + 1870000 * (3 + 940 * m) → 3535000 * d ≤ 3535001 * c → 10000000 ≤ c
-    → 1000 * m ≤ c
-    → U * c < y + c → x < L * d + d → 1220000 * U ≤ 1220001 * L + 3660000
+    → 1000 * m ≤ c → U * c < y + c → x < L * d + d → 1220000 * U ≤ 1220001 * L + 3660000
 driven-near x y c d m L U w h p q u l = le-of-suc-le-suc (lt-of-mul-lt-mul-right c (omega (arith, mul-le-mul-left L h)))
 
 length-within : (c : Case) → conductorLength c ≤ totalLength c

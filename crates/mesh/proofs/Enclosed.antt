@@ -2,44 +2,25 @@
 use Prim.Native.Nat.{ℕ, _+_, _*_, _^_}
 use mathlib.Core.Path.{refl}
 use native.Mathlib.Omega.{arith}
-use lib.Dec.{eqb, lit≤}
-use lib.IntN.{pos}
-use Rattle.interval.specs.Operations.{point}
-use Rattle.interval.proofs.Span.{span-divisor}
-use Rattle.exact.specs.Fraction.{Fraction, _≈f_, decimal, _+f_, _·f_}
-use Rattle.exact.specs.Exact.{exactly, _+x_, _·x_, _÷x_}
-use Rattle.exact.specs.Reported.{ten, over}
-use Rattle.exact.proofs.Order.{trans≈}
-use Rattle.exact.proofs.Sums.{cong+}
-use Rattle.exact.proofs.Products.{cong·}
-use Rattle.exact.proofs.Reported.{decimal-over}
-use Rattle.exact.proofs.Consistency.{consistent-exactly, consistent-quotient}
-use Rattle.exact.proofs.Factors.{factor-last}
+use lib.{Dec.{eqb, lit≤}, IntN.{pos}}
+use Rattle.interval.{specs.Operations.{point}, proofs.Span.{span-divisor}}
+use Rattle.exact.specs.{Fraction.{Fraction, _≈f_, decimal, _+f_, _·f_}, Exact.{exactly, _+x_, _·x_, _÷x_}, Reported.{ten, over}}
+use Rattle.exact.proofs.{Order.{trans≈}, Sums.{cong+}, Products.{cong·}, Reported.{decimal-over}}
+use Rattle.exact.proofs.{Consistency.{consistent-exactly, consistent-quotient}, Factors.{factor-last}}
 use Rattle.exact.proofs.Quantity.{quantity-exactly, quantity-product}
-use Rattle.enclosure.specs.Enclosure.{Encloses}
-use Rattle.enclosure.proofs.SquareRoot.{pair-ends}
-use Rattle.enclosure.proofs.Counts.{decimal-count}
-use Rattle.enclosure.proofs.Basics.{encloses-same, encloses-count, encloses-decimal}
-use Rattle.enclosure.proofs.Sums.{encloses-sum}
-use Rattle.enclosure.proofs.Products.{encloses-product}
-use Rattle.enclosure.proofs.Quotients.{encloses-quotient}
-use Rattle.enclosure.proofs.Roots.{encloses-sqrt-even}
-use Rattle.case.specs.declared.Case.{Case}
-use Rattle.case.specs.Bounds.{Bounds, Rodded}
-use Rattle.formulas.specs.Lengths.{ρ, Lr, Lc, LR, Ki}
-use Rattle.formulas.specs.Current.{IG}
-use Rattle.formulas.specs.Mesh.{diagonal, LM, mesh}
-use Rattle.formulas.specs.Width.{mV}
-use Rattle.formulas.proofs.Consistent.{consistent-Km}
-use Rattle.formulas.proofs.Positive.{LR-pos}
+use Rattle.enclosure.{specs.Enclosure.{Encloses}, proofs.{SquareRoot.{pair-ends}, Counts.{decimal-count}}}
+use Rattle.enclosure.proofs.{Basics.{encloses-same, encloses-count, encloses-decimal}, Sums.{encloses-sum}, Products.{encloses-product}}
+use Rattle.enclosure.proofs.{Quotients.{encloses-quotient}, Roots.{encloses-sqrt-even}}
+use Rattle.case.specs.{declared.Case.{Case}, Bounds.{Bounds, Rodded}}
+use Rattle.formulas.specs.{Lengths.{ρ, Lr, Lc, LR, Ki}, Current.{IG}, Mesh.{diagonal, LM, mesh}, Width.{mV}}
+use Rattle.formulas.proofs.{Consistent.{consistent-Km}, Positive.{LR-pos}}
+use Rattle.formulas.proofs.Quantities.{quantity-Ki, quantity-IG, quantity-diagonal, quantity-weight, quantity-LM, place-rodded}
+use Rattle.formulas.proofs.Conductors.{by-both}
 use Rattle.drive.proofs.Enclosed.{drive-consistent, drive-encloses}
 use Rattle.lengths.specs.Lengths.{sideX, sideY, conductorLength, rodLength, totalLength}
 use Rattle.lengths.proofs.Lengths.{x-is, y-is, conductor-is, rod-is, total-is}
 use Rattle.mesh.specs.Ends.{diagonalEnds, rodWeight, weighedLength, meshLength, drivenEnds, meshEnds}
-use Rattle.mesh.proofs.LengthSpans.{diagonal-span, mesh-length-span, mesh-length-low}
-use Rattle.formulas.proofs.Quantities.{quantity-Ki, quantity-IG, quantity-diagonal, quantity-weight, quantity-LM, place-rodded}
-use Rattle.formulas.proofs.Conductors.{by-both}
-use Rattle.mesh.proofs.FactorEnclosed.{factor-encloses}
+use Rattle.mesh.proofs.{LengthSpans.{diagonal-span, mesh-length-span, mesh-length-low}, FactorEnclosed.{factor-encloses}}
 
 -- ---- fractions as counts
 

@@ -2,39 +2,22 @@
 use Prim.Native.Nat.{_+_, _*_, _^_}
 use mathlib.Core.Path.{refl}
 use native.Mathlib.Omega.{arith}
-use lib.Dec.{eqb, lit≤}
-use lib.IntN.{pos}
+use lib.{Dec.{eqb, lit≤}, IntN.{pos}}
 use Rattle.interval.proofs.Span.{span-divisor}
-use Rattle.exact.specs.Fraction.{_≈f_, whole, decimal, _+f_}
-use Rattle.exact.specs.Exact.{exactly, _−x_, _·x_, _÷x_}
-use Rattle.exact.specs.Pi.{π}
-use Rattle.exact.specs.Logarithm.{ln}
-use Rattle.exact.specs.Depth.{workDepth, Consistent}
-use Rattle.exact.specs.Reported.{ten, over}
-use Rattle.exact.proofs.Consistency.{consistent-exactly, consistent-sum, consistent-product}
-use Rattle.exact.proofs.Inclusion.{within-trans, within-same}
-use Rattle.exact.proofs.Logarithm.{ln-value, ln-exactly, consistent-ln}
-use Rattle.exact.proofs.Positive.{positive-exactly}
+use Rattle.exact.specs.{Fraction.{_≈f_, whole, decimal, _+f_}, Exact.{exactly, _−x_, _·x_, _÷x_}, Pi.{π}, Logarithm.{ln}}
+use Rattle.exact.specs.{Depth.{workDepth, Consistent}, Reported.{ten, over}}
+use Rattle.exact.proofs.{Consistency.{consistent-exactly, consistent-sum, consistent-product}, Inclusion.{within-trans, within-same}}
+use Rattle.exact.proofs.{Logarithm.{ln-value, ln-exactly, consistent-ln}, Positive.{positive-exactly}}
 use Rattle.exact.proofs.Quantity.{Quantity, quantity-π, quantity-quotient}
-use Rattle.enclosure.specs.Enclosure.{Encloses}
-use Rattle.enclosure.proofs.SquareRoot.{pair-ends}
-use Rattle.enclosure.proofs.Basics.{encloses-count, encloses-whole}
-use Rattle.enclosure.proofs.Sums.{encloses-sum, encloses-times}
-use Rattle.enclosure.proofs.Products.{encloses-product}
-use Rattle.enclosure.proofs.Quotients.{encloses-quotient}
-use Rattle.enclosure.proofs.Roots.{encloses-sqrt-even}
-use Rattle.enclosure.proofs.Constants.{π-encloses}
+use Rattle.enclosure.{specs.Enclosure.{Encloses}, proofs.{SquareRoot.{pair-ends}, Basics.{encloses-count, encloses-whole}}}
+use Rattle.enclosure.proofs.{Sums.{encloses-sum, encloses-times}, Products.{encloses-product}, Quotients.{encloses-quotient}}
+use Rattle.enclosure.proofs.{Roots.{encloses-sqrt-even}, Constants.{π-encloses}}
 use Rattle.logarithm.proofs.LnEnds.{ln-encloses}
-use Rattle.case.specs.declared.Case.{Case}
-use Rattle.case.specs.Bounds.{Bounds}
-use Rattle.formulas.specs.Lengths.{n, h}
-use Rattle.formulas.specs.Mesh.{G, Kh, Kii, Km}
-use Rattle.formulas.proofs.MeshArgument.{G-pos}
+use Rattle.case.specs.{declared.Case.{Case}, Bounds.{Bounds}}
+use Rattle.formulas.{specs.{Lengths.{n, h}, Mesh.{G, Kh, Kii, Km}}, proofs.MeshArgument.{G-pos}}
+use Rattle.formulas.proofs.{Quantities.{quantity-turn, quantity-Kh, quantity-Kii, quantity-spread}, Conductors.{by-both}}
 use Rattle.mesh.specs.Factor.{argumentLog, depthFactor, innerFactor, innerTerm, geometricFactor}
-use Rattle.mesh.proofs.Argument.{top-inside, bottom-inside, G-is}
-use Rattle.mesh.proofs.FactorSpans.{turn-span, depth-span}
-use Rattle.formulas.proofs.Quantities.{quantity-turn, quantity-Kh, quantity-Kii, quantity-spread}
-use Rattle.formulas.proofs.Conductors.{by-both}
+use Rattle.mesh.proofs.{Argument.{top-inside, bottom-inside, G-is}, FactorSpans.{turn-span, depth-span}}
 use Rattle.conductors.proofs.WeightsEnclosed.{spread-encloses, inner-encloses}
 
 module _ {c : Case} (b : Bounds c) where
@@ -63,8 +46,7 @@ module _ {c : Case} (b : Bounds c) where
 
   pub kii-encloses : Encloses (Kii c) (ten 9) (innerFactor c)
   unfolding Kii innerFactor ten
-  kii-encloses =
-      by-both (λ x i. Encloses x (ten 9) i) (eqb (c .place) 1) (λ e. encloses-whole 1 (ten 9) refl) (λ e. inner-encloses b)
+  kii-encloses = by-both (λ x i. Encloses x (ten 9) i) (eqb (c .place) 1) (λ e. encloses-whole 1 (ten 9) refl) (λ e. inner-encloses b)
 
   -- ---- Km
 

@@ -3,26 +3,17 @@ use Prim.Native.Nat.{_+_, _*_, _^_, _≤_}
 use mathlib.Core.Path.{_≡_}
 use native.Mathlib.Omega.{arith}
 use lib.Dec.{lit≤, lit<}
-use Rattle.interval.specs.declared.Interval.{Interval}
-use Rattle.interval.specs.Operations.{size, sumOf, minusOf, scaledOf, productOf, quotientOf}
-use Rattle.interval.specs.Span.{Span}
-use Rattle.interval.proofs.Span.{span-scaled, span-size}
-use Rattle.interval.proofs.Negated.{product-negated, sum-negated, span-difference, size-negated}
-use Rattle.interval.proofs.Rules.{lits}
-use Rattle.interval.proofs.NumeralSpans.{numeral-point, numeral-product, numeral-quotient, numeral-wider}
-use Rattle.case.specs.declared.Case.{Case}
-use Rattle.case.specs.Bounds.{Bounds}
+use Rattle.interval.specs.{declared.Interval.{Interval}, Operations.{size, sumOf, minusOf, scaledOf, productOf, quotientOf}, Span.{Span}}
+use Rattle.interval.proofs.{Span.{span-scaled, span-size}, Negated.{product-negated, sum-negated, span-difference, size-negated}}
+use Rattle.interval.proofs.{Rules.{lits}, NumeralSpans.{numeral-point, numeral-product, numeral-quotient, numeral-wider}}
+use Rattle.case.specs.{declared.Case.{Case}, Bounds.{Bounds}}
 use Rattle.formulas.proofs.Conductors.{by-place}
 use Rattle.mesh.specs.Factor.{argumentLog, depthFactor, perimeterRods, innerFactor, innerTerm, geometricFactor}
 use Rattle.mesh.proofs.Logarithms.{argument-span}
 use Rattle.logarithm.specs.Ends.{lnPair}
-use Rattle.conductors.specs.Weights.{eight, oddEnds, spreadEnds}
-use Rattle.conductors.proofs.WeightWidths.{spread-span, inner-span}
-use Rattle.conductors.proofs.NumberEnclosed.{counts}
+use Rattle.conductors.{specs.Weights.{eight, oddEnds, spreadEnds}, proofs.{WeightWidths.{spread-span, inner-span}, NumberEnclosed.{counts}}}
 use Rattle.drive.specs.Ends.{numberOf}
-use Rattle.enclosure.specs.Pi.{πEnds}
-use Rattle.enclosure.proofs.RootSpan.{root-span}
-use Rattle.enclosure.proofs.Constants.{π-span}
+use Rattle.enclosure.{specs.Pi.{πEnds}, proofs.{RootSpan.{root-span}, Constants.{π-span}}}
 
 -- 2π
 pub turn-span : Span (scaledOf πEnds 2) 6283185306 6283185308 2
@@ -31,8 +22,7 @@ turn-span = span-scaled 2 π-span
 module _ {c : Case} (b : Bounds c) where
   pub depth-span : Span (depthFactor c) 1118000000 1871000000 1
   unfolding depthFactor
-  depth-span =
-      root-span ((1000 + c .depth) * 10 ^ 15) 1118000000 1871000000 (omega (arith, b .depth .low)) (omega (arith, b .depth .high))
+  depth-span = root-span ((1000 + c .depth) * 10 ^ 15) 1118000000 1871000000 (omega (arith, b .depth .low)) (omega (arith, b .depth .high))
 
   pub inner-factor-span : Span (innerFactor c) 0 1000000000 610
   unfolding innerFactor

@@ -1,16 +1,11 @@
 -- Sizes and widths of LM.
 use Prim.Native.Nat.{_+_, _*_, _^_, _≤_}
-use native.Mathlib.Omega.{arith}
-use native.Mathlib.Nat.{mul-le-mul, mul-le-mul-left}
-use lib.Dec.{eqb, lit≤, lit<}
-use lib.IntN.{pos}
-use Rattle.interval.specs.Operations.{point, productOf, quotientOf}
-use Rattle.interval.specs.Span.{Span}
-use Rattle.interval.proofs.Span.{span-point, span-wider, span-sum, span-product}
-use Rattle.interval.proofs.Rules.{lits}
+use native.Mathlib.{Omega.{arith}, Nat.{mul-le-mul, mul-le-mul-left}}
+use lib.{Dec.{eqb, lit≤, lit<}, IntN.{pos}}
+use Rattle.interval.specs.{Operations.{point, productOf, quotientOf}, Span.{Span}}
+use Rattle.interval.proofs.{Span.{span-point, span-wider, span-sum, span-product}, Rules.{lits}}
 use Rattle.interval.proofs.NumeralSpans.{numeral-point, numeral-quotient}
-use Rattle.case.specs.declared.Case.{Case}
-use Rattle.case.specs.Bounds.{Between, Bounds}
+use Rattle.case.specs.{declared.Case.{Case}, Bounds.{Between, Bounds}}
 use Rattle.formulas.proofs.Conductors.{by-place}
 use Rattle.lengths.specs.Lengths.{sideX, sideY, conductorLength, rodLength, totalLength}
 use Rattle.lengths.proofs.Lengths.{x-bounds, y-bounds, conductor-bounds, rodlen-high, rod-bound, total-bounds}
@@ -48,8 +43,7 @@ module _ {c : Case} (b : Bounds c) where
   rods-point = span-point (rodLength c) (omega arith) (rod-bound b)
 
   pub rods-span : Span (productOf (rodWeight c) (point (pos (rodLength c))) 1000000) (1000 * rodLength c) 10004000000 1957
-  rods-span =
-      span-product 1000000 (1000 * rodLength c) 10004000000 1956 (lit< tt) (omega arith) (lit≤ tt) (lit≤ tt) weight-span rods-point
+  rods-span = span-product 1000000 (1000 * rodLength c) 10004000000 1956 (lit< tt) (omega arith) (lit≤ tt) (lit≤ tt) weight-span rods-point
 
   pub conductors-span : Span (point (pos (1000 * conductorLength c))) (1000 * conductorLength c) 36000000000 0
   conductors-span = span-point (1000 * conductorLength c) (omega arith) (mul-le-mul-left 1000 (conductor-bounds b .high))

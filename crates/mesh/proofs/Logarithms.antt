@@ -1,21 +1,13 @@
 -- The span of ln G, from the ends of ln 25 and ln 65,536.
 use Prim.Native.Nat.{ℕ, _+_, _≤_}
 use mathlib.Core.Path.{_≡_, _∙_}
-use native.Mathlib.Omega.{arith}
-use native.Mathlib.Nat.{le-trans}
-use lib.Dec.{lit≤, lit<}
-use lib.IntN.{pos}
-use lib.Signed.{_≤ℤ_}
-use Rattle.interval.specs.Operations.{natural}
-use Rattle.interval.specs.Span.{Span}
-use Rattle.interval.proofs.Choice.{le-pos}
+use native.Mathlib.{Omega.{arith}, Nat.{le-trans}}
+use lib.{Dec.{lit≤, lit<}, IntN.{pos}, Signed.{_≤ℤ_}}
+use Rattle.interval.{specs.{Operations.{natural}, Span.{Span}}, proofs.Choice.{le-pos}}
 use Rattle.logarithm.specs.Series.{squareOf, powerOf, termOf, termsOf}
 use Rattle.logarithm.specs.Ends.{Inside, halvingsOf, argumentOf, doublings, nearOf, endOf, upEnds, lnEnds}
-use Rattle.logarithm.proofs.KnownHalvings.{up-by, ln-up}
-use Rattle.logarithm.proofs.Growth.{ln-grows}
-use Rattle.logarithm.proofs.LnEnds.{up-tight}
-use Rattle.case.specs.declared.Case.{Case}
-use Rattle.case.specs.Bounds.{Bounds}
+use Rattle.logarithm.proofs.{KnownHalvings.{up-by, ln-up}, Growth.{ln-grows}, LnEnds.{up-tight}}
+use Rattle.case.specs.{declared.Case.{Case}, Bounds.{Bounds}}
 use Rattle.mesh.specs.Factor.{argumentTop, argumentBottom, argumentLog}
 use Rattle.mesh.proofs.Argument.{argument-low, argument-high, top-inside, bottom-inside}
 

@@ -5,15 +5,12 @@ use mathlib.Core.Path.{_≡_, refl}
 use native.Mathlib.Omega.{arith}
 use lib.Dec.{lit<}
 use Rattle.interval.proofs.Below.{Below, below-times, below-quotient}
-use Rattle.case.specs.declared.Case.{Case}
-use Rattle.case.specs.Bounds.{Bounds}
-use Rattle.case.specs.Eased.{eased}
+use Rattle.case.specs.{declared.Case.{Case}, Bounds.{Bounds}, Eased.{eased}}
 use Rattle.lengths.specs.Lengths.{conductorLength, rodLength, totalLength}
 use Rattle.drive.proofs.NoWorse.{drive-below}
 use Rattle.mesh.specs.Factor.{argumentTop, argumentBottom, argumentLog, depthFactor, innerFactor, innerTerm, geometricFactor}
 use Rattle.mesh.specs.Ends.{diagonalEnds, rodWeight, weighedLength, meshLength, drivenEnds, meshEnds}
-use Rattle.mesh.proofs.LengthSpans.{mesh-length-span, mesh-length-low}
-use Rattle.mesh.proofs.FactorSpans.{factor-span}
+use Rattle.mesh.proofs.{LengthSpans.{mesh-length-span, mesh-length-low}, FactorSpans.{factor-span}}
 
 module _ {c : Case} (b : Bounds c) (fault split shock body : ℕ) (enters : fault * split ≤ c .fault * c .split) where
   same-length : meshLength (eased fault split shock body c) ≡ meshLength c

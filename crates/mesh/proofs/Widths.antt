@@ -1,31 +1,18 @@
 -- The mesh voltage's ends are no further apart than allowed: 1/100,000 of ρ·Ki·IG/LT, with Ki of na and IG its upper end, plus 10 mV.
 use Prim.Native.Nat.{ℕ, _+_, _-_, _*_, _≤_, _<_}
 use mathlib.Core.Path.{_≡_, ap}
-use native.Mathlib.Omega.{arith}
-use native.Mathlib.Nat.{mul-le-mul-left}
-use lib.Dec.{lit≤, lit<}
-use lib.IntN.{pos}
-use Rattle.interval.specs.Operations.{natural}
-use Rattle.interval.proofs.Natural.{natural-product}
-use Rattle.interval.proofs.Rounding.{floorDiv-above, ceilDiv-below}
-use Rattle.exact.specs.Fraction.{_≤f_, decimal, _+f_, neg, _−f_, _·f_, inv, _÷f_}
-use Rattle.exact.specs.Reported.{ten, over, reported, AtMost}
-use Rattle.exact.proofs.Order.{trans≤, refl≈, sym≈}
-use Rattle.exact.proofs.Quotients.{clamped}
-use Rattle.exact.proofs.Divisors.{cong÷}
-use Rattle.case.specs.declared.Case.{Case}
-use Rattle.case.specs.Bounds.{Bounds}
-use Rattle.formulas.specs.Lengths.{LT}
-use Rattle.formulas.specs.Width.{mV, μA, meshWidth}
-use Rattle.formulas.proofs.Positive.{decimal-pos, decimal-nonneg}
+use native.Mathlib.{Omega.{arith}, Nat.{mul-le-mul-left}}
+use lib.{Dec.{lit≤, lit<}, IntN.{pos}}
+use Rattle.interval.{specs.Operations.{natural}, proofs.{Natural.{natural-product}, Rounding.{floorDiv-above, ceilDiv-below}}}
+use Rattle.exact.specs.{Fraction.{_≤f_, decimal, _+f_, neg, _−f_, _·f_, inv, _÷f_}, Reported.{ten, over, reported, AtMost}}
+use Rattle.exact.proofs.{Order.{trans≤, refl≈, sym≈}, Quotients.{clamped}, Divisors.{cong÷}}
+use Rattle.case.specs.{declared.Case.{Case}, Bounds.{Bounds}}
+use Rattle.formulas.{specs.{Lengths.{LT}, Width.{mV, μA, meshWidth}}, proofs.Positive.{decimal-pos, decimal-nonneg}}
 use Rattle.current.specs.Ends.{currentEnds}
-use Rattle.drive.proofs.Spans.{low}
-use Rattle.drive.proofs.Reference.{reference-width}
-use Rattle.lengths.specs.Lengths.{totalLength}
-use Rattle.lengths.proofs.Lengths.{total-bounds, total-is}
+use Rattle.drive.proofs.{Spans.{low}, Reference.{reference-width}}
+use Rattle.lengths.{specs.Lengths.{totalLength}, proofs.Lengths.{total-bounds, total-is}}
 use Rattle.mesh.specs.Ends.{meshEnds}
-use Rattle.mesh.proofs.FactorSpans.{factor-span}
-use Rattle.mesh.proofs.DrivenWidths.{driven-ends}
+use Rattle.mesh.proofs.{FactorSpans.{factor-span}, DrivenWidths.{driven-ends}}
 
 -- ---- times Km
 

@@ -1,12 +1,9 @@
 -- The ends of Km and of its parts, by whole-number intervals. Names for the free part: callers use their laws.
 use Prim.Native.Nat.{ℕ, _+_, _*_, _^_}
 use mathlib.Core.Bool.{Bool, cond}
-use lib.Dec.{eqb}
-use lib.IntN.{pos}
-use Rattle.interval.specs.declared.Interval.{Interval}
-use Rattle.interval.specs.Operations.{point, sumOf, scaledOf, productOf, quotientOf}
-use Rattle.enclosure.specs.SquareRoot.{rootPair}
-use Rattle.enclosure.specs.Pi.{πEnds}
+use lib.{Dec.{eqb}, IntN.{pos}}
+use Rattle.interval.specs.{declared.Interval.{Interval}, Operations.{point, sumOf, scaledOf, productOf, quotientOf}}
+use Rattle.enclosure.specs.{SquareRoot.{rootPair}, Pi.{πEnds}}
 use Rattle.logarithm.specs.Ends.{lnEnds}
 use Rattle.case.specs.declared.Case.{Case}
 use Rattle.conductors.specs.Weights.{spreadEnds, innerEnds}

@@ -1,10 +1,7 @@
 -- How far apart the ends of e^q and e^q′ are at most, for q and q′ from 0 to B that are w apart; and that as a multiple of 1 / 2^k.
 use Prim.Native.Nat.{ℕ, _*_, _^_}
-use Rattle.exact.specs.Fraction.{Fraction, _≤f_, whole, _+f_, _·f_, powf}
-use Rattle.exact.proofs.Order.{refl≤, trans≤, nonneg}
-use Rattle.exact.proofs.Sums.{mono+, le+}
-use Rattle.exact.proofs.Products.{mul-left≤, mul-nonneg, mul-assoc, add-mul}
-use Rattle.exact.proofs.Series.{pow-nonneg}
+use Rattle.exact.{specs.Fraction.{Fraction, _≤f_, whole, _+f_, _·f_, powf}, proofs.{Order.{refl≤, trans≤, nonneg}, Sums.{mono+, le+}}}
+use Rattle.exact.proofs.{Products.{mul-left≤, mul-nonneg, mul-assoc, add-mul}, Series.{pow-nonneg}}
 use Rattle.numbers.proofs.Units.{unit, units-nonneg}
 
 -- the power, and bounds of the powers of the ends and of the slack

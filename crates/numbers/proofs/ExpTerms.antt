@@ -3,18 +3,12 @@ use Prim.Native.Nat.{ℕ, _≤_}
 use mathlib.Core.Logic.{_⊎_, inl, inr}
 use native.Mathlib.Omega.{arith}
 use lib.Dec.{lit≤}
-use Rattle.exact.specs.Fraction.{Fraction, _≤f_, _≈f_, whole, _+f_, _·f_, inv, _÷f_, sumOf}
-use Rattle.exact.specs.Exponential.{factorial, expTerm, expTerms}
-use Rattle.exact.proofs.Order.{refl≤, trans≤, refl≈, sym≈, trans≈, whole≤, nonneg, total}
-use Rattle.exact.proofs.Sums.{mono+}
+use Rattle.exact.specs.{Fraction.{Fraction, _≤f_, _≈f_, whole, _+f_, _·f_, inv, _÷f_, sumOf}, Exponential.{factorial, expTerm, expTerms}}
+use Rattle.exact.proofs.{Order.{refl≤, trans≤, refl≈, sym≈, trans≈, whole≤, nonneg, total}, Sums.{mono+}}
 use Rattle.exact.proofs.Products.{mul≤, mul-left≤, mul-nonneg, mul-assoc, mul-one, one-mul, mul-add, cong·, whole-mul}
-use Rattle.exact.proofs.Series.{pow-nonneg}
-use Rattle.exact.proofs.Triangle.{sum-product}
-use Rattle.exact.proofs.Convolution.{zero-add}
-use Rattle.exact.proofs.ExpTerms.{factorial-pos, terms-rated, exp-term-nonneg, exp-terms≤, exp-terms-nonneg, exp-terms-least}
-use Rattle.exact.proofs.ExpTerms.{half, exp-cross}
-use Rattle.exact.proofs.ExpUp.{slack, half-nonneg}
-use Rattle.exact.proofs.Exponential.{inverse-high}
+use Rattle.exact.proofs.{Series.{pow-nonneg}, Triangle.{sum-product}, Convolution.{zero-add}}
+use Rattle.exact.proofs.ExpTerms.{factorial-pos, terms-rated, exp-term-nonneg, exp-terms≤, exp-terms-nonneg, exp-terms-least, half}
+use Rattle.exact.proofs.{ExpTerms.{exp-cross}, ExpUp.{slack, half-nonneg}, Exponential.{inverse-high}}
 use Rattle.numbers.specs.Number.{Near}
 use Rattle.numbers.proofs.Units.{unit, unit-high, half-power}
 

@@ -1,24 +1,14 @@
 -- The ends of an exponential come together, for any value whose ends do: below 0 it is one over an exponential that is at least 1.
 use Prim.Native.Nat.{ℕ, _≤_}
 use native.Mathlib.Omega.{arith}
-use Rattle.exact.specs.Fraction.{Fraction, _≤f_, whole, _+f_, neg, inv, decLef}
-use Rattle.exact.specs.Exact.{Exact}
-use Rattle.exact.specs.Exponential.{expUp, expOf, exp}
-use Rattle.exact.specs.Depth.{Consistent}
-use Rattle.exact.proofs.Order.{refl≤, trans≤, le-of-lt, not≤, whole-pos, choose-cases}
-use Rattle.exact.proofs.Sums.{mono+, le+, neg≤, neg-nonpos}
-use Rattle.exact.proofs.Products.{add-mul}
-use Rattle.exact.proofs.Quotients.{inverse-low}
-use Rattle.exact.proofs.Consistency.{proper-at}
-use Rattle.exact.proofs.ExpUp.{up-cross, up-least}
-use Rattle.exact.proofs.Exponential.{over, over-ends, neg-pos}
+use Rattle.exact.specs.{Fraction.{Fraction, _≤f_, whole, _+f_, neg, inv, decLef}, Exact.{Exact}, Exponential.{expUp, expOf, exp}}
+use Rattle.exact.{specs.Depth.{Consistent}, proofs.Order.{refl≤, trans≤, le-of-lt, not≤, whole-pos, choose-cases}}
+use Rattle.exact.proofs.{Sums.{mono+, le+, neg≤, neg-nonpos}, Products.{add-mul}, Quotients.{inverse-low}, Consistency.{proper-at}}
+use Rattle.exact.proofs.{ExpUp.{up-cross, up-least}, Exponential.{over, over-ends, neg-pos}}
 use Rattle.numbers.specs.Number.{Near, Narrows}
-use Rattle.numbers.proofs.Near.{near-more, near-between, near-trans, near-neg}
-use Rattle.numbers.proofs.Units.{unit, units-nonneg}
-use Rattle.numbers.proofs.Narrow.{narrow-at, narrows-by, near-inverse-one}
-use Rattle.numbers.proofs.Products.{bounded-at}
-use Rattle.numbers.proofs.ExpSpread.{expSpread, expSpread-nonneg, expRate, expSpread≤}
-use Rattle.numbers.proofs.ExpUp.{exp-up-near, exp-up-zero}
+use Rattle.numbers.proofs.{Near.{near-more, near-between, near-trans, near-neg}, Units.{unit, units-nonneg}}
+use Rattle.numbers.proofs.{Narrow.{narrow-at, narrows-by, near-inverse-one}, Products.{bounded-at}}
+use Rattle.numbers.proofs.{ExpSpread.{expSpread, expSpread-nonneg, expRate, expSpread≤}, ExpUp.{exp-up-near, exp-up-zero}}
 
 module _ {w lo hi : Fraction} {k : ℕ} (d : 3 ≤ k) (nw : whole 0 ≤f w) (l : lo ≤f hi) (n : Near w lo hi) (B : ℕ) (most : hi ≤f whole B)
     (most′ : neg lo ≤f whole B) where

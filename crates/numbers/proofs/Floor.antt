@@ -1,28 +1,17 @@
 -- A consistent value with positive ends that come together stays above a positive fraction: from some depth on above a third of what
 -- depth 3 shows, and before that above the least of its lower ends. So its quotients come together too.
 use Prim.Native.Nat.{ℕ, zero, suc, _*_, _^_, _≤_, _<_}
-use mathlib.Core.Path.{_≡_}
-use mathlib.Core.Logic.{_⊎_, inl, inr}
-use native.Mathlib.Omega.{arith}
-use native.Mathlib.Decide.{decLe}
-use native.Mathlib.Nat.{mul-le-mul-right, mul-pos, eq-or-lt-of-le}
+use mathlib.Core.{Path.{_≡_}, Logic.{_⊎_, inl, inr}}
+use native.Mathlib.{Omega.{arith}, Decide.{decLe}, Nat.{mul-le-mul-right, mul-pos, eq-or-lt-of-le}}
 use lib.Pow.{pow-pos}
-use Rattle.exact.specs.Fraction.{Fraction, _≤f_, _<f_, whole, _+f_, _·f_, inv, minf}
-use Rattle.exact.specs.Ends.{Ends}
-use Rattle.exact.specs.Exact.{Exact, _÷x_}
-use Rattle.exact.specs.Depth.{Consistent, PositiveAt}
-use Rattle.exact.proofs.Order.{trans≤, le-of-lt, refl≈, whole-pos, min-cases, min-left, min-right}
-use Rattle.exact.proofs.Sums.{cancel≤, mono+, le+, neg-nonpos}
-use Rattle.exact.proofs.Products.{mul-nonneg, mul-assoc, add-mul, cong·}
-use Rattle.exact.proofs.Quotients.{clamped, inv≤, inv-nonneg}
-use Rattle.exact.proofs.Powers.{below-pow}
-use Rattle.exact.proofs.Consistency.{proper-at}
+use Rattle.exact.specs.{Fraction.{Fraction, _≤f_, _<f_, whole, _+f_, _·f_, inv, minf}, Ends.{Ends}, Exact.{Exact, _÷x_}}
+use Rattle.exact.{specs.Depth.{Consistent, PositiveAt}, proofs.Order.{trans≤, le-of-lt, refl≈, whole-pos, min-cases, min-left, min-right}}
+use Rattle.exact.proofs.{Sums.{cancel≤, mono+, le+, neg-nonpos}, Products.{mul-nonneg, mul-assoc, add-mul, cong·}}
+use Rattle.exact.proofs.{Quotients.{clamped, inv≤, inv-nonneg}, Powers.{below-pow}, Consistency.{proper-at}}
 use Rattle.exact.proofs.Alike.{inverseEnds, inverse-proper, quotient-product}
 use Rattle.numbers.specs.Number.{Narrows}
-use Rattle.numbers.proofs.Near.{exchanged, near-more, near-between, near-inverse}
-use Rattle.numbers.proofs.Units.{unit, units-nonneg}
-use Rattle.numbers.proofs.Narrow.{narrow-at, narrows-by}
-use Rattle.numbers.proofs.Products.{Bounded, product-narrow, bounded-at}
+use Rattle.numbers.proofs.{Near.{exchanged, near-more, near-between, near-inverse}, Units.{unit, units-nonneg}}
+use Rattle.numbers.proofs.{Narrow.{narrow-at, narrows-by}, Products.{Bounded, product-narrow, bounded-at}}
 
 -- ---- before a depth
 
@@ -44,8 +33,7 @@ lowest-next {x} {n} p l (yes d) =
     go : (k : ℕ) → 3 ≤ k → (k ≡ n) ⊎ (k < n) → minf (l .least) (x n .lower) ≤f x k .lower
     go k h (inl e) = rw e (min-right _ _)
     go k h (inr s) = trans≤ (min-left _ _) (l .below k h s)
-lowest-next p l (no d) =
-    record { least = l .least; positive = l .positive; below = λ k h s. l .below k h (omega arith) }
+lowest-next p l (no d) = record { least = l .least; positive = l .positive; below = λ k h s. l .below k h (omega arith) }
 
 lowest : {x : Exact} → PositiveAt x → (n : ℕ) → Lowest x n
 lowest p zero = record { least = whole 1; positive = whole-pos (omega arith); below = λ k h s. absurd (omega arith) }

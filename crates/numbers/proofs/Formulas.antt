@@ -3,24 +3,14 @@
 -- has to be, positive.
 use Prim.Native.Nat.{ℕ, _≤_}
 use native.Mathlib.Omega.{arith}
-use Rattle.exact.specs.Fraction.{whole, _÷f_}
-use Rattle.exact.specs.Logarithm.{lnOf}
-use Rattle.exact.proofs.Order.{whole-pos}
-use Rattle.exact.proofs.Products.{mul-pos}
-use Rattle.exact.proofs.Quotients.{inv-pos}
+use Rattle.exact.{specs.{Fraction.{whole, _÷f_}, Logarithm.{lnOf}}, proofs.{Order.{whole-pos}, Products.{mul-pos}, Quotients.{inv-pos}}}
 use Rattle.exact.proofs.Positive.{positive-exactly, positive-at-least}
 use Rattle.exact.proofs.Quantity.{quantity-exactly, quantity-sum, quantity-product, quantity-quotient}
-use Rattle.case.specs.declared.Case.{Case}
-use Rattle.case.specs.Bounds.{Bounds}
-use Rattle.formulas.specs.Lengths.{equalCounts, √area, s, nb, n, Ki}
-use Rattle.formulas.specs.Decrement.{Ta, Df}
-use Rattle.formulas.specs.Current.{IG}
-use Rattle.formulas.specs.Tolerable.{rootTime, tolerableTouch, tolerableStep}
-use Rattle.formulas.specs.Resistance.{√20, resistance, potentialRise}
-use Rattle.formulas.proofs.Positive.{h-pos, LT-pos}
-use Rattle.formulas.proofs.Decrement.{tf-pos, quantity-turns, quantity-Ta, under-root-least}
-use Rattle.formulas.proofs.Conductors.{by-place, quantity-divisor, quantity-ratio, quantity-s}
-use Rattle.formulas.proofs.Quantities.{one}
+use Rattle.case.specs.{declared.Case.{Case}, Bounds.{Bounds}}
+use Rattle.formulas.specs.{Lengths.{equalCounts, √area, s, nb, n, Ki}, Decrement.{Ta, Df}, Current.{IG}}
+use Rattle.formulas.specs.{Tolerable.{rootTime, tolerableTouch, tolerableStep}, Resistance.{√20, resistance, potentialRise}}
+use Rattle.formulas.proofs.{Positive.{h-pos, LT-pos}, Decrement.{tf-pos, quantity-turns, quantity-Ta, under-root-least}}
+use Rattle.formulas.proofs.{Conductors.{by-place, quantity-divisor, quantity-ratio, quantity-s}, Quantities.{one}}
 use Rattle.formulas.proofs.Consistent.{q20, quantity-rootTime}
 use Rattle.numbers.specs.Number.{Number}
 use Rattle.numbers.proofs.Rules.{number-exactly, number-root-exactly, number-lnOf, numbers}

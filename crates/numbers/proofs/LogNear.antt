@@ -1,18 +1,12 @@
 -- ln r for 1 ≤ r ≤ 2 at two near fractions, and how far apart its ends are.
 use Prim.Native.Nat.{ℕ}
 use lib.Dec.{lit≤}
-use Rattle.exact.specs.Fraction.{Fraction, _≤f_, _≈f_, whole, _+f_, neg, _−f_, _·f_, inv, _÷f_}
-use Rattle.exact.specs.Logarithm.{argument, lnNear}
-use Rattle.exact.proofs.Order.{refl≤, trans≤, refl≈, sym≈, trans≈, nonneg}
-use Rattle.exact.proofs.Sums.{mono+, cong+, cancel≤, le+, add-assoc, add-comm}
-use Rattle.exact.proofs.Products.{mul-nonneg, mul-assoc, cong·, whole-mul}
-use Rattle.exact.proofs.Series.{terms≤}
-use Rattle.exact.proofs.ExpTerms.{half}
+use Rattle.exact.specs.{Fraction.{Fraction, _≤f_, _≈f_, whole, _+f_, neg, _−f_, _·f_, inv, _÷f_}, Logarithm.{argument, lnNear}}
+use Rattle.exact.proofs.{Order.{refl≤, trans≤, refl≈, sym≈, trans≈, nonneg}, Sums.{mono+, cong+, cancel≤, le+, add-assoc, add-comm}}
+use Rattle.exact.proofs.{Products.{mul-nonneg, mul-assoc, cong·, whole-mul}, Series.{terms≤}, ExpTerms.{half}}
 use Rattle.exact.proofs.LogArgument.{argument-complement, argument-nonneg, argument≤}
 use Rattle.numbers.specs.Number.{Near}
-use Rattle.numbers.proofs.Near.{near-more, near-between, near-plus, near-times}
-use Rattle.numbers.proofs.Units.{unit}
-use Rattle.numbers.proofs.Narrow.{near-inverse-one}
+use Rattle.numbers.proofs.{Near.{near-more, near-between, near-plus, near-times}, Units.{unit}, Narrow.{near-inverse-one}}
 use Rattle.numbers.proofs.Series.{terms-near, terms-zero, tail≤units}
 
 third : argument (whole 2) ≤f half

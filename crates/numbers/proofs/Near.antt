@@ -1,13 +1,10 @@
 -- How far one fraction is above another, through each operation.
 use mathlib.Core.Logic.{_⊎_, inl, inr}
-use native.Mathlib.Omega.{arith}
-use native.Mathlib.Nat.{mul-le-mul-right}
+use native.Mathlib.{Omega.{arith}, Nat.{mul-le-mul-right}}
 use Rattle.exact.specs.Fraction.{Fraction, _≤f_, _<f_, _≈f_, whole, _+f_, neg, _−f_, _·f_, inv}
-use Rattle.exact.proofs.Order.{refl≤, trans≤, lt-of-lt-of-le, refl≈, sym≈, trans≈, total}
-use Rattle.exact.proofs.Sums.{mono+, add-assoc, le+}
+use Rattle.exact.proofs.{Order.{refl≤, trans≤, lt-of-lt-of-le, refl≈, sym≈, trans≈, total}, Sums.{mono+, add-assoc, le+}}
 use Rattle.exact.proofs.Products.{mul≤, mul-left≤, mono·, mul-nonneg, mul-comm, mul-assoc, one-mul, mul-add, add-mul, cong·}
-use Rattle.exact.proofs.Quotients.{inv≤, inv-nonneg, mul-inv}
-use Rattle.exact.proofs.Convolution.{add-swap}
+use Rattle.exact.proofs.{Quotients.{inv≤, inv-nonneg, mul-inv}, Convolution.{add-swap}}
 use Rattle.numbers.specs.Number.{Near}
 
 pub exchanged : (a b c : Fraction) → a ·f b ·f c ≈f a ·f c ·f b

@@ -2,17 +2,12 @@
 -- its ends at every depth, and "at or below" is an order. Of values that are only consistent none of this is true: ends 0 and 1 at every
 -- depth are held by the pairs 0, 0 and 1, 1; and if y has ends 0 and 10 at every depth, then 9 is at or below y, and y at or below 1.
 use Prim.Native.Nat.{ℕ, _+_, _*_, _≤_}
-use native.Mathlib.Omega.{arith}
-use native.Mathlib.Nat.{le-refl}
-use Rattle.exact.specs.Fraction.{Fraction, _≤f_, _<f_, _≈f_, whole, _+f_, neg, _−f_, decLef}
-use Rattle.exact.specs.Ends.{Ends}
-use Rattle.exact.specs.Exact.{Exact, Holds, Above, AtOrBelow}
-use Rattle.exact.proofs.Order.{refl≤, trans≤, le-of-lt, not≤, not<}
+use native.Mathlib.{Omega.{arith}, Nat.{le-refl}}
+use Rattle.exact.specs.{Fraction.{Fraction, _≤f_, _<f_, _≈f_, whole, _+f_, neg, _−f_, decLef}, Ends.{Ends}}
+use Rattle.exact.{specs.Exact.{Exact, Holds, Above, AtOrBelow}, proofs.Order.{refl≤, trans≤, le-of-lt, not≤, not<}}
 use Rattle.exact.proofs.Sums.{mono+, cancel≤, le+, add-assoc, sub-pos, lt-of-sum}
 use Rattle.numbers.specs.Number.{Near, Narrows, Number}
-use Rattle.numbers.proofs.Near.{near-more, near-between}
-use Rattle.numbers.proofs.Narrow.{narrow-at}
-use Rattle.numbers.proofs.Floor.{part, part-positive, parts≤, units≤part}
+use Rattle.numbers.proofs.{Near.{near-more, near-between}, Narrow.{narrow-at}, Floor.{part, part-positive, parts≤, units≤part}}
 
 -- ---- the ends come together
 
@@ -35,8 +30,7 @@ part-below {e} h =
     trans≤ (trans≤ (le+ o) (le+ o)) (parts≤ h)
 
 -- the ends come as near as one asks: from some depth on at most e apart
-pub ends-together : {x : Exact} → Narrows x → (e : Fraction) → whole 0 <f e
-    → (n : ℕ) × ((k : ℕ) → n ≤ k → Near e (x k .lower) (x k .upper))
+pub ends-together : {x : Exact} → Narrows x → (e : Fraction) → whole 0 <f e → (n : ℕ) × ((k : ℕ) → n ≤ k → Near e (x k .lower) (x k .upper))
 ends-together n e h = (enough n e, λ k d. near-more (ends-part n e d) (part-below h))
 
 -- ---- three parts of the way from p to q

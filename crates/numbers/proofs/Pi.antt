@@ -1,23 +1,14 @@
 -- The ends of π come together: an alternating series with one term more differs by that term.
 use Prim.Native.Nat.{ℕ, zero, suc, _+_, _*_, _^_, _≤_}
 use mathlib.Core.Path.{_≡_}
-use native.Mathlib.Omega.{arith}
-use native.Mathlib.Nat.{mul-le-mul, pow-le-pow-left, pow-le-pow-right, le-trans}
+use native.Mathlib.{Omega.{arith}, Nat.{mul-le-mul, pow-le-pow-left, pow-le-pow-right, le-trans}}
 use lib.Pow.{pow-pos}
-use Rattle.exact.specs.Fraction.{Fraction, _≤f_, whole, _+f_, neg, _−f_}
-use Rattle.exact.specs.Exact.{exactly, _·x_}
-use Rattle.exact.specs.Pi.{alternating, arctanTerm, arctanOver, π}
-use Rattle.exact.specs.Depth.{Consistent}
-use Rattle.exact.proofs.Order.{trans≤, whole≤, whole-pos}
-use Rattle.exact.proofs.Products.{one-mul}
-use Rattle.exact.proofs.Quotients.{inv≤}
-use Rattle.exact.proofs.Consistency.{consistent-exactly, consistent-product}
-use Rattle.exact.proofs.Pi.{consistent-arctan}
+use Rattle.exact.specs.{Fraction.{Fraction, _≤f_, whole, _+f_, neg, _−f_}, Exact.{exactly, _·x_}}
+use Rattle.exact.{specs.{Pi.{alternating, arctanTerm, arctanOver, π}, Depth.{Consistent}}, proofs.Order.{trans≤, whole≤, whole-pos}}
+use Rattle.exact.proofs.{Products.{one-mul}, Quotients.{inv≤}, Consistency.{consistent-exactly, consistent-product}, Pi.{consistent-arctan}}
 use Rattle.numbers.specs.Number.{Near, Narrows}
-use Rattle.numbers.proofs.Near.{near-more, near-plus, near-neg}
-use Rattle.numbers.proofs.Units.{unit}
-use Rattle.numbers.proofs.Narrow.{narrows-by, narrows-exactly, narrows-difference}
-use Rattle.numbers.proofs.Products.{narrows-product}
+use Rattle.numbers.proofs.{Near.{near-more, near-plus, near-neg}, Units.{unit}}
+use Rattle.numbers.proofs.{Narrow.{narrows-by, narrows-exactly, narrows-difference}, Products.{narrows-product}}
 
 single : (a : Fraction) → Near a (whole 0) (a −f whole 0)
 unfolding _−f_ _+f_ neg whole
@@ -43,8 +34,7 @@ term≤unit n k h = inv≤ (whole-pos (pow-pos k)) (whole≤ large)
 
 narrows-arctan : (n : ℕ) → 2 ≤ n → Narrows (arctanOver n)
 unfolding arctanOver
-narrows-arctan n h =
-    narrows-by (whole 1) (λ k d. near-more (alternating-near (arctanTerm n) k) (trans≤ (term≤unit n k h) (one-mul _ .fro)))
+narrows-arctan n h = narrows-by (whole 1) (λ k d. near-more (alternating-near (arctanTerm n) k) (trans≤ (term≤unit n k h) (one-mul _ .fro)))
 
 -- π by Machin's formula, a multiple of each arctangent
 module _ (a n : ℕ) (h : 2 ≤ n) where

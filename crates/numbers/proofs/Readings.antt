@@ -3,21 +3,13 @@ use Prim.Native.Nat.{ℕ, _≤_}
 use mathlib.Core.List.{List, [], _∷_}
 use native.Mathlib.Omega.{arith}
 use lib.ListN.{length}
-use Rattle.exact.specs.Fraction.{Fraction, _≤f_, whole, _+f_, minf, maxf}
-use Rattle.exact.specs.Exact.{Exact, _+x_}
+use Rattle.exact.specs.{Fraction.{Fraction, _≤f_, whole, _+f_, minf, maxf}, Exact.{Exact, _+x_}}
 use Rattle.exact.proofs.Order.{refl≤, trans≤, whole-pos, min-left, min-right, min-cases, max-left, max-right, max-cases}
-use Rattle.exact.proofs.Sums.{le+, add-comm}
-use Rattle.exact.proofs.Products.{add-mul}
-use Rattle.exact.proofs.Positive.{positive-exactly}
-use Rattle.readings.specs.Reading.{Reading}
-use Rattle.readings.specs.Resistivity.{apparent, lesser, greater, together, least, greatest, mean}
-use Rattle.readings.proofs.Extremes.{consistent-lesser, consistent-greater}
-use Rattle.readings.proofs.Extent.{kept}
-use Rattle.numbers.specs.Number.{Near, Narrows, Number}
-use Rattle.numbers.specs.Formulas.{ReadingNumbers}
-use Rattle.numbers.proofs.Near.{near-more, near-between}
-use Rattle.numbers.proofs.Units.{unit, units-nonneg}
-use Rattle.numbers.proofs.Narrow.{narrow-at, narrows-by}
+use Rattle.exact.proofs.{Sums.{le+, add-comm}, Products.{add-mul}, Positive.{positive-exactly}}
+use Rattle.readings.specs.{Reading.{Reading}, Resistivity.{apparent, lesser, greater, together, least, greatest, mean}}
+use Rattle.readings.proofs.{Extremes.{consistent-lesser, consistent-greater}, Extent.{kept}}
+use Rattle.numbers.specs.{Number.{Near, Narrows, Number}, Formulas.{ReadingNumbers}}
+use Rattle.numbers.proofs.{Near.{near-more, near-between}, Units.{unit, units-nonneg}, Narrow.{narrow-at, narrows-by}}
 use Rattle.numbers.proofs.Rules.{number-exactly, number-π, number-sum, number-product, number-quotient}
 
 -- ---- the lesser and the greater of two
@@ -63,8 +55,7 @@ module _ {x y : Exact} (a : Number x) (b : Number y) where
 
 number-apparent : (p : Reading) → Number (apparent p)
 unfolding apparent
-number-apparent p =
-    number-product (number-product (number-product (number-exactly _) number-π) (number-exactly _)) (number-exactly _)
+number-apparent p = number-product (number-product (number-product (number-exactly _) number-π) (number-exactly _)) (number-exactly _)
 
 number-together : (op : Exact → Exact → Exact) → ((x y : Exact) → Number x → Number y → Number (op x y)) → (p : Reading) (ps : List Reading)
     → Number (together op (p ∷ ps))
@@ -78,6 +69,5 @@ reading-numbers (p ∷ ps) h =
       apparent = number-apparent;
       least = number-together lesser (λ x y a b. number-lesser a b) p ps;
       greatest = number-together greater (λ x y a b. number-greater a b) p ps;
-      mean =
-          number-quotient (number-together _+x_ (λ x y a b. number-sum a b) p ps) (number-exactly _) (positive-exactly (whole-pos h));
+      mean = number-quotient (number-together _+x_ (λ x y a b. number-sum a b) p ps) (number-exactly _) (positive-exactly (whole-pos h));
     }

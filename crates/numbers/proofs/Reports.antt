@@ -1,21 +1,13 @@
 -- A pair that reports a number lies no further than its width from every pair that holds the number. So two reported pairs lie apart where
 -- pairs that hold their numbers lie apart by more than both widths.
-use mathlib.Core.Path.{_≡_, refl}
-use mathlib.Core.Bool.{Bool, true, false}
-use lib.IntN.{ℤ}
-use lib.Signed.{_≤ℤ_, _<ℤ_, ltZ, ltZ-no}
+use mathlib.Core.{Path.{_≡_, refl}, Bool.{Bool, true, false}}
+use lib.{IntN.{ℤ}, Signed.{_≤ℤ_, _<ℤ_, ltZ, ltZ-no}}
 use native.Mathlib.Omega.{arith}
 use Rattle.interval.specs.declared.Interval.{Interval}
-use Rattle.exact.specs.Fraction.{Fraction, _≤f_, _<f_, _+f_, neg, _−f_}
-use Rattle.exact.specs.Ends.{Ends}
-use Rattle.exact.specs.Exact.{Exact, Holds}
-use Rattle.exact.specs.Reported.{Scale, reported, Reports}
-use Rattle.exact.proofs.Order.{refl≤, trans≤, not<}
-use Rattle.exact.proofs.Sums.{mono+}
-use Rattle.exact.proofs.Reported.{over≤}
+use Rattle.exact.specs.{Fraction.{Fraction, _≤f_, _<f_, _+f_, neg, _−f_}, Ends.{Ends}, Exact.{Exact, Holds}}
+use Rattle.exact.{specs.Reported.{Scale, reported, Reports}, proofs.{Order.{refl≤, trans≤, not<}, Sums.{mono+}, Reported.{over≤}}}
 use Rattle.numbers.specs.Number.{Near, Narrows}
-use Rattle.numbers.proofs.Near.{near-between, near-trans}
-use Rattle.numbers.proofs.OneNumber.{held-overlap}
+use Rattle.numbers.proofs.{Near.{near-between, near-trans}, OneNumber.{held-overlap}}
 
 parted : (p q : Fraction) → q ≤f p +f (q −f p)
 unfolding _−f_ _+f_ neg

@@ -1,14 +1,9 @@
 -- A fraction lies between the power of its root's digits and the power of the next number.
 use Prim.Native.Nat.{ℕ, zero, suc, _+_, _*_, _^_, _≤_}
 use mathlib.Core.Path.{ap}
-use native.Mathlib.Omega.{arith}
-use native.Mathlib.Nat.{mul-le-mul-right, pow-suc, pow-zero, one-le-pow}
-use Rattle.exact.specs.Fraction.{Fraction, _≤f_, _≈f_, whole, decimal, _·f_, top, powf}
-use Rattle.exact.specs.Root.{rootDigits}
-use Rattle.exact.proofs.Order.{trans≤, refl≈, trans≈}
-use Rattle.exact.proofs.Products.{cong·}
-use Rattle.exact.proofs.Powers.{ten-pos}
-use Rattle.exact.proofs.RootDigits.{root-below, root-above}
+use native.Mathlib.{Omega.{arith}, Nat.{mul-le-mul-right, pow-suc, pow-zero, one-le-pow}}
+use Rattle.exact.specs.{Fraction.{Fraction, _≤f_, _≈f_, whole, decimal, _·f_, top, powf}, Root.{rootDigits}}
+use Rattle.exact.proofs.{Order.{trans≤, refl≈, trans≈}, Products.{cong·}, Powers.{ten-pos}, RootDigits.{root-below, root-above}}
 
 -- (a / 10^k)^n as one fraction
 power : ℕ → ℕ → ℕ → Fraction
@@ -20,8 +15,7 @@ power-first a k = omega (arith, pow-zero a, pow-zero (10 ^ k))
 
 power-next : (a k n : ℕ) → power a k n ·f decimal a k ≈f power a k (suc n)
 unfolding _·f_ decimal power
-power-next a k n =
-    omega (arith, ap (λ t. a ^ n * a * t) (pow-suc (10 ^ k) n), ap (λ t. t * ((10 ^ k) ^ n * 10 ^ k)) (pow-suc a n))
+power-next a k n = omega (arith, ap (λ t. a ^ n * a * t) (pow-suc (10 ^ k) n), ap (λ t. t * ((10 ^ k) ^ n * 10 ^ k)) (pow-suc a n))
 
 power-is : (a k n : ℕ) → powf (decimal a k) n ≈f power a k n
 unfolding powf

@@ -1,29 +1,19 @@
 -- The ends of a root come together: those of a fraction's root are 10^−k apart, and roots of two fractions above a positive one are no
 -- further apart than the fractions times a constant, since (b − a)·a^(n−1) ≤ b^n − a^n.
 use Prim.Native.Nat.{ℕ, zero, suc, _^_, _≤_}
-use mathlib.Core.Path.{_≡_}
-use mathlib.Core.Logic.{_⊎_, inl, inr}
-use native.Mathlib.Omega.{arith}
-use native.Mathlib.Nat.{pow-le-pow-left}
+use mathlib.Core.{Path.{_≡_}, Logic.{_⊎_, inl, inr}}
+use native.Mathlib.{Omega.{arith}, Nat.{pow-le-pow-left}}
 use lib.Pow.{pow-pos}
-use Rattle.exact.specs.Fraction.{Fraction, _≤f_, _<f_, _≈f_, whole, decimal, _+f_, _·f_, inv, powf, minf}
-use Rattle.exact.specs.Exact.{Exact, exactly}
-use Rattle.exact.specs.Root.{rootDigits, rootOf, root}
-use Rattle.exact.specs.Depth.{Consistent, PositiveAt}
-use Rattle.exact.proofs.Order.{refl≤, trans≤, lt-of-lt-of-le, le-of-lt, refl≈, sym≈, trans≈, whole-pos, total}
-use Rattle.exact.proofs.Order.{min-cases, min-left, min-right}
-use Rattle.exact.proofs.Sums.{mono+}
+use Rattle.exact.specs.{Fraction.{Fraction, _≤f_, _<f_, _≈f_, whole, decimal, _+f_, _·f_, inv, powf, minf}, Exact.{Exact, exactly}}
+use Rattle.exact.specs.{Root.{rootDigits, rootOf, root}, Depth.{Consistent, PositiveAt}}
+use Rattle.exact.proofs.Order.{refl≤, trans≤, lt-of-lt-of-le, le-of-lt, refl≈, sym≈, trans≈, whole-pos, total, min-cases, min-left}
+use Rattle.exact.proofs.{Order.{min-right}, Sums.{mono+}}
 use Rattle.exact.proofs.Products.{mul≤, mul-left≤, mul-nonneg, mul-comm, mul-assoc, mul-one, one-mul, add-mul, cong·}
-use Rattle.exact.proofs.Quotients.{clamped, inv≤, inv-nonneg, mul-inv}
-use Rattle.exact.proofs.Series.{pow-nonneg, pow≤}
-use Rattle.exact.proofs.Squarings.{pow-least}
+use Rattle.exact.proofs.{Quotients.{clamped, inv≤, inv-nonneg, mul-inv}, Series.{pow-nonneg, pow≤}, Squarings.{pow-least}}
 use Rattle.exact.proofs.Consistency.{proper-at}
 use Rattle.numbers.specs.Number.{Near, Narrows}
-use Rattle.numbers.proofs.Near.{near-below, near-more, near-between, near-trans, near-times}
-use Rattle.numbers.proofs.Units.{unit, units-nonneg}
-use Rattle.numbers.proofs.Narrow.{narrow-at, narrows-by}
-use Rattle.numbers.proofs.Floor.{floor-at}
-use Rattle.numbers.proofs.RootPowers.{below-next, digits-below}
+use Rattle.numbers.proofs.{Near.{near-below, near-more, near-between, near-trans, near-times}, Units.{unit, units-nonneg}}
+use Rattle.numbers.proofs.{Narrow.{narrow-at, narrows-by}, Floor.{floor-at}, RootPowers.{below-next, digits-below}}
 
 -- ---- 10^−k
 

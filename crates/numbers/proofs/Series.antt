@@ -5,18 +5,14 @@ use mathlib.Core.Path.{_≡_}
 use native.Mathlib.Omega.{arith}
 use lib.Dec.{lit≤}
 use Rattle.exact.specs.Fraction.{Fraction, _≤f_, _<f_, _≈f_, whole, _+f_, neg, _−f_, _·f_, inv, _÷f_, powf, sumOf}
-use Rattle.exact.specs.Logarithm.{term, terms, tail}
-use Rattle.exact.proofs.Order.{refl≤, trans≤, refl≈, trans≈, whole≤, whole-pos, nonneg}
+use Rattle.exact.{specs.Logarithm.{term, terms, tail}, proofs.Order.{refl≤, trans≤, refl≈, trans≈, whole≤, whole-pos, nonneg}}
 use Rattle.exact.proofs.Sums.{mono+, mono−, add-zero}
-use Rattle.exact.proofs.Products.{mul≤, mul-left≤, mono·, mul-nonneg, mul-comm, mul-assoc, mul-zero}
-use Rattle.exact.proofs.Products.{mul-one, one-mul, mul-add, add-mul, cong·, whole-mul}
-use Rattle.exact.proofs.Quotients.{inv≤, inv-pos, inv-nonneg, mul-inv}
-use Rattle.exact.proofs.SeriesBounds.{tail-below}
+use Rattle.exact.proofs.Products.{mul≤, mul-left≤, mono·, mul-nonneg, mul-comm, mul-assoc, mul-zero, mul-one, one-mul, mul-add, add-mul}
+use Rattle.exact.proofs.{Products.{cong·, whole-mul}, Quotients.{inv≤, inv-pos, inv-nonneg, mul-inv}, SeriesBounds.{tail-below}}
 use Rattle.exact.proofs.ExpTerms.{half}
 use Rattle.numbers.specs.Number.{Near}
 use Rattle.numbers.proofs.Near.{near-below, near-more, near-between, near-sum, near-times}
-use Rattle.numbers.proofs.Units.{unit, unit-nonneg, power≤unit, unit≤, units-sum≤}
-use Rattle.numbers.proofs.Powers.{power-near}
+use Rattle.numbers.proofs.{Units.{unit, unit-nonneg, power≤unit, unit≤, units-sum≤}, Powers.{power-near}}
 
 -- ---- the terms
 

@@ -1,16 +1,12 @@
 -- Powers of two as whole numbers, and near fractions divided by them.
 use Prim.Native.Nat.{ℕ, zero, suc, _+_, _^_, _≤_}
 use mathlib.Core.Path.{_≡_}
-use native.Mathlib.Omega.{arith}
-use native.Mathlib.Nat.{add-zero as nat-add-zero, add-suc, le-dest, pow-suc}
+use native.Mathlib.{Omega.{arith}, Nat.{add-zero as nat-add-zero, add-suc, le-dest, pow-suc}}
 use lib.Pow.{pow-pos}
-use Rattle.exact.specs.Fraction.{Fraction, _≤f_, _<f_, _≈f_, whole, _+f_, _÷f_}
-use Rattle.exact.proofs.Order.{trans≤, refl≈, trans≈, whole≤, whole-pos}
-use Rattle.exact.proofs.Products.{mul≤, mul-comm, one-mul, cong·, whole-mul}
-use Rattle.exact.proofs.Quotients.{mul-inv}
+use Rattle.exact.{specs.Fraction.{Fraction, _≤f_, _<f_, _≈f_, whole, _+f_, _÷f_}, proofs.Order.{trans≤, refl≈, trans≈, whole≤, whole-pos}}
+use Rattle.exact.proofs.{Products.{mul≤, mul-comm, one-mul, cong·, whole-mul}, Quotients.{mul-inv}}
 use Rattle.numbers.specs.Number.{Near}
-use Rattle.numbers.proofs.Near.{exchanged, near-more, near-between, near-times}
-use Rattle.numbers.proofs.Units.{unit, unit-nonneg, unit-high}
+use Rattle.numbers.proofs.{Near.{exchanged, near-more, near-between, near-times}, Units.{unit, unit-nonneg, unit-high}}
 
 pub whole≤-inv : {a b : ℕ} → whole a ≤f whole b → a ≤ b
 unfolding whole

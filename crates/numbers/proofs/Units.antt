@@ -1,18 +1,11 @@
 -- 1 / 2^k, the unit in which the ends of a value come together.
 use Prim.Native.Nat.{ℕ, zero, suc, _^_, _≤_}
-use native.Mathlib.Omega.{arith}
-use native.Mathlib.Nat.{pow-suc, pow-le-pow-right}
+use native.Mathlib.{Omega.{arith}, Nat.{pow-suc, pow-le-pow-right}}
 use lib.Pow.{pow-pos}
 use Rattle.exact.specs.Fraction.{Fraction, _≤f_, _≈f_, whole, _+f_, _·f_, inv, powf, sumOf}
-use Rattle.exact.proofs.Order.{trans≤, refl≈, sym≈, trans≈, whole≤, whole-pos, nonneg}
-use Rattle.exact.proofs.Sums.{cong+, le+, add-assoc}
-use Rattle.exact.proofs.Products.{mul-left≤, mul-nonneg, mul-one, cong·, whole-mul}
-use Rattle.exact.proofs.Quotients.{inv≤, inv-nonneg, split-inv}
-use Rattle.exact.proofs.Divisors.{inv-cong}
-use Rattle.exact.proofs.Series.{pow≤}
-use Rattle.exact.proofs.Squarings.{pow-inv}
-use Rattle.exact.proofs.ExpTerms.{half, double-sum}
-use Rattle.exact.proofs.Exponential.{inverse-high}
+use Rattle.exact.proofs.{Order.{trans≤, refl≈, sym≈, trans≈, whole≤, whole-pos, nonneg}, Sums.{cong+, le+, add-assoc}}
+use Rattle.exact.proofs.{Products.{mul-left≤, mul-nonneg, mul-one, cong·, whole-mul}, Quotients.{inv≤, inv-nonneg, split-inv}}
+use Rattle.exact.proofs.{Divisors.{inv-cong}, Series.{pow≤}, Squarings.{pow-inv}, ExpTerms.{half, double-sum}, Exponential.{inverse-high}}
 use Rattle.exact.proofs.Convolution.{zero-add}
 
 abbrev pub unit : ℕ → Fraction

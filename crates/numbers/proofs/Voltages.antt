@@ -2,23 +2,15 @@
 use native.Mathlib.Omega.{arith}
 use lib.Dec.{eqb}
 use Prim.Native.Nat.{_≤_}
-use Rattle.exact.specs.Exact.{Exact, exactly, _·x_, _÷x_}
-use Rattle.exact.specs.Depth.{PositiveAt}
-use Rattle.exact.proofs.Positive.{positive-exactly}
+use Rattle.exact.{specs.{Exact.{Exact, exactly, _·x_, _÷x_}, Depth.{PositiveAt}}, proofs.Positive.{positive-exactly}}
 use Rattle.exact.proofs.Quantity.{quantity-product, quantity-π}
-use Rattle.case.specs.declared.Case.{Case}
-use Rattle.case.specs.Bounds.{Bounds}
-use Rattle.formulas.specs.Lengths.{ρ, equalCounts, Ki}
-use Rattle.formulas.specs.Current.{IG}
-use Rattle.formulas.specs.Mesh.{Kh, innerWeight, Kii, Km, diagonal, LM, mesh}
-use Rattle.formulas.specs.Step.{halfPower, Ks, step}
-use Rattle.formulas.proofs.Positive.{D-pos, LS-pos}
-use Rattle.formulas.proofs.MeshArgument.{G-pos}
+use Rattle.case.specs.{declared.Case.{Case}, Bounds.{Bounds}}
+use Rattle.formulas.specs.{Lengths.{ρ, equalCounts, Ki}, Current.{IG}, Mesh.{Kh, innerWeight, Kii, Km, diagonal, LM, mesh}}
+use Rattle.formulas.{specs.Step.{halfPower, Ks, step}, proofs.{Positive.{D-pos, LS-pos}, MeshArgument.{G-pos}}}
 use Rattle.formulas.proofs.Conductors.{by-place, quantity-n}
 use Rattle.formulas.proofs.Quantities.{two, quantity-turn, quantity-Kh, quantity-line-root, twice-n, quantity-odd, quantity-spread}
 use Rattle.formulas.proofs.Quantities.{quantity-diagonal, quantity-LM}
-use Rattle.numbers.specs.Number.{Number}
-use Rattle.numbers.specs.Formulas.{CaseNumbers}
+use Rattle.numbers.specs.{Number.{Number}, Formulas.{CaseNumbers}}
 use Rattle.numbers.proofs.Rules.{number-exactly, number-root-exactly, numbers}
 use Rattle.numbers.proofs.Formulas.{number-Df, number-IG, number-n, number-Ki, number-tolerable-touch, number-tolerable-step}
 use Rattle.numbers.proofs.Formulas.{number-resistance, number-rise}

@@ -2,10 +2,7 @@
 -- fractions." Without this a formula's ends might stay apart, and two pairs that hold it need not meet.
 use mathlib.Core.List.{List}
 use Rattle.case.specs.declared.Case.{Case}
-use Rattle.formulas.specs.Lengths.{n}
-use Rattle.formulas.specs.Decrement.{Df}
-use Rattle.formulas.specs.Current.{IG}
-use Rattle.formulas.specs.Tolerable.{tolerableTouch, tolerableStep}
+use Rattle.formulas.specs.{Lengths.{n}, Decrement.{Df}, Current.{IG}, Tolerable.{tolerableTouch, tolerableStep}}
 use Rattle.formulas.specs.Mesh
 use Rattle.formulas.specs.Step
 use Rattle.formulas.specs.Resistance

@@ -1,9 +1,7 @@
 -- The two ends of a value come together: from one depth to the next the allowance halves. With consistency this makes an exact value one
 -- number.
 use Prim.Native.Nat.{ℕ, _^_, _≤_}
-use Rattle.exact.specs.Fraction.{Fraction, _≤f_, whole, _+f_, _÷f_}
-use Rattle.exact.specs.Exact.{Exact}
-use Rattle.exact.specs.Depth.{Consistent}
+use Rattle.exact.specs.{Fraction.{Fraction, _≤f_, whole, _+f_, _÷f_}, Exact.{Exact}, Depth.{Consistent}}
 
 -- b is at most w above a
 pub record Near (w a b : Fraction) : Type 0 where

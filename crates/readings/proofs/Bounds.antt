@@ -1,20 +1,12 @@
 -- How large a·R, its least, its greatest and its sum are, where no pair is out of range.
 use Prim.Native.Nat.{ℕ, zero, suc, _*_, _%_, _≤_}
-use mathlib.Core.Path.{_≡_}
-use mathlib.Core.Bool.{Bool, true, false, cond, and-eq-true-iff}
-use mathlib.Core.List.{List, [], _∷_}
-use native.Mathlib.Omega.{arith}
-use native.Mathlib.Nat.{mul-le-mul}
+use mathlib.Core.{Path.{_≡_}, Bool.{Bool, true, false, cond, and-eq-true-iff}, List.{List, [], _∷_}}
+use native.Mathlib.{Omega.{arith}, Nat.{mul-le-mul}}
 use borrow.Author.Tests.{leb-true, eqb-true}
-use lib.Dec.{leb}
-use lib.ListN.{length, drop}
-use Rattle.readings.specs.declared.outside.Range.{Range}
-use Rattle.readings.specs.declared.outside.Found.the-variants.{At, Nothing}
-use Rattle.readings.specs.Reading.{Reading, pairsOf}
-use Rattle.readings.specs.Limits.{mostNumbers, distances, resistances, inRange}
-use Rattle.readings.specs.Taken.{mostProduct, product, Bounded, Taken}
-use Rattle.readings.specs.Refusal.{soundCount, numberIn, firstOutside}
-use Rattle.readings.specs.Ends.{withProduct, productsOf}
+use lib.{Dec.{leb}, ListN.{length, drop}}
+use Rattle.readings.specs.{declared.outside.{Range.{Range}, Found.the-variants.{At, Nothing}}, Reading.{Reading, pairsOf}}
+use Rattle.readings.specs.{Limits.{mostNumbers, distances, resistances, inRange}, Taken.{mostProduct, product, Bounded, Taken}}
+use Rattle.readings.specs.{Refusal.{soundCount, numberIn, firstOutside}, Ends.{withProduct, productsOf}}
 use Rattle.readings.proofs.Pairs.{pair-count}
 
 -- ---- a number that is not out of range

@@ -1,30 +1,15 @@
 -- The apparent resistivity of a pair lies between the ends of 2π times a·R, and so do the least, the greatest and the sum over a list.
 use Prim.Native.Nat.{ℕ, _+_, _*_, _≤_, min, max}
-use mathlib.Core.Path.{_≡_, refl}
-use mathlib.Core.List.{List, [], _∷_}
+use mathlib.Core.{Path.{_≡_, refl}, List.{List, [], _∷_}}
 use native.Mathlib.Omega.{arith}
 use lib.Dec.{lit≤}
-use Rattle.interval.specs.declared.Interval.{Interval}
-use Rattle.interval.specs.Operations.{natural, scaledOf}
-use Rattle.interval.proofs.Natural.{natural-sum}
-use Rattle.exact.specs.Fraction.{whole, decimal, _·f_}
-use Rattle.exact.specs.Exact.{Exact, exactly, _+x_, _·x_}
-use Rattle.exact.specs.Pi.{π}
-use Rattle.exact.specs.Depth.{Consistent}
-use Rattle.exact.specs.Reported.{Scale, ten, over}
-use Rattle.exact.proofs.Order.{nonneg}
-use Rattle.exact.proofs.Reported.{decimal-over}
-use Rattle.exact.proofs.Consistency.{consistent-exactly, consistent-sum, consistent-product}
-use Rattle.exact.proofs.Pi.{consistent-π}
-use Rattle.exact.proofs.Factors.{product-turned}
-use Rattle.enclosure.specs.Enclosure.{Encloses}
-use Rattle.enclosure.specs.Pi.{πEnds}
-use Rattle.enclosure.proofs.Basics.{encloses-same}
-use Rattle.enclosure.proofs.Constants.{π-encloses}
-use Rattle.enclosure.proofs.Multiples.{encloses-rounded, encloses-multiple}
-use Rattle.enclosure.proofs.Sums.{encloses-sum}
-use Rattle.readings.specs.Reading.{Reading}
-use Rattle.readings.specs.Taken.{mostProduct, product, Bounded}
+use Rattle.interval.{specs.{declared.Interval.{Interval}, Operations.{natural, scaledOf}}, proofs.Natural.{natural-sum}}
+use Rattle.exact.specs.{Fraction.{whole, decimal, _·f_}, Exact.{Exact, exactly, _+x_, _·x_}, Pi.{π}, Depth.{Consistent}}
+use Rattle.exact.{specs.Reported.{Scale, ten, over}, proofs.{Order.{nonneg}, Reported.{decimal-over}}}
+use Rattle.exact.proofs.{Consistency.{consistent-exactly, consistent-sum, consistent-product}, Pi.{consistent-π}, Factors.{product-turned}}
+use Rattle.enclosure.{specs.{Enclosure.{Encloses}, Pi.{πEnds}}, proofs.{Basics.{encloses-same}, Constants.{π-encloses}}}
+use Rattle.enclosure.proofs.{Multiples.{encloses-rounded, encloses-multiple}, Sums.{encloses-sum}}
+use Rattle.readings.specs.{Reading.{Reading}, Taken.{mostProduct, product, Bounded}}
 use Rattle.readings.specs.Resistivity.{apparent, lesser, greater, together, least, greatest}
 use Rattle.readings.specs.Ends.{withProduct, productsOf, twoPiDigits, twoPiBelow, twoPiAbove, twoPi}
 use Rattle.readings.proofs.Extremes.{fine, twoPiTimes, consistent-lesser, consistent-greater, encloses-lesser, encloses-greater}
@@ -36,13 +21,11 @@ consistent-two-pi = consistent-product (consistent-exactly (whole 2)) consistent
 
 two-pi-encloses : Encloses (exactly (whole 2) ·x π) (ten twoPiDigits) twoPi
 unfolding twoPi πEnds natural over ten whole _·f_
-two-pi-encloses =
-    encloses-rounded (whole 2) (nonneg 2) (record { le = lit≤ tt }) (record { le = lit≤ tt }) consistent-π π-encloses
+two-pi-encloses = encloses-rounded (whole 2) (nonneg 2) (record { le = lit≤ tt }) (record { le = lit≤ tt }) consistent-π π-encloses
 
 -- times n thousandths
 by-thousandths : {x : Exact} {u : Scale} {i : Interval} (n : ℕ) (w : Scale) → w .count ≡ (ten 3) .count * u .count → Consistent x
-    → Encloses x u i
-    → Encloses (x ·x exactly (decimal n 3)) w (scaledOf i n)
+    → Encloses x u i → Encloses (x ·x exactly (decimal n 3)) w (scaledOf i n)
 unfolding _·x_
 by-thousandths n w s c e = encloses-same (product-turned _ _) (encloses-multiple n (ten 3) w s (decimal-over n 3) c e)
 

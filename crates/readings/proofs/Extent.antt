@@ -1,28 +1,17 @@
 -- The least and the greatest of a list are what their names say: the least is at or below the apparent resistivity of every pair, which is
 -- at or below the greatest; and some pair is at or below the least, some pair at or above the greatest.
 use Prim.Native.Nat.{ℕ, _≤_}
-use mathlib.Core.Path.{refl}
-use mathlib.Core.Logic.{_⊎_, inl, inr, ⊎-elim}
+use mathlib.Core.{Path.{refl}, Logic.{_⊎_, inl, inr, ⊎-elim}}
 use mathlib.Core.List.{List, [], _∷_, List·Memᴰ, List·Memᴰ·head, List·Memᴰ·tail, List·Memᴰ·cases-cons, List·Memᴰ·not-nil}
-use native.Mathlib.Decide.{decLe}
-use native.Mathlib.Omega.{arith}
-use Rattle.exact.specs.Fraction.{Fraction, _≤f_, whole, decimal, _·f_}
-use Rattle.exact.specs.Exact.{Exact, exactly, _·x_, AtOrBelow}
-use Rattle.exact.specs.Depth.{Consistent, PositiveAt, SameEnds}
-use Rattle.exact.specs.Pi.{π}
+use native.Mathlib.{Decide.{decLe}, Omega.{arith}}
+use Rattle.exact.specs.{Fraction.{Fraction, _≤f_, whole, decimal, _·f_}, Exact.{Exact, exactly, _·x_, AtOrBelow}}
+use Rattle.exact.specs.{Depth.{Consistent, PositiveAt, SameEnds}, Pi.{π}}
 use Rattle.exact.proofs.Order.{refl≤, trans≤, le-of-lt, not<, whole-pos, min-left, min-right, min-cases, max-left, max-right, max-cases}
-use Rattle.exact.proofs.Products.{mul≤, mul-left≤}
-use Rattle.exact.proofs.Fractions.{exactly-product}
-use Rattle.exact.proofs.KnownEnds.{same-refl, same-trans, scaledEnds, scaled-ends}
-use Rattle.exact.proofs.Alike.{product-same}
-use Rattle.exact.proofs.Factors.{product-turned, product-grouped}
-use Rattle.exact.proofs.Consistency.{proper-at, consistent-exactly, consistent-product}
-use Rattle.exact.proofs.Pi.{consistent-π}
-use Rattle.exact.proofs.Positive.{positive-upper}
-use Rattle.exact.proofs.Quantity.{quantity-exactly, quantity-product, quantity-π}
-use Rattle.readings.specs.Reading.{Reading}
-use Rattle.readings.specs.Taken.{product}
-use Rattle.readings.specs.Resistivity.{apparent, lesser, greater, together, least, greatest}
+use Rattle.exact.proofs.{Products.{mul≤, mul-left≤}, Fractions.{exactly-product}}
+use Rattle.exact.proofs.{KnownEnds.{same-refl, same-trans, scaledEnds, scaled-ends}, Alike.{product-same}}
+use Rattle.exact.proofs.{Factors.{product-turned, product-grouped}, Consistency.{proper-at, consistent-exactly, consistent-product}}
+use Rattle.exact.proofs.{Pi.{consistent-π}, Positive.{positive-upper}, Quantity.{quantity-exactly, quantity-product, quantity-π}}
+use Rattle.readings.specs.{Reading.{Reading}, Taken.{product}, Resistivity.{apparent, lesser, greater, together, least, greatest}}
 use Rattle.readings.proofs.Enclosed.{consistent-apparent}
 
 -- what an operation's outcome has to its arguments, the pairs taken together have to each of them
@@ -32,8 +21,7 @@ module _ (op : Exact → Exact → Exact) (R : Exact → Exact → Type 0) (same
   unfolding together
   every p [] m = absurd (List·Memᴰ·not-nil m)
   every p (q ∷ []) m = ⊎-elim (λ e. rw e (same _)) (λ n. absurd (List·Memᴰ·not-nil n)) (List·Memᴰ·cases-cons m)
-  every p (q ∷ r ∷ ps) m =
-      ⊎-elim (λ e. rw e (first _ _)) (λ n. later _ _ _ (every p (r ∷ ps) n)) (List·Memᴰ·cases-cons m)
+  every p (q ∷ r ∷ ps) m = ⊎-elim (λ e. rw e (first _ _)) (λ n. later _ _ _ (every p (r ∷ ps) n)) (List·Memᴰ·cases-cons m)
 
 module _ (p : Reading) (ps : List Reading) (m : List·Memᴰ p ps) where
   -- at each depth

@@ -1,22 +1,14 @@
 -- The lesser and the greater of two exact values: consistent where both are, and enclosed by the lesser and the greater of two counts.
 use Prim.Native.Nat.{ℕ, _+_, _*_, _≤_, min, max}
-use native.Mathlib.Omega.{arith}
-use native.Mathlib.Decide.{decLe}
+use native.Mathlib.{Omega.{arith}, Decide.{decLe}}
 use native.Mathlib.Nat.{mul-le-mul-left, min-le-left, min-le-right, min-eq-left, min-eq-right, le-max-left, le-max-right, max-eq-left}
 use native.Mathlib.Nat.{max-eq-right}
 use lib.IntN.{pos}
-use Rattle.interval.specs.declared.Interval.{Interval}
-use Rattle.interval.specs.Operations.{natural}
-use Rattle.interval.proofs.Choice.{pos≤}
-use Rattle.exact.specs.Fraction.{_≤f_, minf, maxf}
-use Rattle.exact.specs.Exact.{Exact}
-use Rattle.exact.specs.Depth.{workDepth, Consistent}
-use Rattle.exact.specs.Reported.{Scale, ten, over, reported}
-use Rattle.exact.proofs.Order.{trans≤, min-cases, max-cases, min-left, min-right, max-left, max-right}
-use Rattle.exact.proofs.Reported.{over≤}
+use Rattle.interval.{specs.{declared.Interval.{Interval}, Operations.{natural}}, proofs.Choice.{pos≤}}
+use Rattle.exact.specs.{Fraction.{_≤f_, minf, maxf}, Exact.{Exact}, Depth.{workDepth, Consistent}, Reported.{Scale, ten, over, reported}}
+use Rattle.exact.proofs.{Order.{trans≤, min-cases, max-cases, min-left, min-right, max-left, max-right}, Reported.{over≤}}
 use Rattle.enclosure.specs.Enclosure.{Encloses}
-use Rattle.readings.specs.Resistivity.{lesser, greater}
-use Rattle.readings.specs.Ends.{twoPiDigits, twoPiBelow, twoPiAbove}
+use Rattle.readings.specs.{Resistivity.{lesser, greater}, Ends.{twoPiDigits, twoPiBelow, twoPiAbove}}
 
 module _ {x y : Exact} (cx : Consistent x) (cy : Consistent y) where
   pub consistent-lesser : Consistent (lesser x y)

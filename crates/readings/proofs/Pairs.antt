@@ -1,7 +1,6 @@
 -- The pairs of a list of numbers: how many, and which numbers each has.
 use Prim.Native.Nat.{ℕ, zero, suc, _+_, _*_, _/_, _<_}
-use mathlib.Core.Path.{_≡_, refl}
-use mathlib.Core.List.{List, [], _∷_}
+use mathlib.Core.{Path.{_≡_, refl}, List.{List, [], _∷_}}
 use native.Mathlib.Omega.{arith}
 use lib.ListN.{length, getD, drop}
 use Rattle.readings.specs.Reading.{Reading, pairsOf}

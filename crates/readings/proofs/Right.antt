@@ -1,38 +1,18 @@
 -- The report on a list that is not refused is right: each pair of ends encloses its exact value and is narrow.
 use Prim.Native.Nat.{ℕ, _*_, _^_, _≤_, _<_}
-use mathlib.Core.Path.{_≡_, refl, ap}
-use mathlib.Core.List.{List, [], _∷_}
+use mathlib.Core.{Path.{_≡_, refl, ap}, List.{List, [], _∷_}}
 use native.Mathlib.Omega.{arith}
-use lib.Dec.{lit<}
-use lib.IntN.{ℤ, pos}
-use lib.ListN.{length}
-use Rattle.interval.specs.Signed.{plus, minus}
-use Rattle.interval.specs.declared.Interval.{Interval}
-use Rattle.interval.specs.Operations.{outwardOf}
-use Rattle.interval.proofs.Natural.{natural-outward}
-use Rattle.exact.specs.Fraction.{_≈f_, whole, inv, _·f_}
-use Rattle.exact.specs.Exact.{Exact, exactly, _·x_, _÷x_}
-use Rattle.exact.specs.Depth.{workDepth, Consistent, SameEnds}
-use Rattle.exact.specs.Reported.{Scale, ten, over, Reports}
-use Rattle.exact.proofs.Order.{whole-pos}
-use Rattle.exact.proofs.Reported.{scaleProduct}
-use Rattle.exact.proofs.Quotients.{clamped, inv-nonneg}
-use Rattle.exact.proofs.Consistency.{consistent-exactly, consistent-quotient}
-use Rattle.exact.proofs.Positive.{positive-exactly}
-use Rattle.exact.proofs.Alike.{quotient-product}
-use Rattle.exact.proofs.KnownEnds.{same-trans}
-use Rattle.exact.proofs.Factors.{product-turned}
-use Rattle.enclosure.specs.Enclosure.{Encloses}
-use Rattle.enclosure.proofs.Basics.{encloses-same, encloses-outward}
-use Rattle.enclosure.proofs.Multiples.{encloses-rounded}
+use lib.{Dec.{lit<}, IntN.{ℤ, pos}, ListN.{length}}
+use Rattle.interval.{specs.{Signed.{plus, minus}, declared.Interval.{Interval}, Operations.{outwardOf}}, proofs.Natural.{natural-outward}}
+use Rattle.exact.specs.{Fraction.{_≈f_, whole, inv, _·f_}, Exact.{Exact, exactly, _·x_, _÷x_}, Depth.{workDepth, Consistent, SameEnds}}
+use Rattle.exact.{specs.Reported.{Scale, ten, over, Reports}, proofs.{Order.{whole-pos}, Reported.{scaleProduct}}}
+use Rattle.exact.proofs.{Quotients.{clamped, inv-nonneg}, Consistency.{consistent-exactly, consistent-quotient}}
+use Rattle.exact.proofs.{Positive.{positive-exactly}, Alike.{quotient-product}, KnownEnds.{same-trans}, Factors.{product-turned}}
+use Rattle.enclosure.{specs.Enclosure.{Encloses}, proofs.{Basics.{encloses-same, encloses-outward}, Multiples.{encloses-rounded}}}
 use Rattle.enclosure.proofs.Reporting.{reports}
-use Rattle.readings.specs.Reading.{Reading, pairsOf}
-use Rattle.readings.specs.Taken.{Bounded, Taken}
-use Rattle.readings.specs.Resistivity.{least, greatest, mean}
-use Rattle.readings.specs.Report.{μΩm, width, RightReport}
-use Rattle.readings.specs.Ends.{productsOf, twoPiBelow, twoPiAbove, twoPiUnit, endsOf, reportOf}
-use Rattle.readings.proofs.Spans.{unit-pos, ends-are, ends-narrow}
-use Rattle.readings.proofs.Extremes.{fine, twoPiTimes}
+use Rattle.readings.specs.{Reading.{Reading, pairsOf}, Taken.{Bounded, Taken}, Resistivity.{least, greatest, mean}}
+use Rattle.readings.specs.{Report.{μΩm, width, RightReport}, Ends.{productsOf, twoPiBelow, twoPiAbove, twoPiUnit, endsOf, reportOf}}
+use Rattle.readings.proofs.{Spans.{unit-pos, ends-are, ends-narrow}, Extremes.{fine, twoPiTimes}}
 use Rattle.readings.proofs.Enclosed.{least-joined, greatest-joined, sum-joined}
 
 -- ---- a value over a count

@@ -1,18 +1,10 @@
 -- The search for the first pair with a number out of range: what holds while the first k pairs have none.
 use Prim.Native.Nat.{ℕ, _+_, _-_, _*_, _/_, _≤_, _<_}
-use mathlib.Core.Path.{_≡_, refl, sym, _∙_}
-use mathlib.Core.Bool.{true, false}
-use mathlib.Core.List.{List}
-use mathlib.Core.Logic.{_⊎_, inl, inr}
-use native.Mathlib.Numerals.{add-one}
-use native.Mathlib.Omega.{arith}
-use native.Mathlib.Nat.{eq-or-lt-of-le}
+use mathlib.Core.{Path.{_≡_, refl, sym, _∙_}, Bool.{true, false}, List.{List}, Logic.{_⊎_, inl, inr}}
+use native.Mathlib.{Numerals.{add-one}, Omega.{arith}, Nat.{eq-or-lt-of-le}}
 use borrow.Author.Tests.{eq-eqb, ne-eqb}
 use lib.ListN.{length, getD, drop, drop-of-length-le}
-use Rattle.readings.specs.declared.outside.Range.{Range}
-use Rattle.readings.specs.declared.outside.Found.the-variants.{At, Nothing}
-use Rattle.readings.specs.Reading.{pairsOf}
-use Rattle.readings.specs.Limits.{inRange}
+use Rattle.readings.specs.{declared.outside.{Range.{Range}, Found.the-variants.{At, Nothing}}, Reading.{pairsOf}, Limits.{inRange}}
 use Rattle.readings.specs.Refusal.{numberIn, firstOutside}
 use Rattle.readings.proofs.Pairs.{pair-count, pairAt, pairs-at}
 

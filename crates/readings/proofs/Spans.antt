@@ -2,23 +2,13 @@
 use Prim.Native.Nat.{ℕ, _+_, _*_, _/_, _≤_, _<_}
 use mathlib.Core.Path.{_≡_, refl}
 use native.Mathlib.Omega.{arith}
-use lib.Dec.{lit<, lit≤}
-use lib.IntN.{pos}
-use Rattle.interval.specs.Whole.{ceilDiv}
-use Rattle.interval.specs.Operations.{natural, point}
-use Rattle.interval.specs.Span.{Span, Relative}
-use Rattle.interval.specs.Wide.{Wide}
-use Rattle.interval.proofs.Natural.{point-natural, natural-product}
-use Rattle.interval.proofs.Relatives.{relative-product}
-use Rattle.interval.proofs.Rounding.{ceilDiv-by}
-use Rattle.interval.proofs.Span.{span-natural, span-point, floor≤ceil}
-use Rattle.interval.proofs.WideProduct.{wide-fits}
-use Rattle.interval.proofs.Rules.{lits}
+use lib.{Dec.{lit<, lit≤}, IntN.{pos}}
+use Rattle.interval.specs.{Whole.{ceilDiv}, Operations.{natural, point}, Span.{Span, Relative}, Wide.{Wide}}
+use Rattle.interval.proofs.{Natural.{point-natural, natural-product}, Relatives.{relative-product}, Rounding.{ceilDiv-by}}
+use Rattle.interval.proofs.{Span.{span-natural, span-point, floor≤ceil}, WideProduct.{wide-fits}, Rules.{lits}}
 use Rattle.interval.proofs.NumeralSpans.{numeral-natural}
-use Rattle.exact.specs.Fraction.{decimal, _+f_, neg, _−f_, _·f_}
-use Rattle.exact.specs.Reported.{ten, over, reported, AtMost}
-use Rattle.readings.specs.Taken.{mostPairs, mostProduct}
-use Rattle.readings.specs.Report.{μΩm, width}
+use Rattle.exact.specs.{Fraction.{decimal, _+f_, neg, _−f_, _·f_}, Reported.{ten, over, reported, AtMost}}
+use Rattle.readings.specs.{Taken.{mostPairs, mostProduct}, Report.{μΩm, width}}
 use Rattle.readings.specs.Ends.{twoPiBelow, twoPiAbove, twoPi, twoPiUnit, mostMean, endsOf}
 
 two-pi-span : Span twoPi twoPiBelow twoPiAbove 1

@@ -1,13 +1,8 @@
 -- What is promised of the answer to every list of numbers.
 use Prim.Native.Nat.{ℕ}
-use mathlib.Core.Path.{_≡_}
-use mathlib.Core.List.{List}
-use Rattle.readings.specs.declared.Sounding.{Sounding}
-use Rattle.readings.specs.declared.Sounding.the-variants.{Soil, Refused}
-use Rattle.readings.specs.Reading.{Reading, pairsOf}
-use Rattle.readings.specs.Refusal.{answerOf}
-use Rattle.readings.specs.Report.{RightReport}
-use Rattle.readings.specs.Ends.{reportOf}
+use mathlib.Core.{Path.{_≡_}, List.{List}}
+use Rattle.readings.specs.{declared.Sounding.{Sounding, the-variants.{Soil, Refused}}, Reading.{Reading, pairsOf}, Refusal.{answerOf}}
+use Rattle.readings.specs.{Report.{RightReport}, Ends.{reportOf}}
 
 -- a report is right; of a refusal nothing is asked here
 unfoldable pub RightAnswer : List Reading → Sounding → Type 0

@@ -1,14 +1,9 @@
 -- The ends that the code works, by whole numbers. Names for the free part: callers use what holds of them.
 use Prim.Native.Nat.{ℕ, _+_, _*_, _/_, _^_, min, max}
 use mathlib.Core.List.{List, [], _∷_}
-use lib.IntN.{pos}
-use lib.ListN.{length}
-use Rattle.interval.specs.declared.Interval.{Interval}
-use Rattle.interval.specs.Operations.{natural, point, productOf}
-use Rattle.readings.specs.declared.Report.{Report}
-use Rattle.readings.specs.declared.products.Products.{Products}
-use Rattle.readings.specs.Reading.{Reading}
-use Rattle.readings.specs.Taken.{mostProduct, product}
+use lib.{IntN.{pos}, ListN.{length}}
+use Rattle.interval.specs.{declared.Interval.{Interval}, Operations.{natural, point, productOf}}
+use Rattle.readings.specs.{declared.{Report.{Report}, products.Products.{Products}}, Reading.{Reading}, Taken.{mostProduct, product}}
 use Rattle.readings.specs.Report.{soilOf}
 
 -- the least, the greatest and the sum of a·R, in mm times milliohms

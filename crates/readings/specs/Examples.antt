@@ -1,25 +1,16 @@
 -- The definitions at small numbers, computed.
 use Prim.Native.Nat.{ℕ}
-use mathlib.Core.Path.{_≡_, refl}
-use mathlib.Core.Bool.{true, false}
-use mathlib.Core.List.{List, [], _∷_, map}
+use mathlib.Core.{Path.{_≡_, refl}, Bool.{true, false}, List.{List, [], _∷_, map}}
 use native.Mathlib.Decide.{decLe}
 use lib.Dec.{lit≤}
-use Rattle.interval.specs.Whole.{ceilDiv}
-use Rattle.interval.specs.Operations.{natural}
+use Rattle.interval.specs.{Whole.{ceilDiv}, Operations.{natural}}
 use Rattle.exact.specs.Fraction.{_≈f_, whole, decimal, _+f_, neg, _−f_, _·f_, inv, _÷f_, decLef, choose, minf, maxf}
 use Rattle.exact.specs.Ends.{least as leastOf, greatest as greatestOf, combine, _+e_, _−e_, _·e_, _÷e_}
-use Rattle.exact.specs.Exact.{exactly, _+x_, _−x_, _·x_, _÷x_}
-use Rattle.exact.specs.Pi.{alternating, arctanTerm, arctanOver, π}
-use Rattle.exact.specs.Depth.{Within}
+use Rattle.exact.specs.{Exact.{exactly, _+x_, _−x_, _·x_, _÷x_}, Pi.{alternating, arctanTerm, arctanOver, π}, Depth.{Within}}
 use Rattle.exact.specs.Reported.{ten, over, reported}
-use Rattle.readings.specs.declared.Report.{Report}
-use Rattle.readings.specs.declared.Sounding.the-variants.{Soil, Refused}
-use Rattle.readings.specs.Reading.{Reading, pairsOf}
-use Rattle.readings.specs.Limits.{inRange}
-use Rattle.readings.specs.Resistivity.{apparent, lesser, greater, together, least, greatest, mean}
-use Rattle.readings.specs.Refusal.{soundCount, numberIn, firstOutside, refusedAt, judged, answerOf}
-use Rattle.readings.specs.Report.{μΩm, width, soilOf}
+use Rattle.readings.specs.{declared.{Report.{Report}, Sounding.the-variants.{Soil, Refused}}, Reading.{Reading, pairsOf}}
+use Rattle.readings.specs.{Limits.{inRange}, Resistivity.{apparent, lesser, greater, together, least, greatest, mean}}
+use Rattle.readings.specs.{Refusal.{soundCount, numberIn, firstOutside, refusedAt, judged, answerOf}, Report.{μΩm, width, soilOf}}
 
 -- 1 m and 10 Ω, 2 m and 3 Ω, 3 m and 1 Ω: 2π times 10, 6 and 3 Ω·m
 three : List Reading

@@ -2,17 +2,10 @@
 -- when a distance is out of range; 14 when a resistance is; the last two with the first such pair's place from 1 as line, and column 1 or
 -- 2."
 use Prim.Native.Nat.{ℕ, suc, _%_}
-use mathlib.Core.Bool.{Bool, cond, _&&_}
-use mathlib.Core.List.{List, [], _∷_}
-use lib.Dec.{leb, eqb}
-use lib.ListN.{length}
-use Rattle.readings.specs.declared.outside.Range.{Range}
-use Rattle.readings.specs.declared.Report.{Report}
-use Rattle.readings.specs.declared.Sounding.{Sounding}
-use Rattle.readings.specs.declared.Sounding.the-variants.{Soil, Refused}
-use Rattle.readings.specs.declared.outside.Found.{Found}
-use Rattle.readings.specs.declared.outside.Found.the-variants.{At, Nothing}
-use Rattle.readings.specs.Reading.{Reading, pairsOf}
+use mathlib.Core.{Bool.{Bool, cond, _&&_}, List.{List, [], _∷_}}
+use lib.{Dec.{leb, eqb}, ListN.{length}}
+use Rattle.readings.specs.declared.{outside.Range.{Range}, Report.{Report}, Sounding.{Sounding, the-variants.{Soil, Refused}}}
+use Rattle.readings.specs.{declared.outside.Found.{Found, the-variants.{At, Nothing}}, Reading.{Reading, pairsOf}}
 use Rattle.readings.specs.Limits.{mostNumbers, distances, resistances, inRange}
 
 -- not 0, odd or above 128

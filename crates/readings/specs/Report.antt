@@ -1,16 +1,11 @@
 -- What a report is. Document 02 (g): "The report gives the ends of the least, the greatest and the mean over all pairs in micro-ohm metres,
 -- at most 1/1,000,000 of the lower end plus 2 apart, and the upper mean rounded up to whole ohm metres for the soil column."
 use Prim.Native.Nat.{ℕ}
-use mathlib.Core.Path.{_≡_}
-use mathlib.Core.List.{List}
+use mathlib.Core.{Path.{_≡_}, List.{List}}
 use lib.IntN.{natAbs}
-use Rattle.interval.specs.declared.Interval.{Interval}
-use Rattle.interval.specs.Whole.{ceilDiv}
-use Rattle.exact.specs.Fraction.{Fraction, decimal, _+f_, _·f_}
-use Rattle.exact.specs.Ends.{Ends}
-use Rattle.exact.specs.Reported.{Scale, ten, Reports}
-use Rattle.readings.specs.declared.Report.{Report}
-use Rattle.readings.specs.Reading.{Reading}
+use Rattle.interval.specs.{declared.Interval.{Interval}, Whole.{ceilDiv}}
+use Rattle.exact.specs.{Fraction.{Fraction, decimal, _+f_, _·f_}, Ends.{Ends}, Reported.{Scale, ten, Reports}}
+use Rattle.readings.specs.{declared.Report.{Report}, Reading.{Reading}}
 use Rattle.readings.specs.Resistivity as Resistivity
 
 -- micro-ohm metres

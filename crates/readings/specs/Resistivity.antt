@@ -2,9 +2,7 @@
 -- apparent resistivity is 2π·a·R. The report gives the ends of the least, the greatest and the mean over all pairs".
 use mathlib.Core.List.{List, [], _∷_}
 use lib.ListN.{length}
-use Rattle.exact.specs.Fraction.{whole, decimal, minf, maxf}
-use Rattle.exact.specs.Exact.{Exact, exactly, _+x_, _·x_, _÷x_}
-use Rattle.exact.specs.Pi.{π}
+use Rattle.exact.specs.{Fraction.{whole, decimal, minf, maxf}, Exact.{Exact, exactly, _+x_, _·x_, _÷x_}, Pi.{π}}
 use Rattle.readings.specs.Reading.{Reading}
 
 -- 2π·a·R, with a in metres and R in ohms

@@ -2,8 +2,7 @@
 use Prim.Native.Nat.{ℕ, _*_, _/_, _≤_}
 use mathlib.Core.List.{List, [], _∷_}
 use lib.ListN.{length}
-use Rattle.readings.specs.Reading.{Reading, pairsOf}
-use Rattle.readings.specs.Limits.{mostNumbers, distances, resistances}
+use Rattle.readings.specs.{Reading.{Reading, pairsOf}, Limits.{mostNumbers, distances, resistances}}
 
 -- the most pairs, and the most that a·R is, in mm times milliohms
 abbrev pub mostPairs : ℕ

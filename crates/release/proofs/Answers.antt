@@ -1,21 +1,14 @@
 -- The claim about a sheet, a licence and a table, from what the checks found.
 use Prim.Native.Nat.{ℕ, _*_, _/_, _≤_, _<_}
-use mathlib.Core.Path.{_≡_, refl}
-use mathlib.Core.Bool.{true, false}
-use mathlib.Core.List.{List, []}
-use lib.IntN.{ℤ}
-use lib.ListN.{length}
+use mathlib.Core.{Path.{_≡_, refl}, Bool.{true, false}, List.{List, []}}
+use lib.{IntN.{ℤ}, ListN.{length}}
 use borrow.Author.Tests.{lt-ltb, le-ltb}
-use Rattle.case.specs.declared.Case.{Case}
-use Rattle.case.specs.Columns.{columns}
+use Rattle.case.specs.{declared.Case.{Case}, Columns.{columns}}
 use Rattle.judgement.specs.declared.Judgement.the-variants as judged
 use Rattle.judgement.specs.Sheet.{judgement}
 use Rattle.sheet.specs.Answer.{cases}
-use Rattle.release.specs.declared.licence.Wrong.the-variants.{At, Nothing}
-use Rattle.release.specs.declared.Released.{Released}
-use Rattle.release.specs.declared.Released.the-variants.{Pairs, Refused}
-use Rattle.release.specs.Licence.{pairsOf, badCount, firstWrong}
-use Rattle.release.specs.Pair.{pairLength, releaseOf}
+use Rattle.release.specs.declared.{licence.Wrong.the-variants.{At, Nothing}, Released.{Released, the-variants.{Pairs, Refused}}}
+use Rattle.release.specs.{Licence.{pairsOf, badCount, firstWrong}, Pair.{pairLength, releaseOf}}
 use Rattle.release.specs.Answer.{roomAnswer, afterPairs, licenceAnswer, afterSheet, releaseAnswer, Filled, TableAfter, LinesReleased}
 use Rattle.release.specs.Answer.{ReleaseAnswered}
 use Rattle.release.proofs.Pairs.{pair-count}

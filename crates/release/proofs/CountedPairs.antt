@@ -1,32 +1,18 @@
 -- What an answer that is a count of pairs says: the sheet was read, its cases are within their bounds, and the count is that of the pairs.
 use Prim.Native.Nat.{ℕ, _*_, _/_, _<_}
-use mathlib.Core.Path.{_≡_, refl, sym, _∙_}
-use mathlib.Core.Bool.{Bool, true, false, cond}
-use mathlib.Core.List.{List, []}
-use lib.Dec.{ltb}
-use lib.ListN.{length, length-map}
-use Rattle.text.proofs.Clash.{clash}
-use Rattle.text.specs.Text.{fieldsOf}
-use Rattle.case.specs.Columns.{columns}
-use Rattle.case.specs.Bounds.{Bounds}
+use mathlib.Core.{Path.{_≡_, refl, sym, _∙_}, Bool.{Bool, true, false, cond}, List.{List, []}}
+use lib.{Dec.{ltb}, ListN.{length, length-map}}
+use Rattle.text.{specs.Text.{fieldsOf}, proofs.Clash.{clash}}
+use Rattle.case.specs.{Columns.{columns}, Bounds.{Bounds}}
 use Rattle.header.specs.Header.{columnsOf}
 use Rattle.line.specs.Line.{lineCase}
-use Rattle.judgement.specs.declared.Judgement.{Judgement}
+use Rattle.judgement.{specs.{declared.Judgement.{Judgement}, Sheet.{names, valueLines, judgement}}, proofs.Accepted.{accepted}}
 use Rattle.judgement.specs.declared.Judgement.the-variants as judged
-use Rattle.judgement.specs.Sheet.{names, valueLines, judgement}
-use Rattle.judgement.proofs.Accepted.{accepted}
-use Rattle.sheet.specs.Answer.{cases}
-use Rattle.sheet.proofs.Accepted.{sound-bounds}
-use Rattle.sheet.proofs.StoredCases.{case-at}
-use Rattle.release.specs.declared.licence.Wrong.{Wrong}
-use Rattle.release.specs.declared.licence.Wrong.the-variants.{At, Nothing}
-use Rattle.release.specs.declared.Released.the-variants.{Pairs, Refused}
-use Rattle.release.specs.Licence.{pairsOf, badCount, firstWrong}
-use Rattle.release.specs.Pair.{pairLength}
-use Rattle.tally.specs.Tally.{EveryBounds}
-use Rattle.release.specs.Answer.{roomAnswer, afterPairs, licenceAnswer, afterSheet, releaseAnswer}
-use Rattle.release.specs.Meaning.{lineAt}
-use Rattle.tally.proofs.Members.{every-bounds}
+use Rattle.sheet.{specs.Answer.{cases}, proofs.{Accepted.{sound-bounds}, StoredCases.{case-at}}}
+use Rattle.release.specs.declared.{licence.Wrong.{Wrong, the-variants.{At, Nothing}}, Released.the-variants.{Pairs, Refused}}
+use Rattle.release.specs.{Licence.{pairsOf, badCount, firstWrong}, Pair.{pairLength}}
+use Rattle.release.specs.{Answer.{roomAnswer, afterPairs, licenceAnswer, afterSheet, releaseAnswer}, Meaning.{lineAt}}
+use Rattle.tally.{specs.Tally.{EveryBounds}, proofs.Members.{every-bounds}}
 use Rattle.release.proofs.Pairs.{pair-count}
 
 -- ---- an answer that is a count of pairs

@@ -1,16 +1,10 @@
 -- The pairs of a licence: how many, which numbers each has, and the search for the first that is wrong.
 use Prim.Native.Nat.{ℕ, zero, suc, _+_, _*_, _/_, _≤_, _<_}
-use mathlib.Core.Path.{_≡_, refl, sym, _∙_}
-use mathlib.Core.Bool.{Bool, true, false, cond, _||_}
-use mathlib.Core.List.{List, [], _∷_}
-use native.Mathlib.Numerals.{add-one}
-use native.Mathlib.Omega.{arith}
-use lib.Dec.{eqb}
-use lib.ListN.{length, getD, drop, drop-of-length-le}
-use Rattle.release.specs.declared.licence.Wrong.{Wrong}
-use Rattle.release.specs.declared.licence.Wrong.the-variants.{At, Nothing}
-use Rattle.release.specs.Licence.{pairsOf, among, wrongStation, wrongSeasons, firstWrong}
-use Rattle.release.specs.Earlier.{pairAt, earlier, wrongAt}
+use mathlib.Core.{Path.{_≡_, refl, sym, _∙_}, Bool.{Bool, true, false, cond, _||_}, List.{List, [], _∷_}}
+use native.Mathlib.{Numerals.{add-one}, Omega.{arith}}
+use lib.{Dec.{eqb}, ListN.{length, getD, drop, drop-of-length-le}}
+use Rattle.release.specs.declared.licence.Wrong.{Wrong, the-variants.{At, Nothing}}
+use Rattle.release.specs.{Licence.{pairsOf, among, wrongStation, wrongSeasons, firstWrong}, Earlier.{pairAt, earlier, wrongAt}}
 
 pub pair-count : (s : List ℕ) → length (pairsOf s) ≡ length s / 2
 unfolding pairsOf

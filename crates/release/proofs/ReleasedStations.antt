@@ -1,27 +1,19 @@
 -- What the eight numbers in the table say of the sheet: a released station, the fault current reported, and that a station is released
 -- exactly when the five counts are 0.
 use Prim.Native.Nat.{ℕ, _+_, _/_, _<_}
-use mathlib.Core.Path.{_≡_, refl, sym, ap, _∙_}
-use mathlib.Core.Bool.{Bool, true, false, cond}
-use mathlib.Core.List.{List}
-use mathlib.Core.Logic.{_⊎_, inl, inr}
+use mathlib.Core.{Path.{_≡_, refl, sym, ap, _∙_}, Bool.{Bool, true, false, cond}, List.{List}, Logic.{_⊎_, inl, inr}}
 use native.Mathlib.Omega.{arith}
-use lib.Dec.{eqb}
-use lib.IntN.{ℤ, pos, natAbs}
-use lib.ListN.{length, getD}
+use lib.{Dec.{eqb}, IntN.{ℤ, pos, natAbs}, ListN.{length, getD}}
 use borrow.Author.Tests.{eqb-true, eq-eqb}
 use Rattle.tables.specs.Parts.{partAt}
 use Rattle.case.specs.declared.Case.{Case}
 use Rattle.sheet.specs.Answer.{cases}
-use Rattle.release.specs.declared.Released.the-variants.{Pairs}
-use Rattle.release.specs.Licence.{pairsOf}
-use Rattle.tally.specs.Lines.{linesOf, countOf, missing, answeredUnsafe, answeredUndecided, otherYard, tooSmall, firstLine}
-use Rattle.release.specs.Pair.{pairLength, numbersOf, stationNumbers, releaseOf}
-use Rattle.tally.specs.Tally.{released, EveryBounds}
-use Rattle.release.specs.Answer.{Filled, TableAfter, ReleaseAnswered}
+use Rattle.release.specs.{declared.Released.the-variants.{Pairs}, Licence.{pairsOf}}
+use Rattle.release.specs.{Pair.{pairLength, numbersOf, stationNumbers, releaseOf}, Answer.{Filled, TableAfter, ReleaseAnswered}}
 use Rattle.release.specs.Meaning.{numberAt, stationAt, seasonsAt, ReleasedStation, FaultReported, NothingFound}
-use Rattle.release.proofs.Tables.{release-count, release-at}
-use Rattle.release.proofs.CountedPairs.{Counted, counted, cases-bounds}
+use Rattle.tally.specs.Lines.{linesOf, countOf, missing, answeredUnsafe, answeredUndecided, otherYard, tooSmall, firstLine}
+use Rattle.tally.specs.Tally.{released, EveryBounds}
+use Rattle.release.proofs.{Tables.{release-count, release-at}, CountedPairs.{Counted, counted, cases-bounds}}
 use Rattle.release.proofs.StationMeaning.{station-released, fault-reported}
 
 -- ---- the numbers in the table

@@ -1,34 +1,22 @@
 -- A station by its lines: what five counts of 0 say of every line, and what the fault current reported says.
 use Prim.Native.Nat.{ℕ, _≤_, _<_}
-use mathlib.Core.Path.{_≡_, refl, sym, _∙_}
-use mathlib.Core.Bool.{Bool, true, false, cond}
-use mathlib.Core.Logic.{_⊎_, inl, inr}
-use mathlib.Core.List.{List, []}
+use mathlib.Core.{Path.{_≡_, refl, sym, _∙_}, Bool.{Bool, true, false, cond}, Logic.{_⊎_, inl, inr}, List.{List, []}}
 use native.Mathlib.Omega.{arith}
-use lib.Dec.{eqb}
-use lib.ListN.{length, getD}
+use lib.{Dec.{eqb}, ListN.{length, getD}}
 use borrow.Author.Tests.{eqb-true, ltb-false, not-false}
 use Rattle.text.proofs.Clash.{clash}
-use Rattle.case.specs.declared.Case.{Case}
-use Rattle.case.specs.Case.{caseOf}
-use Rattle.case.specs.Bounds.{Bounds}
-use Rattle.case.specs.Fault.{withFault}
-use Rattle.row.specs.declared.Verdict.{Verdict}
-use Rattle.row.specs.declared.Verdict.the-variants.{Safe, Unsafe, Undecided}
-use Rattle.row.specs.Verdict.{verdictNumber}
-use Rattle.row.specs.Ends.{rowOf}
+use Rattle.case.specs.{declared.Case.{Case}, Case.{caseOf}, Bounds.{Bounds}, Fault.{withFault}}
+use Rattle.row.specs.{declared.Verdict.{Verdict, the-variants.{Safe, Unsafe, Undecided}}, Verdict.{verdictNumber}, Ends.{rowOf}}
 use Rattle.row.proofs.Right.{right-row}
 use Rattle.yards.specs.Yards.{isSafe}
 use Rattle.sheet.specs.Answer.{cases}
 use Rattle.headroom.specs.Headroom.{InRange}
-use Rattle.tally.specs.Lines.{linesOf, countOf, missing, answeredUnsafe, answeredUndecided, sameYard, otherYard, tooSmall}
-use Rattle.tally.specs.Lines.{firstLine}
-use Rattle.tally.specs.Fault.{everySafe, commonFault, stationFault}
-use Rattle.tally.specs.Tally.{EveryBounds}
-use Rattle.release.specs.Meaning.{lineAt, LineOf, SeasonLine, OneYard, ReleasedStation, SafeThroughout, FaultReported}
+use Rattle.tally.specs.Lines.{linesOf, countOf, missing, answeredUnsafe, answeredUndecided, sameYard, otherYard, tooSmall, firstLine}
+use Rattle.tally.specs.{Fault.{everySafe, commonFault, stationFault}, Tally.{EveryBounds}}
 use Rattle.tally.proofs.Faults.{left, right, test-safe, safe-test, UpTo, common-up-to}
 use Rattle.tally.proofs.Members.{Member, line-member, Found, member-line, every-at, lines-bounds, count-none, Seasoned, has-line}
 use Rattle.tally.proofs.Members.{season-has-line, every-safe-at, at-every-safe}
+use Rattle.release.specs.Meaning.{lineAt, LineOf, SeasonLine, OneYard, ReleasedStation, SafeThroughout, FaultReported}
 
 -- ---- the tests of a line
 

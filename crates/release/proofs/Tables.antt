@@ -1,20 +1,14 @@
 -- The table: eight numbers a pair, one pair after the other.
 use Prim.Native.Nat.{ℕ, zero, suc, _+_, _*_, _-_, _/_, _≤_, _<_}
-use mathlib.Core.Path.{_≡_, refl, _∙_}
-use mathlib.Core.List.{List, [], _∷_}
+use mathlib.Core.{Path.{_≡_, refl, _∙_}, List.{List, [], _∷_}}
 use native.Mathlib.Omega.{arith}
-use lib.IntN.{ℤ}
-use lib.ListN.{length, getD, set, length-map}
+use lib.{IntN.{ℤ}, ListN.{length, getD, set, length-map}}
 use borrow.Rule.Slice.PartMut.{putMid}
-use Rattle.tables.specs.Parts.{Written}
-use Rattle.tables.proofs.Writing.{put-written}
+use Rattle.tables.{specs.Parts.{Written}, proofs.Writing.{put-written}}
 use Rattle.case.specs.declared.Case.{Case}
-use Rattle.tally.specs.declared.Tally.{Tally}
-use Rattle.release.specs.Licence.{pairsOf}
-use Rattle.release.specs.Pair.{eight, numbersOf, pairLength, stationNumbers, releaseOf}
-use Rattle.tally.specs.Lines.{missing, without, firstLine}
-use Rattle.tally.specs.Fault.{stationFault}
+use Rattle.tally.specs.{declared.Tally.{Tally}, Lines.{missing, without, firstLine}, Fault.{stationFault}}
 use Rattle.tally.specs.Tally.{tallyOf, lacks, missingBy}
+use Rattle.release.specs.{Licence.{pairsOf}, Pair.{eight, numbersOf, pairLength, stationNumbers, releaseOf}}
 use Rattle.release.proofs.Pairs.{pair-count}
 
 pub eight-set : (l : List ℤ) (a b c d e f g h : ℤ) → length l ≡ pairLength

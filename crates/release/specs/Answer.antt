@@ -1,23 +1,14 @@
 -- The answer to a sheet, a licence and a table, and what it leaves in the table: one claim over every three of them.
 use Prim.Native.Nat.{ℕ, _*_}
-use mathlib.Core.Path.{_≡_}
-use mathlib.Core.Bool.{cond}
-use mathlib.Core.List.{List, []}
-use lib.Dec.{ltb}
-use lib.IntN.{ℤ}
-use lib.ListN.{length, getD}
+use mathlib.Core.{Path.{_≡_}, Bool.{cond}, List.{List, []}}
+use lib.{Dec.{ltb}, IntN.{ℤ}, ListN.{length, getD}}
 use Rattle.tables.specs.Parts as parts
-use Rattle.case.specs.declared.Case.{Case}
-use Rattle.case.specs.Columns.{columns}
-use Rattle.judgement.specs.declared.Judgement.{Judgement}
+use Rattle.case.specs.{declared.Case.{Case}, Columns.{columns}}
+use Rattle.judgement.specs.{declared.Judgement.{Judgement}, Sheet.{judgement}}
 use Rattle.judgement.specs.declared.Judgement.the-variants as judged
-use Rattle.judgement.specs.Sheet.{judgement}
 use Rattle.sheet.specs.Answer.{cases}
-use Rattle.release.specs.declared.licence.Wrong.{Wrong}
-use Rattle.release.specs.declared.licence.Wrong.the-variants.{At, Nothing}
-use Rattle.release.specs.declared.Released.{Released}
-use Rattle.release.specs.declared.Released.the-variants.{Pairs, Refused}
-use Rattle.release.specs.Licence.{pairsOf, badCount, firstWrong}
+use Rattle.release.specs.declared.{licence.Wrong.{Wrong, the-variants.{At, Nothing}}, Released.{Released}}
+use Rattle.release.specs.{declared.Released.the-variants.{Pairs, Refused}, Licence.{pairsOf, badCount, firstWrong}}
 use Rattle.release.specs.Pair.{pairLength, releaseOf}
 
 -- "last 23, 0, 0 when the table is shorter than eight numbers a pair"; "The answer is the count of pairs"

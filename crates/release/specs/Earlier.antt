@@ -1,7 +1,6 @@
 -- The checks of a licence by the index of a pair: number 2k is its station, number 2k + 1 its seasons.
 use Prim.Native.Nat.{ℕ, zero, suc, _+_, _*_}
-use mathlib.Core.Bool.{cond}
-use mathlib.Core.List.{List, [], _∷_}
+use mathlib.Core.{Bool.{cond}, List.{List, [], _∷_}}
 use lib.ListN.{getD}
 use Rattle.release.specs.Licence.{Pair, wrongStation, wrongSeasons}
 

@@ -1,11 +1,9 @@
 -- The licence: "a slice of 32-bit numbers, pairs of a station and its seasons as a number 1..15 (season i counts 2^(i−1))", and its
 -- refusals 21 and 22.
 use Prim.Native.Nat.{ℕ, suc, _%_}
-use mathlib.Core.Bool.{Bool, false, cond, not, _&&_, _||_}
-use mathlib.Core.List.{List, [], _∷_}
+use mathlib.Core.{Bool.{Bool, false, cond, not, _&&_, _||_}, List.{List, [], _∷_}}
 use lib.Dec.{leb, ltb, eqb}
-use Rattle.release.specs.declared.licence.Wrong.{Wrong}
-use Rattle.release.specs.declared.licence.Wrong.the-variants.{At, Nothing}
+use Rattle.release.specs.declared.licence.Wrong.{Wrong, the-variants.{At, Nothing}}
 
 pub record Pair : Type 0 where
   pub station : ℕ

@@ -1,14 +1,10 @@
 -- What the eight numbers say of the sheet, in words of its lines and of exact values: proofs/ReleasedStations.antt shows that it holds.
 use Prim.Native.Nat.{ℕ, _+_, _*_, _≤_, _<_}
-use mathlib.Core.Path.{_≡_}
-use mathlib.Core.Bool.{true}
-use mathlib.Core.List.{List, []}
-use lib.IntN.{ℤ, pos, natAbs}
-use lib.ListN.{length, getD}
+use mathlib.Core.{Path.{_≡_}, Bool.{true}, List.{List, []}}
+use lib.{IntN.{ℤ, pos, natAbs}, ListN.{length, getD}}
 use Rattle.exact.specs.Exact.{AtOrBelow}
 use Rattle.tables.specs.Parts.{partAt}
-use Rattle.case.specs.declared.Case.{Case}
-use Rattle.case.specs.Case.{caseOf}
+use Rattle.case.specs.{declared.Case.{Case}, Case.{caseOf}}
 use Rattle.formulas.specs.Tolerable
 use Rattle.formulas.specs.Mesh
 use Rattle.formulas.specs.Step

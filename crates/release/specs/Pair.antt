@@ -1,15 +1,12 @@
 -- The eight numbers of a pair of the licence.
 use Prim.Native.Nat.{ℕ}
-use mathlib.Core.Bool.{cond}
-use mathlib.Core.List.{List, [], _∷_, map}
-use lib.Dec.{eqb}
-use lib.IntN.{ℤ, pos}
+use mathlib.Core.{Bool.{cond}, List.{List, [], _∷_, map}}
+use lib.{Dec.{eqb}, IntN.{ℤ, pos}}
 use Rattle.case.specs.declared.Case.{Case}
 use Rattle.release.specs.Licence.{Pair}
 use Rattle.tally.specs.declared.Tally.{Tally}
 use Rattle.tally.specs.Lines.{linesOf, countOf, missing, answeredUnsafe, answeredUndecided, otherYard, tooSmall, firstLine}
-use Rattle.tally.specs.Fault.{stationFault}
-use Rattle.tally.specs.Tally.{released}
+use Rattle.tally.specs.{Fault.{stationFault}, Tally.{released}}
 
 -- "eight numbers a pair"
 abbrev pub pairLength : ℕ

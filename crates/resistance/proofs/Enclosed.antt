@@ -2,37 +2,19 @@
 use Prim.Native.Nat.{_*_, _^_}
 use mathlib.Core.Path.{refl}
 use native.Mathlib.Omega.{arith}
-use lib.Dec.{lit≤}
-use lib.IntN.{pos}
-use Rattle.interval.specs.Operations.{point, quotientOf}
-use Rattle.interval.proofs.Span.{span-divisor}
-use Rattle.exact.specs.Fraction.{whole}
-use Rattle.exact.specs.Exact.{Exact, exactly, _+x_, _·x_, _÷x_}
-use Rattle.exact.specs.Reported.{ten}
-use Rattle.exact.proofs.Order.{trans≈}
+use lib.{Dec.{lit≤}, IntN.{pos}}
+use Rattle.interval.{specs.Operations.{point, quotientOf}, proofs.Span.{span-divisor}}
+use Rattle.exact.{specs.{Fraction.{whole}, Exact.{Exact, exactly, _+x_, _·x_, _÷x_}, Reported.{ten}}, proofs.Order.{trans≈}}
 use Rattle.exact.proofs.Reported.{scaleProduct, decimal-over}
 use Rattle.exact.proofs.Quantity.{Quantity, quantity-exactly, quantity-sum, quantity-product, quantity-quotient}
-use Rattle.enclosure.specs.Enclosure.{Encloses}
-use Rattle.enclosure.proofs.Counts.{decimal-count, count-product}
-use Rattle.enclosure.proofs.Basics.{encloses-count, encloses-whole, encloses-outward}
-use Rattle.enclosure.proofs.Constants.{√20-encloses}
-use Rattle.enclosure.proofs.Multiples.{encloses-multiple}
-use Rattle.enclosure.proofs.Sums.{encloses-sum, encloses-times}
-use Rattle.enclosure.proofs.Products.{encloses-product}
-use Rattle.enclosure.proofs.Quotients.{encloses-quotient}
-use Rattle.enclosure.proofs.SquareRoot.{pair-ends}
-use Rattle.enclosure.proofs.Roots.{encloses-sqrt-even}
-use Rattle.case.specs.declared.Case.{Case}
-use Rattle.case.specs.Bounds.{Bounds}
-use Rattle.formulas.specs.Lengths.{ρ, h, area, LT, equalCounts, √area, s}
-use Rattle.formulas.specs.Resistance.{√20, resistance}
-use Rattle.formulas.specs.Width.{μΩ}
-use Rattle.formulas.proofs.Positive.{h-pos, LT-pos}
-use Rattle.formulas.proofs.Quantities.{one}
-use Rattle.formulas.proofs.Conductors.{by-both, quantity-s}
-use Rattle.formulas.proofs.Consistent.{q20}
-use Rattle.lengths.specs.Lengths.{sideX, sideY, totalLength}
-use Rattle.lengths.proofs.Lengths.{x-is, y-is, total-is}
+use Rattle.enclosure.{specs.Enclosure.{Encloses}, proofs.Counts.{decimal-count, count-product}}
+use Rattle.enclosure.proofs.{Basics.{encloses-count, encloses-whole, encloses-outward}, Constants.{√20-encloses}}
+use Rattle.enclosure.proofs.{Multiples.{encloses-multiple}, Sums.{encloses-sum, encloses-times}, Products.{encloses-product}}
+use Rattle.enclosure.proofs.{Quotients.{encloses-quotient}, SquareRoot.{pair-ends}, Roots.{encloses-sqrt-even}}
+use Rattle.case.specs.{declared.Case.{Case}, Bounds.{Bounds}}
+use Rattle.formulas.specs.{Lengths.{ρ, h, area, LT, equalCounts, √area, s}, Resistance.{√20, resistance}, Width.{μΩ}}
+use Rattle.formulas.proofs.{Positive.{h-pos, LT-pos}, Quantities.{one}, Conductors.{by-both, quantity-s}, Consistent.{q20}}
+use Rattle.lengths.{specs.Lengths.{sideX, sideY, totalLength}, proofs.Lengths.{x-is, y-is, total-is}}
 use Rattle.resistance.specs.Ends.{rootTwenty, sideEnds, depthEnds, shapeEnds, widthEnds, perSoilEnds, resistanceEnds}
 use Rattle.resistance.proofs.Spans.{side-span, depth-span, width-span, total-span}
 

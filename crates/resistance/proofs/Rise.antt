@@ -1,38 +1,19 @@
 -- The potential rise: its ends, its width and what it encloses.
 use Prim.Native.Nat.{ℕ, _+_, _*_, _/_, _^_, _≤_, _<_}
 use mathlib.Core.Path.{refl}
-use native.Mathlib.Omega.{arith}
-use native.Mathlib.Nat.{mul-le-mul-left, mul-le-mul-right}
+use native.Mathlib.{Omega.{arith}, Nat.{mul-le-mul-left, mul-le-mul-right}}
 use lib.Dec.{lit≤, lit<}
-use Rattle.interval.specs.Whole.{ceilDiv}
-use Rattle.interval.specs.Operations.{natural}
-use Rattle.interval.specs.Span.{Relative}
-use Rattle.interval.specs.Wide.{Wide}
-use Rattle.interval.proofs.Natural.{natural-product}
-use Rattle.interval.proofs.Rounding.{floorDiv-above, ceilDiv-below}
-use Rattle.interval.proofs.Relatives.{relative-span}
-use Rattle.interval.proofs.WideProduct.{wide-fits}
-use Rattle.exact.specs.Fraction.{decimal, _+f_, neg, _−f_, _·f_}
-use Rattle.exact.specs.Exact.{_·x_}
-use Rattle.exact.specs.Depth.{workDepth}
-use Rattle.exact.specs.Reported.{ten, over, reported, AtMost}
+use Rattle.interval.{specs.{Whole.{ceilDiv}, Operations.{natural}, Span.{Relative}, Wide.{Wide}}, proofs.Natural.{natural-product}}
+use Rattle.interval.proofs.{Rounding.{floorDiv-above, ceilDiv-below}, Relatives.{relative-span}, WideProduct.{wide-fits}}
+use Rattle.exact.specs.{Fraction.{decimal, _+f_, neg, _−f_, _·f_}, Exact.{_·x_}, Depth.{workDepth}, Reported.{ten, over, reported, AtMost}}
 use Rattle.exact.proofs.Factors.{product-turned}
-use Rattle.enclosure.specs.Enclosure.{Encloses}
-use Rattle.enclosure.proofs.Basics.{encloses-same}
-use Rattle.enclosure.proofs.Products.{encloses-product}
-use Rattle.case.specs.declared.Case.{Case}
-use Rattle.case.specs.Bounds.{Bounds}
-use Rattle.formulas.specs.Current.{IG}
-use Rattle.formulas.specs.Resistance.{resistance, potentialRise}
-use Rattle.formulas.specs.Width.{mV, μΩ, μA, riseWidth}
-use Rattle.formulas.proofs.Quantities.{quantity-IG}
-use Rattle.formulas.proofs.Consistent.{quantity-resistance}
-use Rattle.current.proofs.GridCurrent.{current-span, current-relative, current-encloses}
-use Rattle.current.specs.Ends.{currentEnds}
+use Rattle.enclosure.{specs.Enclosure.{Encloses}, proofs.{Basics.{encloses-same}, Products.{encloses-product}}}
+use Rattle.case.specs.{declared.Case.{Case}, Bounds.{Bounds}}
+use Rattle.formulas.specs.{Current.{IG}, Resistance.{resistance, potentialRise}, Width.{mV, μΩ, μA, riseWidth}}
+use Rattle.formulas.proofs.{Quantities.{quantity-IG}, Consistent.{quantity-resistance}}
+use Rattle.current.{specs.Ends.{currentEnds}, proofs.GridCurrent.{current-span, current-relative, current-encloses}}
 use Rattle.resistance.specs.Ends.{resistanceEnds, riseEnds}
-use Rattle.resistance.proofs.Spans.{resistance-span}
-use Rattle.resistance.proofs.Enclosed.{resistance-encloses}
-use Rattle.resistance.proofs.Widths.{resistance-near}
+use Rattle.resistance.proofs.{Spans.{resistance-span}, Enclosed.{resistance-encloses}, Widths.{resistance-near}}
 
 within-allowed : (x z : ℕ) → 2000 * z ≤ 2001 * x + 2000 * 10 → AtMost (riseWidth (reported mV (natural x z))) (reported mV (natural x z))
 unfolding riseWidth reported mV ten over natural decimal _·f_ _+f_ _−f_ neg

@@ -1,23 +1,15 @@
 -- Sizes and widths of the resistance's ends. The widths of spans are coarse for a short side: `per-soil-near` has the one that counts.
 use Prim.Native.Nat.{ℕ, _*_, _^_, _≤_}
-use native.Mathlib.Omega.{arith}
-use native.Mathlib.Nat.{mul-le-mul, mul-le-mul-left}
-use native.Mathlib.Decide.{decLe}
+use native.Mathlib.{Omega.{arith}, Nat.{mul-le-mul, mul-le-mul-left}, Decide.{decLe}}
 use lib.IntN.{pos}
-use Rattle.interval.specs.Operations.{point, scaledOf, quotientOf}
-use Rattle.interval.specs.Span.{Span, Relative}
+use Rattle.interval.specs.{Operations.{point, scaledOf, quotientOf}, Span.{Span, Relative}}
 use Rattle.interval.proofs.Span.{span-natural, span-point, span-wider, span-sum, span-scaled, span-divide}
-use Rattle.interval.proofs.Relatives.{relative-add, relative-divided}
-use Rattle.interval.proofs.Rules.{lits}
+use Rattle.interval.proofs.{Relatives.{relative-add, relative-divided}, Rules.{lits}}
 use Rattle.interval.proofs.NumeralSpans.{numeral-natural, numeral-outward, numeral-point, numeral-product, numeral-quotient, numeral-wider}
-use Rattle.enclosure.specs.SquareRoot.{rootPair}
-use Rattle.enclosure.proofs.RootSpan.{root-span}
-use Rattle.case.specs.declared.Case.{Case}
-use Rattle.case.specs.Bounds.{Bounds}
-use Rattle.formulas.specs.Lengths.{equalCounts}
-use Rattle.formulas.proofs.Conductors.{by-place}
-use Rattle.lengths.specs.Lengths.{sideX, totalLength}
-use Rattle.lengths.proofs.Lengths.{x-bounds, y-bounds, total-bounds}
+use Rattle.enclosure.{specs.SquareRoot.{rootPair}, proofs.RootSpan.{root-span}}
+use Rattle.case.specs.{declared.Case.{Case}, Bounds.{Bounds}}
+use Rattle.formulas.{specs.Lengths.{equalCounts}, proofs.Conductors.{by-place}}
+use Rattle.lengths.{specs.Lengths.{sideX, totalLength}, proofs.Lengths.{x-bounds, y-bounds, total-bounds}}
 use Rattle.resistance.specs.Ends.{rootTwenty, sideEnds, depthEnds, shapeEnds, widthEnds, perSoilEnds, resistanceEnds}
 
 pub twenty-span : Span rootTwenty 4472135954 4472135955 1
@@ -73,13 +65,11 @@ module _ {c : Case} (b : Bounds c) where
 
     long-depth : Span (depthEnds c) (10 ^ 9) 1026100000 2
     unfolding depthEnds
-    long-depth =
-        span-sum one-span (numeral-quotient 1000 0 26100000 1 (lits tt) depth-scaled long-side)
+    long-depth = span-sum one-span (numeral-quotient 1000 0 26100000 1 (lits tt) depth-scaled long-side)
 
     long-shape : Span (shapeEnds c) 1970000000 (2 * 10 ^ 9) 3
     unfolding shapeEnds
-    long-shape =
-        span-sum one-span (numeral-quotient (10 ^ 9) 970000000 (10 ^ 9) 2 (lits tt) one-span long-depth)
+    long-shape = span-sum one-span (numeral-quotient (10 ^ 9) 970000000 (10 ^ 9) 2 (lits tt) one-span long-depth)
 
   module _ (l : 430000000 ≤ side-span .a → ⊥) where
     short-side : Span (sideEnds c) 2500000 430000000 1
@@ -97,8 +87,7 @@ module _ {c : Case} (b : Bounds c) where
       go (no l) = numeral-quotient (10 ^ 9) 510000 200000000 54000 (lits tt) shape-span (short-width l)
 
   second-near : Relative (quotientOf (shapeEnds c) (widthEnds c) (10 ^ 9)) 200000 2
-  second-near =
-      relative-divided (10 ^ 9) 400000 1000000 200000 (lits tt) shape-span width-span
+  second-near = relative-divided (10 ^ 9) 400000 1000000 200000 (lits tt) shape-span width-span
 
   pub total-span : Span (point (pos (totalLength c))) 10000 38000000 0
   total-span = span-point (totalLength c) (total-bounds b .low) (total-bounds b .high)

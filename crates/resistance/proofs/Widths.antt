@@ -1,18 +1,11 @@
 -- The resistance's and the potential rise's ends are no further apart than document 01 allows.
 use Prim.Native.Nat.{ℕ, _+_, _*_, _/_, _≤_, _<_}
-use native.Mathlib.Omega.{arith}
-use native.Mathlib.Nat.{mul-le-mul-right}
+use native.Mathlib.{Omega.{arith}, Nat.{mul-le-mul-right}}
 use lib.Dec.{lit<}
-use Rattle.interval.specs.Whole.{ceilDiv}
-use Rattle.interval.specs.Operations.{natural}
-use Rattle.interval.specs.Span.{Relative}
-use Rattle.interval.proofs.Natural.{natural-scaled, natural-outward}
-use Rattle.interval.proofs.Relatives.{relative-span}
-use Rattle.interval.proofs.Rounding.{floorDiv-above, ceilDiv-below}
-use Rattle.exact.specs.Fraction.{decimal, _+f_, neg, _−f_, _·f_}
-use Rattle.exact.specs.Reported.{ten, over, reported, AtMost}
-use Rattle.case.specs.declared.Case.{Case}
-use Rattle.case.specs.Bounds.{Bounds}
+use Rattle.interval.{specs.{Whole.{ceilDiv}, Operations.{natural}, Span.{Relative}}, proofs.Natural.{natural-scaled, natural-outward}}
+use Rattle.interval.proofs.{Relatives.{relative-span}, Rounding.{floorDiv-above, ceilDiv-below}}
+use Rattle.exact.specs.{Fraction.{decimal, _+f_, neg, _−f_, _·f_}, Reported.{ten, over, reported, AtMost}}
+use Rattle.case.specs.{declared.Case.{Case}, Bounds.{Bounds}}
 use Rattle.formulas.specs.Width.{μΩ, resistanceWidth}
 use Rattle.resistance.specs.Ends.{resistanceEnds}
 use Rattle.resistance.proofs.Spans.{per-soil-span, per-soil-near}

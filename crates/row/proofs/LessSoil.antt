@@ -1,17 +1,10 @@
 -- The driest soil decides, by the exact values: were the case with the lower resistivity unsafe, one of its voltages would be above what is
 -- tolerable at some depth, and so with the higher resistivity.
 use Prim.Native.Nat.{ℕ, _≤_}
-use mathlib.Core.Path.{_≡_, sym, ap, _∙_}
-use mathlib.Core.Logic.{⊎-elim}
-use Rattle.case.specs.declared.Case.{Case}
-use Rattle.case.specs.Bounds.{Bounds}
-use Rattle.case.specs.Key.{underKey}
-use Rattle.case.specs.Soil.{withSoil}
+use mathlib.Core.{Path.{_≡_, sym, ap, _∙_}, Logic.{⊎-elim}}
+use Rattle.case.specs.{declared.Case.{Case}, Bounds.{Bounds}, Key.{underKey}, Soil.{withSoil}}
 use Rattle.formulas.proofs.LessSoil.{mesh-above, step-above}
-use Rattle.row.specs.declared.Verdict.the-variants.{Safe, Unsafe}
-use Rattle.row.specs.Row.{verdictOf}
-use Rattle.row.specs.Ends.{caseVerdict, rowOf}
-use Rattle.row.specs.LessSoil.{LessSoil}
+use Rattle.row.specs.{declared.Verdict.the-variants.{Safe, Unsafe}, Row.{verdictOf}, Ends.{caseVerdict, rowOf}, LessSoil.{LessSoil}}
 use Rattle.row.proofs.Right.{right-row}
 
 module _ {c : Case} (b : Bounds c) where

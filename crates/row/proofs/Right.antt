@@ -2,32 +2,26 @@
 use mathlib.Core.Path.{_≡_, refl}
 use Rattle.exact.specs.Reported.{reported, AtMost, Reports}
 use Rattle.enclosure.proofs.Reporting.{reports}
-use Rattle.case.specs.declared.Case.{Case}
-use Rattle.case.specs.Bounds.{Bounds}
+use Rattle.case.specs.{declared.Case.{Case}, Bounds.{Bounds}}
 use Rattle.formulas.specs.Width.{mV, μΩ, μA, tolerableWidth, resistanceWidth, riseWidth, meshWidth, stepWidth}
+use Rattle.formulas.proofs.Consistent.{consistent-touch, consistent-tolerable-step, consistent-mesh, consistent-step, quantity-resistance}
+use Rattle.formulas.proofs.Consistent.{consistent-rise}
 use Rattle.formulas.specs.Tolerable as Tolerable
 use Rattle.formulas.specs.Mesh as Mesh
 use Rattle.formulas.specs.Resistance as R
 use Rattle.formulas.specs.Step as Step
-use Rattle.formulas.proofs.Consistent.{consistent-touch, consistent-tolerable-step, consistent-mesh, consistent-step, quantity-resistance}
-use Rattle.formulas.proofs.Consistent.{consistent-rise}
 use Rattle.decrement.proofs.Right.{factor-reports}
 use Rattle.current.proofs.GridCurrent.{current-reports}
 use Rattle.tolerable.specs.Ends.{touchEnds, stepEnds}
 use Rattle.tolerable.proofs.Enclosed as T
 use Rattle.tolerable.proofs.Widths as TW
-use Rattle.mesh.specs.Ends.{meshEnds}
-use Rattle.mesh.proofs.Enclosed.{mesh-encloses}
-use Rattle.mesh.proofs.Widths.{mesh-narrow}
+use Rattle.mesh.{specs.Ends.{meshEnds}, proofs.{Enclosed.{mesh-encloses}, Widths.{mesh-narrow}}}
 use Rattle.step.specs.Ends.{stepVoltageEnds}
 use Rattle.step.proofs.Enclosed as S
 use Rattle.step.proofs.Widths as SW
-use Rattle.resistance.specs.Ends.{resistanceEnds}
-use Rattle.resistance.proofs.Enclosed.{resistance-encloses}
-use Rattle.resistance.proofs.Widths.{resistance-narrow}
+use Rattle.resistance.{specs.Ends.{resistanceEnds}, proofs.{Enclosed.{resistance-encloses}, Widths.{resistance-narrow}}}
 use Rattle.resistance.proofs.Rise.{rise-encloses, rise-narrow}
-use Rattle.row.specs.Row.{RightRow, verdictOf}
-use Rattle.row.specs.Ends.{caseVerdict, rowOf}
+use Rattle.row.specs.{Row.{RightRow, verdictOf}, Ends.{caseVerdict, rowOf}}
 use Rattle.row.proofs.Verdicts.{Enclosed, safe-true, unsafe-true}
 
 pub row-verdict : (c : Case) → rowOf c .verdict ≡ caseVerdict c

@@ -1,13 +1,8 @@
 -- Less fault current, all else equal, is no worse, so a safe yard stays safe and is never answered unsafe.
 use mathlib.Core.Path.{_≡_, ap, _∙_}
-use native.Mathlib.Omega.{arith}
-use native.Mathlib.Nat.{mul-le-mul-right}
-use Rattle.case.specs.declared.Case.{Case}
-use Rattle.case.specs.Bounds.{Bounds}
-use Rattle.row.specs.declared.Verdict.the-variants.{Safe}
-use Rattle.row.specs.Ends.{caseVerdict}
-use Rattle.row.specs.LessFault.{LessFault}
-use Rattle.row.specs.NoWorse.{NoWorse}
+use native.Mathlib.{Omega.{arith}, Nat.{mul-le-mul-right}}
+use Rattle.case.specs.{declared.Case.{Case}, Bounds.{Bounds}}
+use Rattle.row.specs.{declared.Verdict.the-variants.{Safe}, Ends.{caseVerdict}, LessFault.{LessFault}, NoWorse.{NoWorse}}
 use Rattle.row.proofs.NoWorse.{no-worse-safe}
 
 -- what else no worse speaks of stays

@@ -1,19 +1,12 @@
 -- What the verdict of four pairs says of the exact values that they enclose.
-use mathlib.Core.Path.{_≡_, refl}
-use mathlib.Core.Bool.{Bool, true, false, cond, _&&_}
-use mathlib.Core.Logic.{_⊎_, inl, inr, ⊎-elim}
-use lib.Dec.{T}
-use lib.Signed.{_≤ℤ_, leZ, ltZ, leZ-yes, ltZ-yes}
+use mathlib.Core.{Path.{_≡_, refl}, Bool.{Bool, true, false, cond, _&&_}, Logic.{_⊎_, inl, inr, ⊎-elim}}
+use lib.{Dec.{T}, Signed.{_≤ℤ_, leZ, ltZ, leZ-yes, ltZ-yes}}
 use mir.Facts.{and-yes, or-yes}
 use Rattle.text.proofs.Clash.{clash}
 use Rattle.interval.specs.declared.Interval.{Interval}
-use Rattle.exact.specs.Exact.{Exact, Above, AtOrBelow}
-use Rattle.exact.specs.Reported.{Scale}
-use Rattle.exact.specs.Depth.{Consistent}
-use Rattle.enclosure.specs.Enclosure.{Encloses}
-use Rattle.enclosure.proofs.Verdicts.{encloses-at-or-below, encloses-above}
-use Rattle.row.specs.declared.Verdict.the-variants.{Safe, Unsafe, Undecided}
-use Rattle.row.specs.Verdict.{safe, unsafe, verdict}
+use Rattle.exact.specs.{Exact.{Exact, Above, AtOrBelow}, Reported.{Scale}, Depth.{Consistent}}
+use Rattle.enclosure.{specs.Enclosure.{Encloses}, proofs.Verdicts.{encloses-at-or-below, encloses-above}}
+use Rattle.row.specs.{declared.Verdict.the-variants.{Safe, Unsafe, Undecided}, Verdict.{safe, unsafe, verdict}}
 
 -- ---- the tests that led to a verdict
 

@@ -1,13 +1,9 @@
 -- The verdict and the numbers of a row, computed. Document 01, 'What exact means' and 'The result table'.
 use Prim.Native.Nat.{ℕ}
-use mathlib.Core.Path.{_≡_, refl}
-use mathlib.Core.List.{[], _∷_}
+use mathlib.Core.{Path.{_≡_, refl}, List.{[], _∷_}}
 use lib.IntN.{pos}
-use Rattle.interval.specs.declared.Interval.{Interval}
-use Rattle.interval.specs.Operations.{natural}
-use Rattle.row.specs.declared.Verdict.the-variants.{Undecided}
-use Rattle.row.specs.Verdict.{verdict, safe, unsafe, verdictNumber}
-use Rattle.row.specs.Row.{numbers}
+use Rattle.interval.specs.{declared.Interval.{Interval}, Operations.{natural}}
+use Rattle.row.specs.{declared.Verdict.the-variants.{Undecided}, Verdict.{verdict, safe, unsafe, verdictNumber}, Row.{numbers}}
 
 -- mesh and step against tolerable touch 10 to 12 and tolerable step 30 to 32
 abbrev pub told : Interval → Interval → ℕ

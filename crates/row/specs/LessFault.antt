@@ -2,9 +2,7 @@
 -- answered unsafe, for rectangles and both frequencies." proofs/StaysSafe.antt shows more: it is answered safe.
 use Prim.Native.Nat.{_≤_}
 use mathlib.Core.Path.{_≡_}
-use Rattle.case.specs.declared.Case.{Case}
-use Rattle.case.specs.Fault.{withFault}
-use Rattle.case.specs.Key.{underKey}
+use Rattle.case.specs.{declared.Case.{Case}, Fault.{withFault}, Key.{underKey}}
 
 -- d is "the same case with a lower fault current, all else equal" as c. Station and season are aside: two lines of one sheet must differ in
 -- them.

@@ -3,9 +3,7 @@
 -- since the ends are rounded.
 use Prim.Native.Nat.{_≤_}
 use mathlib.Core.Path.{_≡_}
-use Rattle.case.specs.declared.Case.{Case}
-use Rattle.case.specs.Key.{underKey}
-use Rattle.case.specs.Soil.{withSoil}
+use Rattle.case.specs.{declared.Case.{Case}, Key.{underKey}, Soil.{withSoil}}
 
 -- d differs from c in soil alone, station and season aside, and c is the one with the higher resistivity
 pub record LessSoil (c d : Case) : Type 0 where

@@ -2,9 +2,7 @@
 -- is heavier or the same, all else equal." Request (n) is the case of the fault current alone.
 use Prim.Native.Nat.{_*_, _≤_}
 use mathlib.Core.Path.{_≡_}
-use Rattle.case.specs.declared.Case.{Case}
-use Rattle.case.specs.Key.{underKey}
-use Rattle.case.specs.Eased.{eased}
+use Rattle.case.specs.{declared.Case.{Case}, Key.{underKey}, Eased.{eased}}
 
 -- d is no worse than c, all else equal. Station and season are aside: two lines of one sheet must differ in them.
 pub record NoWorse (c d : Case) : Type 0 where

@@ -1,27 +1,19 @@
 -- What a right row is. Document 01, 'The result table' and 'What exact means', and request (d) of document 02.
 -- The eight pairs of ends are the free part of a row: the rules bind each by exactness and width. All else is an equation.
 use Prim.Native.Nat.{ℕ}
-use mathlib.Core.Path.{_≡_, refl}
-use mathlib.Core.Logic.{_⊎_}
-use mathlib.Core.List.{List, [], _∷_}
-use lib.IntN.{ℤ, pos, natAbs}
-use lib.ListN.{length}
-use Rattle.exact.specs.Exact.{Above, AtOrBelow}
-use Rattle.exact.specs.Reported.{reported, Reports}
+use mathlib.Core.{Path.{_≡_, refl}, Logic.{_⊎_}, List.{List, [], _∷_}}
+use lib.{IntN.{ℤ, pos, natAbs}, ListN.{length}}
+use Rattle.exact.specs.{Exact.{Above, AtOrBelow}, Reported.{reported, Reports}}
 use Rattle.case.specs.declared.Case.{Case}
-use Rattle.formulas.specs.Decrement.{Df}
-use Rattle.formulas.specs.Current.{IG}
+use Rattle.formulas.specs.{Decrement.{Df}, Current.{IG}}
+use Rattle.formulas.specs.Width.{mV, μΩ, μA, billionths, factorWidth, currentWidth, tolerableWidth, resistanceWidth, riseWidth, meshWidth}
+use Rattle.formulas.specs.Width.{stepWidth}
 use Rattle.formulas.specs.Size
 use Rattle.formulas.specs.Tolerable
 use Rattle.formulas.specs.Mesh
 use Rattle.formulas.specs.Step
 use Rattle.formulas.specs.Resistance
-use Rattle.formulas.specs.Width.{mV, μΩ, μA, billionths, factorWidth, currentWidth, tolerableWidth, resistanceWidth, riseWidth, meshWidth}
-use Rattle.formulas.specs.Width.{stepWidth}
-use Rattle.row.specs.declared.Row.{Row}
-use Rattle.row.specs.declared.Verdict.{Verdict}
-use Rattle.row.specs.declared.Verdict.the-variants.{Safe, Unsafe}
-use Rattle.row.specs.Verdict.{verdict, verdictNumber}
+use Rattle.row.specs.{declared.{Row.{Row}, Verdict.{Verdict, the-variants.{Safe, Unsafe}}}, Verdict.{verdict, verdictNumber}}
 
 -- the verdict of a row's ends
 unfoldable pub verdictOf : Row → Verdict

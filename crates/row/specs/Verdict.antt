@@ -3,8 +3,7 @@ use Prim.Native.Nat.{ℕ}
 use mathlib.Core.Bool.{Bool, cond, _&&_, _||_}
 use lib.Signed.{leZ, ltZ}
 use Rattle.interval.specs.declared.Interval.{Interval}
-use Rattle.row.specs.declared.Verdict.{Verdict}
-use Rattle.row.specs.declared.Verdict.the-variants.{Safe, Unsafe, Undecided}
+use Rattle.row.specs.declared.Verdict.{Verdict, the-variants.{Safe, Unsafe, Undecided}}
 
 -- "verdict (1 safe, 2 unsafe, 3 undecided)"
 unfoldable pub verdictNumber : Verdict → ℕ

@@ -1,19 +1,14 @@
 -- The line of what is shown of a row, and the five numbers of its margins.
 use Prim.Native.Nat.{suc}
-use mathlib.Core.Path.{_≡_, refl}
-use mathlib.Core.List.{List, [], _∷_}
-use lib.IntN.{ℤ, pos}
-use lib.ListN.{length, getD, take}
+use mathlib.Core.{Path.{_≡_, refl}, List.{List, [], _∷_}}
+use lib.{IntN.{ℤ, pos}, ListN.{length, getD, take}}
 use Rattle.writing.specs.Text.{ended}
 use Rattle.row.specs.Places.{stationPlace, seasonPlace, verdictPlace}
-use Rattle.margin.specs.declared.Compared.{Compared}
+use Rattle.margin.specs.{declared.Compared.{Compared}, Margin.{marginsOf}}
 use Rattle.margin.specs.declared.Compared.the-variants as compared
-use Rattle.margin.specs.Margin.{marginsOf}
-use Rattle.row_text.specs.declared.Shown.{Shown}
-use Rattle.row_text.specs.declared.Shown.the-variants.{Verdict, Numbers, Margins}
-use Rattle.row_text.specs.Margins.{twoMargins}
-use Rattle.fields.specs.Fields.{lineOf}
+use Rattle.row_text.specs.{declared.Shown.{Shown, the-variants.{Verdict, Numbers, Margins}}, Margins.{twoMargins}}
 use Rattle.row_text.specs.Shown.{marginNumbers, shownFields, shownLine}
+use Rattle.fields.specs.Fields.{lineOf}
 
 module _ {what : Shown} (row : List ℤ) where
   pub verdict-line : what ≡ Verdict → ended (shownLine what row) ≡ lineOf verdictPlace (take 4 row)

@@ -1,28 +1,18 @@
 -- The fields and the names of each program that prints rows are what the loop over a table's rows writes.
 use Prim.Native.Nat.{ℕ, suc, _+_, _≤_, _<_}
-use mathlib.Core.Path.{_≡_, refl, ap}
-use mathlib.Core.List.{List, [], _∷_, _++_, map}
+use mathlib.Core.{Path.{_≡_, refl, ap}, List.{List, [], _∷_, _++_, map}}
 use native.Mathlib.Omega.{arith}
-use lib.IntN.{ℤ, pos}
-use lib.ListN.{length}
+use lib.{IntN.{ℤ, pos}, ListN.{length}}
 use borrow.Author.Tests.{ne-eqb}
 use Rattle.text.specs.Text.{bytes}
-use Rattle.writing.specs.Decimal.{signed}
-use Rattle.writing.specs.Text.{moreFields, parted, ended, textOf}
-use Rattle.row.specs.declared.Row.{Row}
-use Rattle.row.specs.declared.Verdict.{Verdict}
-use Rattle.row.specs.declared.Verdict.the-variants.{Safe, Unsafe, Undecided}
-use Rattle.row.specs.Verdict.{verdictNumber}
+use Rattle.writing.specs.{Decimal.{signed}, Text.{moreFields, parted, ended, textOf}}
+use Rattle.row.specs.{declared.{Row.{Row}, Verdict.{Verdict, the-variants.{Safe, Unsafe, Undecided}}}, Verdict.{verdictNumber}}
 use Rattle.row.specs.Row.{numbers}
 use Rattle.margin.specs.Margin.{marginsOf}
-use Rattle.row_text.specs.declared.Shown.{Shown}
+use Rattle.row_text.specs.{declared.Shown.{Shown}, Verdict.{word, verdictNames, verdictFields}, Rows.{rowNames, rowFields}}
+use Rattle.row_text.specs.{Margins.{marginNames, twoMargins, marginFields}, Shown.{marginNumbers, shownFields, shownLine, linesAfter}}
 use Rattle.row_text.specs.declared.Shown.the-variants as shown
-use Rattle.fields.specs.Listed.{listed}
-use Rattle.row_text.specs.Verdict.{word, verdictNames, verdictFields}
-use Rattle.row_text.specs.Rows.{rowNames, rowFields}
-use Rattle.row_text.specs.Margins.{marginNames, twoMargins, marginFields}
-use Rattle.fields.specs.Fields.{wordOf, field, fieldsFrom}
-use Rattle.row_text.specs.Shown.{marginNumbers, shownFields, shownLine, linesAfter}
+use Rattle.fields.specs.{Listed.{listed}, Fields.{wordOf, field, fieldsFrom}}
 
 -- ---- a text of names and fields
 

@@ -6,11 +6,8 @@ use mathlib.Core.List.{List, [], _∷_, map}
 use lib.IntN.{ℤ, pos}
 use Rattle.text.specs.Text.{bytes}
 use Rattle.writing.specs.Decimal.{signed}
-use Rattle.row.specs.declared.Row.{Row}
-use Rattle.row.specs.Row.{numbers}
-use Rattle.margin.specs.declared.Compared.{Compared}
-use Rattle.margin.specs.declared.Compared.the-variants.{Margins, None}
-use Rattle.margin.specs.Margin.{marginsOf}
+use Rattle.row.specs.{declared.Row.{Row}, Row.{numbers}}
+use Rattle.margin.specs.{declared.Compared.{Compared, the-variants.{Margins, None}}, Margin.{marginsOf}}
 use Rattle.row_text.specs.Verdict.{word}
 
 unfoldable pub marginNames : List (List ℕ)

@@ -3,8 +3,7 @@ use Prim.Native.Nat.{ℕ}
 use mathlib.Core.List.{List, [], _∷_, map}
 use Rattle.text.specs.Text.{bytes}
 use Rattle.writing.specs.Decimal.{signed}
-use Rattle.row.specs.declared.Row.{Row}
-use Rattle.row.specs.Row.{numbers}
+use Rattle.row.specs.{declared.Row.{Row}, Row.{numbers}}
 
 unfoldable pub rowNames : List (List ℕ)
 rowNames =

@@ -2,15 +2,12 @@
 -- proofs/Texts.antt.
 use Prim.Native.Nat.{ℕ}
 use mathlib.Core.List.{List, _∷_, _++_, map}
-use lib.IntN.{ℤ, pos}
-use lib.ListN.{length, getD, take}
+use lib.{IntN.{ℤ, pos}, ListN.{length, getD, take}}
 use Rattle.writing.specs.Text.{parted, textOf}
 use Rattle.row.specs.Places.{stationPlace, seasonPlace, verdictPlace}
 use Rattle.margin.specs.Margin.{marginsOf}
 use Rattle.fields.specs.Fields.{fieldsFrom}
-use Rattle.row_text.specs.declared.Shown.{Shown}
-use Rattle.row_text.specs.declared.Shown.the-variants.{Verdict, Numbers, Margins}
-use Rattle.row_text.specs.Margins.{twoMargins}
+use Rattle.row_text.specs.{declared.Shown.{Shown, the-variants.{Verdict, Numbers, Margins}}, Margins.{twoMargins}}
 
 -- station, season and verdict of a row, then its margins
 unfoldable pub marginNumbers : List ℤ → List ℤ

@@ -4,9 +4,7 @@ use Prim.Native.Nat.{ℕ}
 use mathlib.Core.List.{List, [], _∷_}
 use Rattle.text.specs.Text.{bytes}
 use Rattle.writing.specs.Decimal.{signed}
-use Rattle.row.specs.declared.Row.{Row}
-use Rattle.row.specs.declared.Verdict.{Verdict}
-use Rattle.row.specs.declared.Verdict.the-variants.{Safe, Unsafe, Undecided}
+use Rattle.row.specs.declared.{Row.{Row}, Verdict.{Verdict, the-variants.{Safe, Unsafe, Undecided}}}
 
 unfoldable pub word : Verdict → List ℕ
 word Safe = bytes "safe"

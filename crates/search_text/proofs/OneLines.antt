@@ -1,27 +1,17 @@
 -- The reading of a sheet of one value line, from its lines: specs/OneLine.antt.
 use Prim.Native.Nat.{ℕ, _-_, _≤_, _<_}
-use mathlib.Core.Path.{_≡_, refl, ap, _∙_}
-use mathlib.Core.List.{List, [], _∷_}
+use mathlib.Core.{Path.{_≡_, refl, ap, _∙_}, List.{List, [], _∷_}}
 use native.Mathlib.Omega.{arith}
 use lib.ListN.{length, getD, take, drop, length-drop}
 use borrow.Author.Tests.{eq-eqb, ne-eqb, lt-ltb}
-use Rattle.text.proofs.Clash.{clash}
-use Rattle.text.specs.Text.{indexOf, linesOf, fieldsOf}
-use Rattle.text.specs.Parts.{Skipped}
-use Rattle.text.proofs.FieldTurns.{part-end}
-use Rattle.text.proofs.Lines.{lines-next, lines-none}
-use Rattle.text.proofs.LineTurns.{line-turn}
-use Rattle.case.specs.Columns.{columns, nameCount, name-count}
-use Rattle.case.specs.Bounds.{Placed}
-use Rattle.case.specs.Order.{Ordered}
+use Rattle.text.{specs.{Text.{indexOf, linesOf, fieldsOf}, Parts.{Skipped}}, proofs.{Clash.{clash}, FieldTurns.{part-end}}}
+use Rattle.text.proofs.{Lines.{lines-next, lines-none}, LineTurns.{line-turn}}
+use Rattle.case.specs.{Columns.{columns, nameCount, name-count}, Bounds.{Placed}, Order.{Ordered}}
 use Rattle.header.specs.Parts.{Header}
-use Rattle.line.specs.Parts.{LineValues}
-use Rattle.line.proofs.Arranging.{arranged}
-use Rattle.judgement.specs.declared.Judgement.{Judgement}
-use Rattle.judgement.specs.declared.Judgement.the-variants.{Lines, Refused}
+use Rattle.line.{specs.Parts.{LineValues}, proofs.Arranging.{arranged}}
+use Rattle.judgement.specs.declared.Judgement.{Judgement, the-variants.{Lines, Refused}}
 use Rattle.judgement.specs.Refusal.{nameRefused, noLineRefused, manyLinesRefused, lineJudgement}
-use Rattle.search_text.specs.Fewest.{fieldsJudged, valuesJudged, namesIn, sheetJudged}
-use Rattle.search_text.specs.OneLine.{ValuesRead, SheetRead}
+use Rattle.search_text.specs.{Fewest.{fieldsJudged, valuesJudged, namesIn, sheetJudged}, OneLine.{ValuesRead, SheetRead}}
 
 -- ---- the first line and those after it, of every text
 
@@ -99,8 +89,7 @@ module _ (s : List ℕ) {at order : List ℕ} {wrong e : ℕ} (ends : e ≡ inde
 
   pub wrong-names : {values : List ℕ} → length values ≡ nameCount → (wrong ≡ 0 → ⊥) → SheetRead (linesOf s) values (Refused 2 1 wrong)
   unfolding sheetJudged nameRefused
-  wrong-names count z =
-      record { answer-is = rw (names-are, ← h .wrong-is, ne-eqb wrong 0 z); count = count; values-are = no-refusal }
+  wrong-names count z = record { answer-is = rw (names-are, ← h .wrong-is, ne-eqb wrong 0 z); count = count; values-are = no-refusal }
 
   pub right-names : {values : List ℕ} {r : ℕ} {j : Judgement} → wrong ≡ 0 → Skipped e (length s) r
       → ValuesRead (linesOf (take (length s - r) (drop r s))) order values j → SheetRead (linesOf s) values j

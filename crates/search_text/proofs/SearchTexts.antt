@@ -1,30 +1,18 @@
 -- The text of a search: how long it is at most, and what the reading of the input says of it.
 use Prim.Native.Nat.{ℕ, _-_, _≤_, _<_}
-use mathlib.Core.Path.{_≡_, sym}
-use mathlib.Core.List.{List, [], _∷_}
+use mathlib.Core.{Path.{_≡_, sym}, List.{List, [], _∷_}}
 use native.Mathlib.Omega.{arith}
 use lib.ListN.{length, take, drop}
 use borrow.Author.Tests.{le-ltb, lt-ltb}
-use Rattle.text.specs.declared.Field.{Field}
-use Rattle.text.specs.declared.Field.the-variants.{Wrong, Value}
-use Rattle.text.specs.Text.{bytes, indexOf, linesOf}
-use Rattle.text.specs.Value.{fieldValue}
+use Rattle.text.specs.{declared.Field.{Field, the-variants.{Wrong, Value}}, Text.{bytes, indexOf, linesOf}, Value.{fieldValue}}
 use Rattle.text.specs.Parts.{Skipped}
-use Rattle.case.specs.declared.Case.{Case}
-use Rattle.case.specs.Case.{caseOf}
+use Rattle.case.specs.{declared.Case.{Case}, Case.{caseOf}}
 use Rattle.line.specs.Line.{lineCase}
-use Rattle.judgement.specs.declared.Judgement.{Judgement}
+use Rattle.judgement.specs.{declared.Judgement.{Judgement}, Limits.{mostBytes}, Refusal.{textRefused}}
 use Rattle.judgement.specs.declared.Judgement.the-variants as judged
-use Rattle.judgement.specs.Limits.{mostBytes}
-use Rattle.judgement.specs.Refusal.{textRefused}
-use Rattle.yards.specs.declared.FewestLines.{FewestLines}
-use Rattle.yards.specs.declared.FewestLines.the-variants.{Found, None, Refused}
-use Rattle.yards.specs.Fewest.{answer, FewestAnswered}
-use Rattle.fields.specs.Refusal.{refusedText, unlessRefused, refusalBytes}
-use Rattle.search_text.specs.Fewest.{caseIn, sideOf, searchText, inputJudged, fewestText}
-use Rattle.search_text.specs.OneLine.{SheetRead}
-use Rattle.fields.proofs.Refusals.{numbered-most, refused-most}
-use Rattle.fields.proofs.Refusals.{answer-fits}
+use Rattle.yards.specs.{declared.FewestLines.{FewestLines, the-variants.{Found, None, Refused}}, Fewest.{answer, FewestAnswered}}
+use Rattle.fields.{specs.Refusal.{refusedText, unlessRefused, refusalBytes}, proofs.Refusals.{numbered-most, refused-most, answer-fits}}
+use Rattle.search_text.specs.{Fewest.{caseIn, sideOf, searchText, inputJudged, fewestText}, OneLine.{SheetRead}}
 use Rattle.search_text.proofs.OneLines.{first-line, later-lines}
 
 -- ---- how long it is

@@ -1,10 +1,7 @@
 -- Answers of a search and sides, worked by hand.
-use mathlib.Core.Path.{_≡_, refl}
-use mathlib.Core.List.{[], _∷_}
-use Rattle.text.specs.Text.{bytes}
-use Rattle.text.specs.Value.{digit, digits, plain, isValue, numberFrom, valueOf, fieldValue}
-use Rattle.writing.specs.Decimal.{digitsIn, digitCount, lastDigits, decimal}
-use Rattle.writing.specs.Text.{moreFields, parted, ended}
+use mathlib.Core.{Path.{_≡_, refl}, List.{[], _∷_}}
+use Rattle.text.specs.{Text.{bytes}, Value.{digit, digits, plain, isValue, numberFrom, valueOf, fieldValue}}
+use Rattle.writing.specs.{Decimal.{digitsIn, digitCount, lastDigits, decimal}, Text.{moreFields, parted, ended}}
 use Rattle.yards.specs.declared.FewestLines.the-variants.{Found, None}
 use Rattle.fields.specs.Refusal.{numbered}
 use Rattle.search_text.specs.Fewest.{sideOf, searchText}

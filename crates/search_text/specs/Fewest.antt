@@ -2,26 +2,15 @@
 -- (k): "Given one case and a square side in mm"; "The answer gives that yard's line and rod counts. None is answered only if no yard
 -- tried is safe. The number of yards tried is reported".
 use Prim.Native.Nat.{ℕ}
-use mathlib.Core.Bool.{cond}
-use mathlib.Core.List.{List, [], _∷_}
-use lib.Dec.{eqb, ltb}
-use lib.ListN.{length, getD, drop}
-use Rattle.text.specs.declared.Field.{Field}
-use Rattle.text.specs.declared.Field.the-variants.{Wrong, Value}
-use Rattle.text.specs.Text.{bytes, linesOf, fieldsOf}
-use Rattle.text.specs.Value.{fieldValue}
-use Rattle.case.specs.declared.Case.{Case}
-use Rattle.case.specs.Columns.{columns, nameCount}
+use mathlib.Core.{Bool.{cond}, List.{List, [], _∷_}}
+use lib.{Dec.{eqb, ltb}, ListN.{length, getD, drop}}
+use Rattle.text.specs.{declared.Field.{Field, the-variants.{Wrong, Value}}, Text.{bytes, linesOf, fieldsOf}, Value.{fieldValue}}
+use Rattle.case.specs.{declared.Case.{Case}, Columns.{columns, nameCount}}
 use Rattle.header.specs.Header.{noColumns, wrongName, columnsOf}
 use Rattle.line.specs.Line.{wrongForm, lineCase}
-use Rattle.judgement.specs.declared.Judgement.{Judgement}
-use Rattle.judgement.specs.declared.Judgement.the-variants.{Lines}
-use Rattle.judgement.specs.declared.LineFinding.the-variants.{Sound, Form}
-use Rattle.judgement.specs.Limits.{Limits, mostBytes}
-use Rattle.judgement.specs.Refusal.{textRefused, nameRefused, noLineRefused, manyLinesRefused, lineJudgement}
-use Rattle.yards.specs.declared.FewestLines.{FewestLines}
-use Rattle.yards.specs.declared.FewestLines.the-variants.{Found, None, Refused}
-use Rattle.yards.specs.Fewest.{answer}
+use Rattle.judgement.specs.declared.{Judgement.{Judgement, the-variants.{Lines}}, LineFinding.the-variants.{Sound, Form}}
+use Rattle.judgement.specs.{Limits.{Limits, mostBytes}, Refusal.{textRefused, nameRefused, noLineRefused, manyLinesRefused, lineJudgement}}
+use Rattle.yards.specs.{declared.FewestLines.{FewestLines, the-variants.{Found, None, Refused}}, Fewest.{answer}}
 use Rattle.fields.specs.Refusal.{numbered, refusedText, unlessRefused}
 
 -- ---- a sheet of one value line, by its lines

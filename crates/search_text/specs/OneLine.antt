@@ -1,15 +1,12 @@
 -- What reading a sheet of one value line promises: its judgement, and where that is sound, the values of its line.
 use Prim.Native.Nat.{ℕ}
-use mathlib.Core.Path.{_≡_}
-use mathlib.Core.List.{List, []}
+use mathlib.Core.{Path.{_≡_}, List.{List, []}}
 use lib.ListN.{length, getD, drop}
 use Rattle.text.specs.Text.{fieldsOf}
 use Rattle.case.specs.Columns.{columns, nameCount}
 use Rattle.header.specs.Header.{columnsOf}
-use Rattle.line.specs.Line.{lineValues}
-use Rattle.line.specs.Parts.{LineValues}
-use Rattle.judgement.specs.declared.Judgement.{Judgement}
-use Rattle.judgement.specs.declared.Judgement.the-variants.{Lines}
+use Rattle.line.specs.{Line.{lineValues}, Parts.{LineValues}}
+use Rattle.judgement.specs.declared.Judgement.{Judgement, the-variants.{Lines}}
 use Rattle.search_text.specs.Fewest.{namesIn, valuesJudged, sheetJudged}
 
 -- the value lines, each value at the index of its column's name

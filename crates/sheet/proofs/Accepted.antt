@@ -1,28 +1,17 @@
 -- A sheet whose answer is a count of rows has passed every check, and each of its cases is within its bounds.
 use Prim.Native.Nat.{ℕ, _*_}
-use mathlib.Core.Path.{_≡_, refl, ap, _∙_}
-use mathlib.Core.Bool.{Bool, true, false, cond}
-use mathlib.Core.List.{List}
-use lib.ListN.{length, length-map}
-use lib.Dec.{ltb}
+use mathlib.Core.{Path.{_≡_, refl, ap, _∙_}, Bool.{Bool, true, false, cond}, List.{List}}
+use lib.{ListN.{length, length-map}, Dec.{ltb}}
 use borrow.Author.Tests.{ltb-false}
-use Rattle.text.proofs.Clash.{clash}
-use Rattle.text.specs.Text.{fieldsOf}
-use Rattle.case.specs.Columns.{columns, name-count}
-use Rattle.case.specs.Check.{caseFinding}
-use Rattle.case.specs.Bounds.{Placed, Bounds}
-use Rattle.case.proofs.Bounds.{bounds}
+use Rattle.text.{specs.Text.{fieldsOf}, proofs.Clash.{clash}}
+use Rattle.case.{specs.{Columns.{columns, name-count}, Check.{caseFinding}, Bounds.{Placed, Bounds}}, proofs.Bounds.{bounds}}
 use Rattle.case.proofs.Values.{values-of-case}
 use Rattle.line.specs.Line.{lineValues, lineCase}
 use Rattle.row.specs.Row.{rowLength}
-use Rattle.judgement.specs.declared.Judgement.{Judgement}
+use Rattle.judgement.specs.{declared.Judgement.{Judgement}, Sheet.{judgement}, Accepted.{SoundLine}}
 use Rattle.judgement.specs.declared.Judgement.the-variants as judged
-use Rattle.judgement.specs.Sheet.{judgement}
-use Rattle.judgement.specs.Accepted.{SoundLine}
 use Rattle.judgement.proofs.Accepted as judging
-use Rattle.sheet.specs.declared.Answer.the-variants.{Rows, Refused}
-use Rattle.sheet.specs.Answer.{tableRefused, answerBy, answer}
-use Rattle.sheet.specs.Accepted.{Accepted}
+use Rattle.sheet.specs.{declared.Answer.the-variants.{Rows, Refused}, Answer.{tableRefused, answerBy, answer}, Accepted.{Accepted}}
 
 -- what a count of rows says of the judgement
 record Counted (room n : ℕ) (j : Judgement) : Type 0 where

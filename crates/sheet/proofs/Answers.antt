@@ -1,18 +1,14 @@
 -- The claim about a sheet and its table, from the answer and the rows.
 use Prim.Native.Nat.{ℕ, _*_, _≤_, _<_}
-use mathlib.Core.Path.{_≡_, refl}
-use mathlib.Core.List.{List}
-use lib.IntN.{ℤ}
-use lib.ListN.{length}
+use mathlib.Core.{Path.{_≡_, refl}, List.{List}}
+use lib.{IntN.{ℤ}, ListN.{length}}
 use borrow.Author.Tests.{lt-ltb, le-ltb}
 use Rattle.row.specs.Row.{rowLength}
-use Rattle.sheet.specs.declared.Answer.the-variants.{Rows, Refused}
-use Rattle.case.specs.Columns.{columns}
-use Rattle.judgement.specs.declared.Judgement.{Judgement}
-use Rattle.judgement.specs.declared.Judgement.the-variants as judged
-use Rattle.judgement.specs.Sheet.{judgement}
-use Rattle.sheet.specs.Answer.{tableRefused, answerBy, cases, answer}
+use Rattle.sheet.specs.{declared.Answer.the-variants.{Rows, Refused}, Answer.{tableRefused, answerBy, cases, answer}}
 use Rattle.sheet.specs.Table.{Filled, TableAfter, Answered}
+use Rattle.case.specs.Columns.{columns}
+use Rattle.judgement.specs.{declared.Judgement.{Judgement}, Sheet.{judgement}}
+use Rattle.judgement.specs.declared.Judgement.the-variants as judged
 
 module _ {j : Judgement} (s : List ℕ) (t : List ℤ) (judged-is : j ≡ judgement columns s) where
   -- refused by its judgement

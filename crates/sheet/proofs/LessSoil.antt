@@ -1,15 +1,10 @@
 -- The driest soil decides, of two value lines, of one sheet or of two, that differ in soil alone, station and season aside: where the one
 -- with the higher resistivity has verdict 1 in the table, the other has not verdict 2.
 use Prim.Native.Nat.{ℕ, _<_}
-use mathlib.Core.Path.{_≡_, sym, _∙_}
-use mathlib.Core.List.{List}
-use lib.IntN.{ℤ, pos}
-use lib.ListN.{length}
-use Rattle.row.specs.LessSoil.{LessSoil}
-use Rattle.row.proofs.LessSoil.{drier-decides}
-use Rattle.sheet.specs.declared.Answer.the-variants.{Rows}
-use Rattle.sheet.specs.Answer.{cases}
-use Rattle.sheet.specs.Table.{Answered}
+use mathlib.Core.{Path.{_≡_, sym, _∙_}, List.{List}}
+use lib.{IntN.{ℤ, pos}, ListN.{length}}
+use Rattle.row.{specs.LessSoil.{LessSoil}, proofs.LessSoil.{drier-decides}}
+use Rattle.sheet.specs.{declared.Answer.the-variants.{Rows}, Answer.{cases}, Table.{Answered}}
 use Rattle.sheet.proofs.Lines.{verdictAt, caseAt, line-bounds, line-verdict, safe-number, unsafe-number}
 
 pub drier-line-decides : {s t : List ℕ} {before after before′ after′ : List ℤ} {n m : ℕ} → Answered s before after (Rows n)

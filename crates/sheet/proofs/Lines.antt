@@ -1,29 +1,17 @@
 -- A value line of an accepted sheet: its case is within its bounds, and the number of its verdict stands in the table.
 use Prim.Native.Nat.{ℕ, _<_}
-use mathlib.Core.Path.{_≡_, refl, sym, ap}
-use mathlib.Core.List.{List, []}
+use mathlib.Core.{Path.{_≡_, refl, sym, ap}, List.{List, []}}
 use native.Mathlib.Omega.{arith}
-use lib.IntN.{ℤ, pos}
-use lib.ListN.{length, getD, length-map}
+use lib.{IntN.{ℤ, pos}, ListN.{length, getD, length-map}}
 use Rattle.text.specs.Text.{fieldsOf}
-use Rattle.case.specs.declared.Case.{Case}
-use Rattle.case.specs.Case.{caseOf}
-use Rattle.case.specs.Columns.{columns}
-use Rattle.case.specs.Bounds.{Bounds}
+use Rattle.case.specs.{declared.Case.{Case}, Case.{caseOf}, Columns.{columns}, Bounds.{Bounds}}
 use Rattle.header.specs.Header.{columnsOf}
 use Rattle.line.specs.Line.{lineCase}
 use Rattle.judgement.specs.Sheet.{names, valueLines}
-use Rattle.row.specs.declared.Verdict.{Verdict}
-use Rattle.row.specs.declared.Verdict.the-variants.{Safe, Unsafe, Undecided}
-use Rattle.row.specs.Verdict.{verdictNumber}
-use Rattle.row.specs.Row.{numbers}
-use Rattle.row.specs.Places.{verdictPlace}
-use Rattle.row.specs.Ends.{caseVerdict, rowOf}
-use Rattle.sheet.specs.declared.Answer.the-variants.{Rows}
-use Rattle.sheet.specs.Answer.{cases}
-use Rattle.sheet.specs.Table.{rowAt, Filled, TableAfter, Answered}
-use Rattle.sheet.proofs.Accepted.{accepted, sound-bounds}
-use Rattle.sheet.proofs.StoredCases.{case-at}
+use Rattle.row.specs.{declared.Verdict.{Verdict, the-variants.{Safe, Unsafe, Undecided}}, Verdict.{verdictNumber}, Row.{numbers}}
+use Rattle.row.specs.{Places.{verdictPlace}, Ends.{caseVerdict, rowOf}}
+use Rattle.sheet.specs.{declared.Answer.the-variants.{Rows}, Answer.{cases}, Table.{rowAt, Filled, TableAfter, Answered}}
+use Rattle.sheet.proofs.{Accepted.{accepted, sound-bounds}, StoredCases.{case-at}}
 
 -- the verdict in row i of a table, by its number
 abbrev pub verdictAt : List ℤ → ℕ → ℤ

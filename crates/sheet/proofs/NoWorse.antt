@@ -1,15 +1,10 @@
 -- No worse, of two value lines, of one sheet or of two: where one has verdict 1 in the table, the other, no worse and all else equal,
 -- station and season aside, has verdict 1 in its table.
 use Prim.Native.Nat.{ℕ, _<_}
-use mathlib.Core.Path.{_≡_, sym, _∙_}
-use mathlib.Core.List.{List}
-use lib.IntN.{ℤ, pos}
-use lib.ListN.{length}
-use Rattle.row.specs.NoWorse.{NoWorse}
-use Rattle.row.proofs.NoWorse.{no-worse-safe}
-use Rattle.sheet.specs.declared.Answer.the-variants.{Rows}
-use Rattle.sheet.specs.Answer.{cases}
-use Rattle.sheet.specs.Table.{Answered}
+use mathlib.Core.{Path.{_≡_, sym, _∙_}, List.{List}}
+use lib.{IntN.{ℤ, pos}, ListN.{length}}
+use Rattle.row.{specs.NoWorse.{NoWorse}, proofs.NoWorse.{no-worse-safe}}
+use Rattle.sheet.specs.{declared.Answer.the-variants.{Rows}, Answer.{cases}, Table.{Answered}}
 use Rattle.sheet.proofs.Lines.{verdictAt, caseAt, line-bounds, line-verdict, safe-number, number-safe}
 
 pub no-worse-line-safe : {s t : List ℕ} {before after before′ after′ : List ℤ} {n m : ℕ} → Answered s before after (Rows n)

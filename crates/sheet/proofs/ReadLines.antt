@@ -1,20 +1,12 @@
 -- What the values of a sheet are after `read`: those of its value lines, each within its bounds, with room for them all.
 use Prim.Native.Nat.{ℕ, _*_, _≤_}
-use mathlib.Core.Path.{_≡_, sym, _∙_}
-use mathlib.Core.List.{List}
+use mathlib.Core.{Path.{_≡_, sym, _∙_}, List.{List}}
 use native.Mathlib.Omega.{arith}
 use lib.ListN.{length}
-use Rattle.case.specs.declared.Form.the-variants.{Present}
-use Rattle.case.specs.Columns.{columns, nameCount}
-use Rattle.case.specs.Parts.{formOf}
-use Rattle.judgement.specs.declared.Judgement.{Judgement}
-use Rattle.judgement.specs.declared.Judgement.the-variants.{Lines}
-use Rattle.judgement.specs.Limits.{mostLines}
-use Rattle.judgement.specs.Sheet.{judgement}
-use Rattle.judgement.specs.Read.{Read}
+use Rattle.case.specs.{declared.Form.the-variants.{Present}, Columns.{columns, nameCount}, Parts.{formOf}}
+use Rattle.judgement.specs.{declared.Judgement.{Judgement, the-variants.{Lines}}, Limits.{mostLines}, Sheet.{judgement}, Read.{Read}}
 use Rattle.judgement.proofs.Accepted.{accepted}
-use Rattle.sheet.specs.Answer.{cases}
-use Rattle.sheet.specs.Rows.{storedCases, StoredBounds}
+use Rattle.sheet.specs.{Answer.{cases}, Rows.{storedCases, StoredBounds}}
 use Rattle.sheet.proofs.StoredCases.{stored-cases, stored-bounds}
 
 -- n value lines of a sheet stand in a store

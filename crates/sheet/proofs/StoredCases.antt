@@ -1,23 +1,16 @@
 -- The cases of stored values: those of the sheet that they were read from.
 use Prim.Native.Nat.{ℕ, zero, suc, _<_}
-use mathlib.Core.Path.{_≡_, refl, sym, ap, _∙_}
-use mathlib.Core.List.{List, [], _∷_, map}
+use mathlib.Core.{Path.{_≡_, refl, sym, ap, _∙_}, List.{List, [], _∷_, map}}
 use native.Mathlib.Omega.{arith}
 use lib.ListN.{length, getD, length-map, List·getD-map}
 use Rattle.text.specs.Text.{fieldsOf}
-use Rattle.tables.specs.Parts.{partAt, partsOf}
-use Rattle.tables.proofs.Parts.{parts-length, parts-at}
-use Rattle.case.specs.declared.Case.{Case}
-use Rattle.case.specs.Case.{caseOf}
-use Rattle.case.specs.Columns.{columns, nameCount, name-count}
+use Rattle.tables.{specs.Parts.{partAt, partsOf}, proofs.Parts.{parts-length, parts-at}}
+use Rattle.case.specs.{declared.Case.{Case}, Case.{caseOf}, Columns.{columns, nameCount, name-count}}
 use Rattle.header.specs.Header.{columnsOf}
 use Rattle.line.specs.Line.{lineValues, lineCase}
-use Rattle.judgement.specs.Sheet.{names, valueLines}
+use Rattle.judgement.{specs.{Sheet.{names, valueLines}, Read.{Stored}}, proofs.StoredLines.{stored-parts}}
 use Rattle.judgement.specs.Accepted as judged
-use Rattle.judgement.specs.Read.{Stored}
-use Rattle.judgement.proofs.StoredLines.{stored-parts}
-use Rattle.sheet.specs.Answer.{cases}
-use Rattle.sheet.specs.Rows.{storedCases, StoredBounds}
+use Rattle.sheet.specs.{Answer.{cases}, Rows.{storedCases, StoredBounds}}
 use Rattle.sheet.proofs.Accepted.{sound-bounds}
 
 -- ---- the cases of any stored values

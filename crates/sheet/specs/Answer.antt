@@ -1,20 +1,16 @@
 -- The answer to every sheet and table length, and the cases of a sheet. Document 01, 'The result table': "The order is 1, 2, 4; then line
 -- by line 3, 5, 6, 7; then 8."
 use Prim.Native.Nat.{ℕ, _*_}
-use mathlib.Core.Bool.{cond}
-use mathlib.Core.List.{List, map}
+use mathlib.Core.{Bool.{cond}, List.{List, map}}
 use lib.Dec.{ltb}
 use Rattle.text.specs.Text.{fieldsOf}
-use Rattle.case.specs.declared.Case.{Case}
-use Rattle.case.specs.Columns.{columns}
+use Rattle.case.specs.{declared.Case.{Case}, Columns.{columns}}
 use Rattle.header.specs.Header.{columnsOf}
 use Rattle.line.specs.Line.{lineCase}
 use Rattle.row.specs.Row.{rowLength}
-use Rattle.judgement.specs.declared.Judgement.{Judgement}
+use Rattle.judgement.specs.{declared.Judgement.{Judgement}, Sheet.{names, valueLines, judgement}}
 use Rattle.judgement.specs.declared.Judgement.the-variants as judged
-use Rattle.judgement.specs.Sheet.{names, valueLines, judgement}
-use Rattle.sheet.specs.declared.Answer.{Answer}
-use Rattle.sheet.specs.declared.Answer.the-variants.{Rows, Refused}
+use Rattle.sheet.specs.declared.Answer.{Answer, the-variants.{Rows, Refused}}
 
 -- the cases of a sheet's value lines
 unfoldable pub cases : List ℕ → List Case

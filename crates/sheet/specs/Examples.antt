@@ -1,12 +1,9 @@
 -- The answer computed on sheets: document 01's sample, each refusal, and the order of the rules where two are broken at once.
 use Prim.Native.Nat.{ℕ}
-use mathlib.Core.Path.{_≡_, refl}
-use mathlib.Core.List.{List, [], _∷_, _++_, map}
+use mathlib.Core.{Path.{_≡_, refl}, List.{List, [], _∷_, _++_, map}}
 use lib.ListN.{replicate}
-use Rattle.text.specs.Text.{bytes, onFirst, linesOf, fieldsOf, same}
-use Rattle.text.specs.Value.{digit, digits, plain, isValue, numberFrom, valueOf}
-use Rattle.case.specs.Columns.{columns, inRange, nameIndex, named}
-use Rattle.case.specs.Case.{caseOf}
+use Rattle.text.specs.{Text.{bytes, onFirst, linesOf, fieldsOf, same}, Value.{digit, digits, plain, isValue, numberFrom, valueOf}}
+use Rattle.case.specs.{Columns.{columns, inRange, nameIndex, named}, Case.{caseOf}}
 use Rattle.case.specs.Check.{leftOf, outOfRange, agree, disagreement, finding}
 use Rattle.header.specs.Header.{noColumns, fresh, wrongName, columnsFrom, columnsOf}
 use Rattle.line.specs.Line.{wrongForm, lineValues, lineCase}
@@ -14,9 +11,7 @@ use Rattle.judgement.specs.declared.Judgement.the-variants as judged
 use Rattle.judgement.specs.Refusal.{textRefused, nameRefused, noLineRefused, manyLinesRefused, lineJudgement}
 use Rattle.judgement.specs.Findings.{orFinding, sameKey, repeats, lineFinding}
 use Rattle.judgement.specs.Sheet.{names, valueLines, badText, linesJudgement, valuesJudgement, namesJudgement, judgementWithin, judgement}
-use Rattle.sheet.specs.declared.Answer.{Answer}
-use Rattle.sheet.specs.declared.Answer.the-variants.{Rows, Refused}
-use Rattle.sheet.specs.Answer.{cases, tableRefused, answerBy, answer}
+use Rattle.sheet.specs.{declared.Answer.{Answer, the-variants.{Rows, Refused}}, Answer.{cases, tableRefused, answerBy, answer}}
 
 -- the answer, with all that it is made of
 answerOf : List ℕ → ℕ → Answer

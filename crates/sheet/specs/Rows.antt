@@ -1,13 +1,9 @@
 -- Rows written one after the other, from the values of a sheet's lines.
 use Prim.Native.Nat.{ℕ, _<_}
 use mathlib.Core.List.{List, [], map}
-use lib.IntN.{ℤ}
-use lib.ListN.{getD}
+use lib.{IntN.{ℤ}, ListN.{getD}}
 use Rattle.tables.specs.Parts.{partAt, partsOf, Filled}
-use Rattle.case.specs.declared.Case.{Case}
-use Rattle.case.specs.Case.{caseOf}
-use Rattle.case.specs.Columns.{nameCount}
-use Rattle.case.specs.Bounds.{Bounds}
+use Rattle.case.specs.{declared.Case.{Case}, Case.{caseOf}, Columns.{nameCount}, Bounds.{Bounds}}
 use Rattle.row.specs.Row.{rowLength}
 use Rattle.sheet.specs.Table.{RowOf}
 

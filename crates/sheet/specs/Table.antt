@@ -1,18 +1,12 @@
 -- The table after a sheet: one claim over every sheet, every table and every row. Document 01, 'The result table' and 'To the testers'.
 use Prim.Native.Nat.{ℕ}
-use mathlib.Core.Path.{_≡_}
-use mathlib.Core.List.{List, []}
-use lib.IntN.{ℤ}
-use lib.ListN.{length, getD}
+use mathlib.Core.{Path.{_≡_}, List.{List, []}}
+use lib.{IntN.{ℤ}, ListN.{length, getD}}
 use Rattle.tables.specs.Parts.{partAt}
 use Rattle.tables.specs.Parts as parts
-use Rattle.case.specs.declared.Case.{Case}
-use Rattle.case.specs.Case.{caseOf}
-use Rattle.row.specs.Row.{RightRow, numbers, rowLength}
-use Rattle.row.specs.Ends.{rowOf}
-use Rattle.sheet.specs.declared.Answer.{Answer}
-use Rattle.sheet.specs.declared.Answer.the-variants.{Rows, Refused}
-use Rattle.sheet.specs.Answer.{answer, cases}
+use Rattle.case.specs.{declared.Case.{Case}, Case.{caseOf}}
+use Rattle.row.specs.{Row.{RightRow, numbers, rowLength}, Ends.{rowOf}}
+use Rattle.sheet.specs.{declared.Answer.{Answer, the-variants.{Rows, Refused}}, Answer.{answer, cases}}
 
 -- the numbers of row i
 abbrev pub rowAt : List ℤ → ℕ → List ℤ

@@ -1,7 +1,6 @@
 -- The answer in a table with room for the most rows is the judgement of the sheet.
 use Prim.Native.Nat.{ℕ, _*_, _≤_}
-use mathlib.Core.Path.{_≡_, refl, sym, ap, _∙_}
-use mathlib.Core.List.{List}
+use mathlib.Core.{Path.{_≡_, refl, sym, ap, _∙_}, List.{List}}
 use native.Mathlib.Omega.{arith}
 use lib.ListN.{length, length-map}
 use borrow.Author.Tests.{le-ltb}
@@ -10,14 +9,10 @@ use Rattle.case.specs.Columns.{columns}
 use Rattle.header.specs.Header.{columnsOf}
 use Rattle.line.specs.Line.{lineCase}
 use Rattle.row.specs.Row.{rowLength}
-use Rattle.judgement.specs.declared.Judgement.{Judgement}
-use Rattle.judgement.specs.declared.Judgement.the-variants as judged
-use Rattle.judgement.specs.Limits.{mostLines}
-use Rattle.judgement.specs.Sheet.{names, valueLines, judgement}
+use Rattle.judgement.specs.{declared.Judgement.{Judgement}, Limits.{mostLines}, Sheet.{names, valueLines, judgement}}
 use Rattle.judgement.proofs.Accepted.{accepted}
-use Rattle.sheet.specs.declared.Answer.{Answer}
-use Rattle.sheet.specs.declared.Answer.the-variants.{Rows, Refused}
-use Rattle.sheet.specs.Answer.{cases, answerBy, answer}
+use Rattle.judgement.specs.declared.Judgement.the-variants as judged
+use Rattle.sheet.specs.{declared.Answer.{Answer, the-variants.{Rows, Refused}}, Answer.{cases, answerBy, answer}}
 
 -- the judgement that an answer tells
 abbrev pub told : Answer → Judgement

@@ -1,32 +1,19 @@
 -- The text of a sheet's rows: how long it is at most, and what the table says of it.
 use Prim.Native.Nat.{ℕ, _*_, _≤_}
-use mathlib.Core.Path.{_≡_}
-use mathlib.Core.List.{List, map}
+use mathlib.Core.{Path.{_≡_}, List.{List, map}}
 use native.Mathlib.Omega.{arith}
-use lib.IntN.{ℤ}
-use lib.ListN.{length, length-map}
+use lib.{IntN.{ℤ}, ListN.{length, length-map}}
 use Rattle.tables.specs.Parts.{partsOf}
 use Rattle.case.specs.Columns.{columns}
 use Rattle.judgement.specs.declared.Judgement.the-variants as judged
-use Rattle.judgement.specs.Limits.{mostLines}
-use Rattle.judgement.specs.Sheet.{judgement}
-use Rattle.row.specs.declared.Row.{Row}
-use Rattle.row.specs.Row.{numbers, rowLength, row-length}
-use Rattle.row.specs.Ends.{rowOf}
-use Rattle.sheet.specs.declared.Answer.{Answer}
-use Rattle.sheet.specs.declared.Answer.the-variants.{Rows, Refused}
-use Rattle.sheet.specs.Answer.{cases}
-use Rattle.sheet.specs.Table.{Filled, TableAfter, Answered}
+use Rattle.judgement.specs.{Limits.{mostLines}, Sheet.{judgement}}
+use Rattle.row.specs.{declared.Row.{Row}, Row.{numbers, rowLength, row-length}, Ends.{rowOf}}
+use Rattle.sheet.specs.{declared.Answer.{Answer, the-variants.{Rows, Refused}}, Answer.{cases}, Table.{Filled, TableAfter, Answered}}
 use Rattle.stations.specs.Answer.{sheetRows}
-use Rattle.row_text.specs.declared.Shown.{Shown}
-use Rattle.fields.specs.Refusal.{refusedText, unlessRefused}
-use Rattle.row_text.specs.Shown.{linesAfter}
+use Rattle.row_text.{specs.{declared.Shown.{Shown}, Shown.{linesAfter}, Room.{nameBytes, textRoom}}, proofs.Fits.{Width, lines-fit}}
+use Rattle.fields.{specs.Refusal.{refusedText, unlessRefused}, proofs.Refusals.{answer-fits}}
 use Rattle.sheet_text.specs.Shown.{shownText}
-use Rattle.row_text.specs.Room.{nameBytes, textRoom}
-use Rattle.row_text.proofs.Fits.{Width, lines-fit}
-use Rattle.fields.proofs.Refusals.{answer-fits}
-use Rattle.sheet_text.proofs.TableRows.{table-rows}
-use Rattle.sheet_text.proofs.Judged.{rows-judged, refusal-judged, case-count, count-within}
+use Rattle.sheet_text.proofs.{TableRows.{table-rows}, Judged.{rows-judged, refusal-judged, case-count, count-within}}
 
 row-width : (r : Row) → Width (length (numbers r))
 row-width r = record { some = omega (arith, row-length r); most = omega (arith, row-length r) }

@@ -1,44 +1,27 @@
 -- The text of a sheet's stations: how long it is at most, and what the summary table says of it.
 use Prim.Native.Nat.{ℕ, suc, _+_, _*_, _≤_}
-use mathlib.Core.Path.{_≡_, refl, sym, ap, _∙_}
-use mathlib.Core.Bool.{Bool, true, false, cond}
-use mathlib.Core.List.{List, [], _∷_, _++_, map, map-id}
+use mathlib.Core.{Path.{_≡_, refl, sym, ap, _∙_}, Bool.{Bool, true, false, cond}, List.{List, [], _∷_, _++_, map, map-id}}
 use native.Mathlib.Omega.{arith}
-use lib.IntN.{ℤ}
-use lib.ListN.{length, drop, length-append, length-map}
-use lib.Seq.{take-at, drop-at}
+use lib.{IntN.{ℤ}, ListN.{length, drop, length-append, length-map}, Seq.{take-at, drop-at}}
 use borrow.Author.Tests.{le-ltb}
-use Rattle.text.proofs.Clash.{clash}
+use Rattle.text.{specs.Text.{bytes}, proofs.Clash.{clash}}
 use Rattle.tables.specs.Parts.{partsOf}
-use Rattle.text.specs.Text.{bytes}
-use Rattle.writing.specs.Decimal.{signed}
-use Rattle.writing.specs.Text.{moreFields, parted, ended}
+use Rattle.writing.specs.{Decimal.{signed}, Text.{moreFields, parted, ended}}
 use Rattle.case.specs.Columns.{columns}
-use Rattle.judgement.specs.declared.Judgement.{Judgement}
+use Rattle.judgement.specs.{declared.Judgement.{Judgement}, Limits.{mostLines}, Sheet.{judgement}}
 use Rattle.judgement.specs.declared.Judgement.the-variants as judged
-use Rattle.judgement.specs.Limits.{mostLines}
-use Rattle.judgement.specs.Sheet.{judgement}
-use Rattle.row.specs.declared.Row.{Row}
-use Rattle.row.specs.Row.{rowLength}
-use Rattle.sheet.specs.declared.Answer.{Answer}
+use Rattle.row.specs.{declared.Row.{Row}, Row.{rowLength}}
+use Rattle.sheet.specs.{declared.Answer.{Answer}, Answer.{answer}}
 use Rattle.sheet.specs.declared.Answer.the-variants as sheet
-use Rattle.sheet.specs.Answer.{answer}
-use Rattle.stations.specs.declared.Summed.{Summed}
-use Rattle.stations.specs.declared.Summed.the-variants.{Summary, Refused}
+use Rattle.stations.specs.declared.Summed.{Summed, the-variants.{Summary, Refused}}
 use Rattle.stations.specs.Summary.{among, byAppearance, stationsOf, stations, rowsOf, stationLength, stationNumbers, summaryOf, filled}
 use Rattle.stations.specs.Answer.{sheetRows, answerAfter, summaryAnswer, Summarised, TablesAfter, SummaryAnswered}
 use Rattle.stations.proofs.Within.{summary-within}
 use Rattle.row_text.specs.declared.Shown.the-variants as shown
-use Rattle.fields.specs.Refusal.{refusedText, unlessRefused}
-use Rattle.fields.specs.Listed.{listed}
+use Rattle.fields.{specs.{Refusal.{refusedText, unlessRefused}, Listed.{listed}}, proofs.Refusals.{answer-fits}}
 use Rattle.sheet_text.specs.Texts.{summaryNames, summaryText}
-use Rattle.row_text.specs.Shown.{linesAfter}
-use Rattle.row_text.specs.Room.{textRoom}
-use Rattle.row_text.proofs.Fits.{Width, lines-fit}
-use Rattle.fields.proofs.Refusals.{answer-fits}
-use Rattle.sheet_text.proofs.Judged.{told, answer-told}
-use Rattle.sheet_text.proofs.SheetTexts.{rows-few}
-use Rattle.row_text.proofs.Texts.{listed-same, numbers-fields}
+use Rattle.row_text.{specs.{Shown.{linesAfter}, Room.{textRoom}}, proofs.{Fits.{Width, lines-fit}, Texts.{listed-same, numbers-fields}}}
+use Rattle.sheet_text.proofs.{Judged.{told, answer-told}, SheetTexts.{rows-few}}
 
 -- ---- no more stations than rows
 

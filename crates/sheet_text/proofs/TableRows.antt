@@ -1,16 +1,11 @@
 -- The parts of a filled table are the numbers of the sheet's rows.
 use Prim.Native.Nat.{ℕ, zero, suc, _<_}
-use mathlib.Core.Path.{_≡_, refl, sym, ap, _∙_}
-use mathlib.Core.List.{List, [], _∷_, map}
+use mathlib.Core.{Path.{_≡_, refl, sym, ap, _∙_}, List.{List, [], _∷_, map}}
 use native.Mathlib.Omega.{arith}
-use lib.IntN.{ℤ}
-use lib.ListN.{length, getD, length-map}
-use Rattle.tables.specs.Parts.{partAt, partsOf}
-use Rattle.tables.proofs.Parts.{parts-are}
-use Rattle.case.specs.declared.Case.{Case}
-use Rattle.case.specs.Case.{caseOf}
-use Rattle.row.specs.Row.{numbers, rowLength}
-use Rattle.row.specs.Ends.{rowOf}
+use lib.{IntN.{ℤ}, ListN.{length, getD, length-map}}
+use Rattle.tables.{specs.Parts.{partAt, partsOf}, proofs.Parts.{parts-are}}
+use Rattle.case.specs.{declared.Case.{Case}, Case.{caseOf}}
+use Rattle.row.specs.{Row.{numbers, rowLength}, Ends.{rowOf}}
 use Rattle.sheet.specs.Table.{Filled}
 
 -- the numbers of the rows of some cases

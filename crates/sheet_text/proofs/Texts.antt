@@ -1,27 +1,17 @@
 -- The text of each program that prints rows is what the loop over a table's rows writes.
 use Prim.Native.Nat.{ℕ}
-use mathlib.Core.Path.{_≡_, ap}
-use mathlib.Core.List.{List}
+use mathlib.Core.{Path.{_≡_, ap}, List.{List}}
 use Rattle.writing.specs.Text.{parted, ended}
 use Rattle.case.specs.Columns.{columns}
 use Rattle.judgement.specs.Sheet.{judgement}
-use Rattle.row.specs.declared.Row.{Row}
-use Rattle.row.specs.Row.{numbers}
+use Rattle.row.specs.{declared.Row.{Row}, Row.{numbers}}
 use Rattle.stations.specs.Answer.{sheetRows}
-use Rattle.row_text.specs.declared.Shown.{Shown}
-use Rattle.row_text.specs.declared.Shown.the-variants.{Verdict, Numbers, Margins}
+use Rattle.row_text.specs.{declared.Shown.{Shown, the-variants.{Verdict, Numbers, Margins}}, Verdict.{verdictNames, verdictFields}}
+use Rattle.row_text.specs.{Rows.{rowNames, rowFields}, Margins.{marginNames, marginFields}, Shown.{shownFields}}
+use Rattle.row_text.proofs.Texts.{verdictLine, rowLine, marginLine, verdict-names, row-names, margin-names, listed-same, verdict-fields}
+use Rattle.row_text.proofs.Texts.{row-fields, margin-fields}
 use Rattle.fields.specs.Refusal.{unlessRefused}
-use Rattle.row_text.specs.Verdict.{verdictNames, verdictFields}
-use Rattle.sheet_text.specs.Texts.{verdictText}
-use Rattle.row_text.specs.Rows.{rowNames, rowFields}
-use Rattle.sheet_text.specs.Texts.{rowsText}
-use Rattle.row_text.specs.Margins.{marginNames, marginFields}
-use Rattle.sheet_text.specs.Texts.{marginsText}
-use Rattle.sheet_text.specs.Texts.{listedSheet}
-use Rattle.row_text.specs.Shown.{shownFields}
-use Rattle.sheet_text.specs.Shown.{shownText}
-use Rattle.row_text.proofs.Texts.{verdictLine, rowLine, marginLine, verdict-names, row-names, margin-names}
-use Rattle.row_text.proofs.Texts.{listed-same, verdict-fields, row-fields, margin-fields}
+use Rattle.sheet_text.specs.{Texts.{verdictText, rowsText, marginsText, listedSheet}, Shown.{shownText}}
 
 -- the fields of a row are those that the loop writes, and the line of names is the one that it is handed
 text-shown : (what : Shown) (fields : Row → List (List ℕ)) → ((r : Row) → shownFields what (numbers r) ≡ fields r)

@@ -5,9 +5,8 @@ use Rattle.case.specs.Columns.{columns}
 use Rattle.judgement.specs.Sheet.{judgement}
 use Rattle.row.specs.Row.{numbers}
 use Rattle.stations.specs.Answer.{sheetRows}
-use Rattle.row_text.specs.declared.Shown.{Shown}
+use Rattle.row_text.specs.{declared.Shown.{Shown}, Shown.{linesAfter}}
 use Rattle.fields.specs.Refusal.{unlessRefused}
-use Rattle.row_text.specs.Shown.{linesAfter}
 
 -- of a sheet's rows, or the refusal
 unfoldable pub shownText : List ℕ → Shown → List ℕ → List ℕ

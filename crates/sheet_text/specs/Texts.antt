@@ -7,13 +7,9 @@ use Rattle.writing.specs.Decimal.{signed}
 use Rattle.case.specs.Columns.{columns}
 use Rattle.judgement.specs.Sheet.{judgement}
 use Rattle.row.specs.declared.Row.{Row}
-use Rattle.stations.specs.Summary.{summaryOf}
-use Rattle.stations.specs.Answer.{sheetRows}
-use Rattle.fields.specs.Refusal.{unlessRefused}
-use Rattle.fields.specs.Listed.{listed}
-use Rattle.row_text.specs.Verdict.{verdictNames, verdictFields}
-use Rattle.row_text.specs.Rows.{rowNames, rowFields}
-use Rattle.row_text.specs.Margins.{marginNames, marginFields}
+use Rattle.stations.specs.{Summary.{summaryOf}, Answer.{sheetRows}}
+use Rattle.fields.specs.{Refusal.{unlessRefused}, Listed.{listed}}
+use Rattle.row_text.specs.{Verdict.{verdictNames, verdictFields}, Rows.{rowNames, rowFields}, Margins.{marginNames, marginFields}}
 
 -- the rows after the line of names, each with some fields of its own
 abbrev pub listedSheet : List (List ℕ) → (Row → List (List ℕ)) → List ℕ → List ℕ

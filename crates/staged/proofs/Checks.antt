@@ -1,18 +1,10 @@
 -- What the checks of a staged test's numbers leave: how many there are, how large each is, and that a current is injected.
 use Prim.Native.Nat.{ℕ, zero, suc, _+_, _-_, _%_, _^_, _≤_, _<_}
-use mathlib.Core.Path.{_≡_, refl, sym, _∙_}
-use mathlib.Core.Bool.{Bool, true, false, not, _||_}
-use mathlib.Core.List.{List, [], _∷_}
-use native.Mathlib.Omega.{arith}
+use mathlib.Core.{Path.{_≡_, refl, sym, _∙_}, Bool.{Bool, true, false, not, _||_}, List.{List, [], _∷_}}
+use native.Mathlib.{Omega.{arith}, Numerals.{add-one}}
 use borrow.Author.Tests.{ltb-false, ne-eqb}
-use lib.Dec.{ltb, eqb}
-use lib.IntN.{ℤ, pos, negsuc, natAbs}
-use lib.Signed.{mag}
-use lib.ListN.{length, getD, drop, drop-of-length-le}
-use lib.Seq.{drop-cons}
-use native.Mathlib.Numerals.{add-one}
-use mir.Syntax.{w64}
-use mir.Val.{ofZ}
+use lib.{Dec.{ltb, eqb}, IntN.{ℤ, pos, negsuc, natAbs}, Signed.{mag}, ListN.{length, getD, drop, drop-of-length-le}, Seq.{drop-cons}}
+use mir.{Syntax.{w64}, Val.{ofZ}}
 use Rattle.staged.specs.Check.{fewestNumbers, mostNumbers, badCount, largestPart, outside, anyOutside}
 
 either-false : (a b : Bool) → a || b ≡ false → (a ≡ false) × (b ≡ false)

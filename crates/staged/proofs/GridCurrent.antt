@@ -1,15 +1,11 @@
 -- The grid's part of a current by a loop over the branches; branches and grid together make the injected current.
 use Prim.Native.Nat.{ℕ, _+_, _*_, _≤_, _<_}
-use mathlib.Core.Path.{_≡_, refl, ap, sym, _∙_}
-use mathlib.Core.List.{List, [], _∷_}
-use native.Mathlib.Omega.{arith}
-use native.Mathlib.Nat.{add-zero}
+use mathlib.Core.{Path.{_≡_, refl, ap, sym, _∙_}, List.{List, [], _∷_}}
+use native.Mathlib.{Omega.{arith}, Nat.{add-zero}}
 use lib.IntN.{ℤ, pos, negℤ, natAbs, _+ℤ_, _-ℤ_, +ℤ-idr, +ℤ-assoc, +ℤ-comm, negℤ-+ℤ, -ℤ-+ℤ-cancel}
-use lib.ListN.{length, getD, drop, drop-of-length-le}
-use lib.Seq.{getD-drop, drop-drop}
+use lib.{ListN.{length, getD, drop, drop-of-length-le}, Seq.{getD-drop, drop-drop}}
 use Rattle.interval.proofs.Signed.{size-difference}
-use Rattle.staged.specs.Check.{mostNumbers, largestPart}
-use Rattle.staged.specs.Current.{everyOther, injected, branches, total, gridPart}
+use Rattle.staged.specs.{Check.{mostNumbers, largestPart}, Current.{everyOther, injected, branches, total, gridPart}}
 use Rattle.staged.specs.Parts.{largestGridPart, Parts}
 
 -- "Branches and grid together make the injected current exactly", for the parts of either kind
@@ -50,13 +46,7 @@ module _ {s : List ℤ} (p : Parts s) where
   pub left-start : Left s (getD s 0 (pos 0)) 2
   unfolding gridPart largestPart
   left-start =
-      record {
-        worked = 1;
-        place = refl;
-        few = omega arith;
-        size = omega (arith, p .size 0);
-        is = rw (first-kept, branches-are);
-      }
+      record { worked = 1; place = refl; few = omega arith; size = omega (arith, p .size 0); is = rw (first-kept, branches-are) }
 
   -- one branch less
   less : (z x t : ℤ) → (z -ℤ x) -ℤ t ≡ z -ℤ (x +ℤ t)

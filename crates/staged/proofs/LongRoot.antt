@@ -1,8 +1,7 @@
 -- A root by decimal digits: its start, one digit more, and what keeps it within 64 bits.
 use Prim.Native.Nat.{ℕ, _+_, _-_, _*_, _/_, _^_, _≤_, _<_}
 use mathlib.Core.Path.{_≡_}
-use native.Mathlib.Omega.{arith}
-use native.Mathlib.Decide.{decLe, decLt}
+use native.Mathlib.{Omega.{arith}, Decide.{decLe, decLt}}
 use native.Mathlib.Nat.{lt-of-le-of-lt, mul-le-mul, mul-le-mul-right, div-mul-le-self, lt-div-mul-add}
 use Rattle.interval.specs.Root.{IsRoot}
 use Rattle.staged.specs.declared.long_root.Root.{Root}

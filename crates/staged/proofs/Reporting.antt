@@ -1,21 +1,11 @@
 -- Every answer with a grid current means what it should: branches and grid make the injected current, and the split is the smallest.
 use Prim.Native.Nat.{ℕ}
-use mathlib.Core.Path.{_≡_, refl}
-use mathlib.Core.Bool.{Bool, true, false, cond}
-use mathlib.Core.List.{List}
-use lib.IntN.{ℤ}
-use lib.ListN.{length}
-use Rattle.staged.specs.declared.SplitAnswer.{SplitAnswer}
-use Rattle.staged.specs.declared.SplitAnswer.the-variants.{Grid, Refused}
-use Rattle.staged.specs.Check.{badCount, anyOutside, noneInjected}
-use Rattle.staged.specs.Current.{inPhase, quadrature, gridPart}
-use Rattle.staged.specs.Split.{splitOf}
-use Rattle.staged.specs.Answer.{gridSquare, injectedSquare, gridAnswer, answer}
-use Rattle.staged.specs.Reported.{Reported}
-use Rattle.staged.specs.Parts.{Sound}
-use Rattle.staged.proofs.GridCurrent.{together}
-use Rattle.staged.proofs.Smallest.{split-enough, split-least}
-use Rattle.staged.proofs.SoundTest.{injected-some}
+use mathlib.Core.{Path.{_≡_, refl}, Bool.{Bool, true, false, cond}, List.{List}}
+use lib.{IntN.{ℤ}, ListN.{length}}
+use Rattle.staged.specs.{declared.SplitAnswer.{SplitAnswer, the-variants.{Grid, Refused}}, Check.{badCount, anyOutside, noneInjected}}
+use Rattle.staged.specs.{Current.{inPhase, quadrature, gridPart}, Split.{splitOf}}
+use Rattle.staged.specs.{Answer.{gridSquare, injectedSquare, gridAnswer, answer}, Reported.{Reported}, Parts.{Sound}}
+use Rattle.staged.proofs.{GridCurrent.{together}, Smallest.{split-enough, split-least}, SoundTest.{injected-some}}
 
 module _ {a b : ℤ} {n : ℕ} where
   -- a check with another answer than its refusal is passed

@@ -1,13 +1,9 @@
 -- The root of a million times the grid's square with its three digits, rounded up, is the split.
 use Prim.Native.Nat.{ℕ, _+_, _*_, _≤_, _<_}
 use mathlib.Core.Path.{_≡_}
-use native.Mathlib.Omega.{arith}
-use native.Mathlib.Nat.{mul-le-mul, mul-le-mul-left, mul-le-mul-right}
-use Rattle.staged.specs.declared.long_root.Root.{Root}
-use Rattle.staged.specs.Split.{million, splitOf}
-use Rattle.staged.specs.LongRoot.{Squares, radicand, Greatest}
-use Rattle.staged.proofs.LongRoot.{square-le}
-use Rattle.staged.proofs.Smallest.{split-is}
+use native.Mathlib.{Omega.{arith}, Nat.{mul-le-mul, mul-le-mul-left, mul-le-mul-right}}
+use Rattle.staged.specs.{declared.long_root.Root.{Root}, Split.{million, splitOf}, LongRoot.{Squares, radicand, Greatest}}
+use Rattle.staged.proofs.{LongRoot.{square-le}, Smallest.{split-is}}
 
 rises : {m w i : ℕ} → m < w → 0 < i → m * m * i < w * w * i
 rises {m} {w} {i} h k =
@@ -33,5 +29,4 @@ module _ {grid injected : ℕ} (r : Root) (s : Squares grid injected) (g : Great
 
   pub split-small : r .whole ≤ 100000000000
   unfolding radicand
-  split-small =
-      square-le (r .whole) 100000000000 (omega (arith, e, s .grid-most, mul-le-mul-left (r .whole * r .whole) (s .some)))
+  split-small = square-le (r .whole) 100000000000 (omega (arith, e, s .grid-most, mul-le-mul-left (r .whole * r .whole) (s .some)))

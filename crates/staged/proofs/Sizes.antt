@@ -1,12 +1,8 @@
 -- The size of a part, by its sign.
 use Prim.Native.Nat.{_<_, _^_}
-use mathlib.Core.Path.{_≡_, refl, _∙_}
-use mathlib.Core.Bool.{true, false}
-use lib.IntN.{ℤ, pos, negsuc, negℤ, natAbs, _-ℤ_}
-use lib.Signed.{mag, ltZ}
-use mir.Syntax.{w64}
-use mir.Val.{SFits}
-use mir.Facts.{toZ-ofZ}
+use mathlib.Core.{Path.{_≡_, refl, _∙_}, Bool.{true, false}}
+use lib.{IntN.{ℤ, pos, negsuc, negℤ, natAbs, _-ℤ_}, Signed.{mag, ltZ}}
+use mir.{Syntax.{w64}, Val.{SFits}, Facts.{toZ-ofZ}}
 use Rattle.interval.proofs.Bits.{read, negated-is, below-zero, not-below-zero}
 
 turned : (z : ℤ) → z ≡ negsuc (mag z) → negℤ z ≡ pos (natAbs z)

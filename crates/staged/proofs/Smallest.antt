@@ -1,10 +1,7 @@
 -- The split is enough and no smaller number is; a number with both properties is the split.
 use Prim.Native.Nat.{ℕ, zero, suc, _*_, _≤_, _<_}
-use mathlib.Core.Path.{_≡_, refl}
-use mathlib.Core.Bool.{Bool, true, false, cond, not}
-use native.Mathlib.Omega.{arith}
-use native.Mathlib.Decide.{decLt}
-use native.Mathlib.Nat.{mul-le-mul}
+use mathlib.Core.{Path.{_≡_, refl}, Bool.{Bool, true, false, cond, not}}
+use native.Mathlib.{Omega.{arith}, Decide.{decLt}, Nat.{mul-le-mul}}
 use lib.Dec.{T, leb→le, le→leb, nleb→lt}
 use Rattle.staged.specs.Split.{smallest, million, enough, splitOf}
 

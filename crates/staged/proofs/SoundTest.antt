@@ -1,23 +1,13 @@
 -- A test that passed the checks: its parts, and the squares of its grid current and its injected current.
 use Prim.Native.Nat.{ℕ, zero, suc, _+_, _*_, _≤_, _<_}
-use mathlib.Core.Path.{_≡_}
-use mathlib.Core.Bool.{false, _&&_}
-use mathlib.Core.List.{List}
-use native.Mathlib.Omega.{arith}
-use native.Mathlib.Nat.{mul-le-mul}
-use lib.Dec.{eqb}
-use lib.IntN.{ℤ, pos, natAbs}
-use lib.ListN.{length, getD, drop, length-drop}
-use lib.Seq.{getD-drop}
-use Rattle.staged.specs.declared.SplitAnswer.the-variants.{Grid}
-use Rattle.staged.specs.Check.{fewestNumbers, largestPart, noneInjected}
-use Rattle.staged.specs.Current.{inPhase, quadrature, injected, squareOf}
-use Rattle.staged.specs.Split.{splitOf}
-use Rattle.staged.specs.Answer.{gridSquare, injectedSquare, gridAnswer}
-use Rattle.staged.specs.Parts.{largestGridPart, Sound, Parts, GridPart}
+use mathlib.Core.{Path.{_≡_}, Bool.{false, _&&_}, List.{List}}
+use native.Mathlib.{Omega.{arith}, Nat.{mul-le-mul}}
+use lib.{Dec.{eqb}, IntN.{ℤ, pos, natAbs}, ListN.{length, getD, drop, length-drop}, Seq.{getD-drop}}
+use Rattle.staged.specs.{declared.SplitAnswer.the-variants.{Grid}, Check.{fewestNumbers, largestPart, noneInjected}}
+use Rattle.staged.specs.{Current.{inPhase, quadrature, injected, squareOf}, Split.{splitOf}}
+use Rattle.staged.specs.{Answer.{gridSquare, injectedSquare, gridAnswer}, Parts.{largestGridPart, Sound, Parts, GridPart}}
 use Rattle.staged.specs.LongRoot.{Squares}
-use Rattle.staged.proofs.Checks.{count-low, count-high, parts-inside}
-use Rattle.staged.proofs.GridCurrent.{first-kept}
+use Rattle.staged.proofs.{Checks.{count-low, count-high, parts-inside}, GridCurrent.{first-kept}}
 
 some-square : (a b : ℕ) → eqb a 0 && eqb b 0 ≡ false → 0 < a * a + b * b
 some-square zero zero h = let z : _≡_ {A = ℕ} 0 1 = cc in omega arith

@@ -1,14 +1,9 @@
 -- The answer to a staged test. Request (l) of document 02.
 use Prim.Native.Nat.{ℕ}
-use mathlib.Core.Bool.{cond}
-use mathlib.Core.List.{List}
-use lib.IntN.{ℤ}
-use lib.ListN.{length}
-use Rattle.staged.specs.declared.SplitAnswer.{SplitAnswer}
-use Rattle.staged.specs.declared.SplitAnswer.the-variants.{Grid, Refused}
-use Rattle.staged.specs.Check.{badCount, anyOutside, noneInjected}
-use Rattle.staged.specs.Current.{inPhase, quadrature, injected, gridPart, squareOf}
-use Rattle.staged.specs.Split.{splitOf}
+use mathlib.Core.{Bool.{cond}, List.{List}}
+use lib.{IntN.{ℤ}, ListN.{length}}
+use Rattle.staged.specs.{declared.SplitAnswer.{SplitAnswer, the-variants.{Grid, Refused}}, Check.{badCount, anyOutside, noneInjected}}
+use Rattle.staged.specs.{Current.{inPhase, quadrature, injected, gridPart, squareOf}, Split.{splitOf}}
 
 module _ (s : List ℤ) where
   unfoldable pub gridSquare : ℕ

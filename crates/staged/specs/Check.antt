@@ -1,12 +1,8 @@
 -- The checks of a staged test's numbers: the injected current's in-phase and quadrature part in signed milliamperes, then those of each
 -- branch. Request (l) of document 02.
 use Prim.Native.Nat.{ℕ, _%_}
-use mathlib.Core.Bool.{Bool, false, not, _&&_, _||_}
-use mathlib.Core.List.{List, [], _∷_}
-use lib.Dec.{ltb, eqb}
-use lib.IntN.{ℤ, pos, negℤ, natAbs}
-use lib.ListN.{getD}
-use lib.Signed.{ltZ}
+use mathlib.Core.{Bool.{Bool, false, not, _&&_, _||_}, List.{List, [], _∷_}}
+use lib.{Dec.{ltb, eqb}, IntN.{ℤ, pos, negℤ, natAbs}, ListN.{getD}, Signed.{ltZ}}
 
 -- "the injected pair first, then 1 to 16 branch pairs"
 unfoldable pub fewestNumbers : ℕ

@@ -1,13 +1,10 @@
 -- The answer to a staged test computed on examples.
-use mathlib.Core.Path.{_≡_, refl}
-use mathlib.Core.List.{List, [], _∷_, map}
+use mathlib.Core.{Path.{_≡_, refl}, List.{List, [], _∷_, map}}
 use lib.IntN.{ℤ, pos, negsuc}
-use Rattle.staged.specs.declared.SplitAnswer.{SplitAnswer}
-use Rattle.staged.specs.declared.SplitAnswer.the-variants.{Grid, Refused}
+use Rattle.staged.specs.declared.SplitAnswer.{SplitAnswer, the-variants.{Grid, Refused}}
 use Rattle.staged.specs.Check.{fewestNumbers, mostNumbers, badCount, largestPart, outside, anyOutside, noneInjected}
 use Rattle.staged.specs.Current.{everyOther, inPhase, quadrature, injected, branches, total, gridPart, squareOf}
-use Rattle.staged.specs.Split.{smallest, enough, splitOf}
-use Rattle.staged.specs.Answer.{gridSquare, injectedSquare, gridAnswer, answer}
+use Rattle.staged.specs.{Split.{smallest, enough, splitOf}, Answer.{gridSquare, injectedSquare, gridAnswer, answer}}
 
 answered : List ℤ → SplitAnswer
 unfolding fewestNumbers mostNumbers badCount largestPart outside anyOutside noneInjected everyOther inPhase quadrature injected branches total gridPart squareOf smallest enough splitOf gridSquare injectedSquare gridAnswer answer

@@ -1,12 +1,8 @@
 -- What is known of a staged test's numbers once the checks are passed.
 use Prim.Native.Nat.{ℕ, _≤_, _<_}
-use mathlib.Core.Path.{_≡_}
-use mathlib.Core.Bool.{false}
-use mathlib.Core.List.{List}
-use lib.IntN.{ℤ, pos, natAbs}
-use lib.ListN.{length, getD}
-use Rattle.staged.specs.Current.{everyOther, gridPart}
-use Rattle.staged.specs.Check.{badCount, anyOutside, noneInjected, mostNumbers, largestPart}
+use mathlib.Core.{Path.{_≡_}, Bool.{false}, List.{List}}
+use lib.{IntN.{ℤ, pos, natAbs}, ListN.{length, getD}}
+use Rattle.staged.specs.{Current.{everyOther, gridPart}, Check.{badCount, anyOutside, noneInjected, mostNumbers, largestPart}}
 
 -- no check refuses them
 pub record Sound (s : List ℤ) : Type 0 where

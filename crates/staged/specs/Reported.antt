@@ -1,11 +1,8 @@
 -- What a reported grid current and split mean for the numbers of the test. Request (l) of document 02; proofs/Reporting.antt has the law.
 use Prim.Native.Nat.{ℕ, _*_, _≤_, _<_}
-use mathlib.Core.Path.{_≡_}
-use mathlib.Core.List.{List}
+use mathlib.Core.{Path.{_≡_}, List.{List}}
 use lib.IntN.{ℤ, _+ℤ_}
-use Rattle.staged.specs.Current.{inPhase, quadrature, injected, branches, total, squareOf}
-use Rattle.staged.specs.Split.{million}
-use Rattle.staged.specs.Answer.{injectedSquare}
+use Rattle.staged.specs.{Current.{inPhase, quadrature, injected, branches, total, squareOf}, Split.{million}, Answer.{injectedSquare}}
 
 -- "Branches and grid together make the injected current exactly, part by part", and the split is "the smallest whole per mille whose square
 -- times the injected square is not below a million times the grid's square"

@@ -1,33 +1,23 @@
 -- The claim about a sheet and its two tables, from the rows worked in a table of its own, the summary, and the room of both tables.
 use Prim.Native.Nat.{ℕ, _*_, _≤_, _<_}
-use mathlib.Core.Path.{_≡_, refl, sym, ap, _∙_}
-use mathlib.Core.List.{List, [], _++_}
+use mathlib.Core.{Path.{_≡_, refl, sym, ap, _∙_}, List.{List, [], _++_}}
 use native.Mathlib.Omega.{arith}
-use lib.IntN.{ℤ}
-use lib.ListN.{length, getD, take, drop, length-append, length-drop, length-map}
-use lib.Seq.{length-take-le, take-at, drop-at}
+use lib.{IntN.{ℤ}, ListN.{length, getD, take, drop, length-append, length-drop, length-map}, Seq.{length-take-le, take-at, drop-at}}
 use borrow.Author.Tests.{lt-ltb, le-ltb}
 use Rattle.tables.proofs.Writing.{part-of-front}
 use Rattle.text.specs.Text.{fieldsOf}
-use Rattle.case.specs.declared.Case.{Case}
-use Rattle.case.specs.Columns.{columns}
+use Rattle.case.specs.{declared.Case.{Case}, Columns.{columns}}
 use Rattle.header.specs.Header.{columnsOf}
 use Rattle.line.specs.Line.{lineCase}
-use Rattle.judgement.specs.Limits.{mostLines}
-use Rattle.judgement.specs.Sheet.{names, valueLines}
+use Rattle.judgement.specs.{Limits.{mostLines}, Sheet.{names, valueLines}}
 use Rattle.row.specs.Row.{rowLength}
-use Rattle.sheet.specs.declared.Answer.{Answer}
+use Rattle.sheet.specs.{declared.Answer.{Answer}, Answer.{cases, answer}, Table.{rowAt, Filled, TableAfter, Answered}}
+use Rattle.sheet.proofs.{Accepted.{accepted}, AnyRoom.{refused-anywhere, count-most, short-there, rows-there}}
 use Rattle.sheet.specs.declared.Answer.the-variants as sheet
-use Rattle.sheet.specs.Answer.{cases, answer}
-use Rattle.sheet.specs.Table.{rowAt, Filled, TableAfter, Answered}
-use Rattle.sheet.proofs.Accepted.{accepted}
 use Rattle.stations.specs.declared.Summed.the-variants.{Summary, Refused}
-use Rattle.stations.specs.Summary.{byAppearance, stations, stationLength, summaryOf, filled}
-use Rattle.stations.specs.declared.Sums.{Sums}
-use Rattle.stations.specs.Sums.{none, sumsAt, sixes}
-use Rattle.stations.specs.Places.{stationColumn, Places}
+use Rattle.stations.specs.{Summary.{byAppearance, stations, stationLength, summaryOf, filled}, declared.Sums.{Sums}}
+use Rattle.stations.specs.{Sums.{none, sumsAt, sixes}, Places.{stationColumn, Places}}
 use Rattle.stations.specs.Answer.{sheetRows, summaryRefused, answerAfter, summaryAnswer, TablesAfter, SummaryAnswered}
-use Rattle.sheet.proofs.AnyRoom.{refused-anywhere, count-most, short-there, rows-there}
 use Rattle.stations.proofs.StationSums.{stations-found, summary-put}
 
 -- ---- rows copied from one table into another
@@ -101,8 +91,7 @@ module _ {s : List ℕ} {zeros own : List ℤ} {r : Answer} {n : ℕ} (told : An
 
   -- the rows copied into a table are the answer there
   pub copied-answered : {before after : List ℤ} → rowLength * n ≤ length before
-      → after ≡ take (rowLength * n) own ++ drop (rowLength * n) before
-      → Answered s before after (sheet.Rows n)
+      → after ≡ take (rowLength * n) own ++ drop (rowLength * n) before → Answered s before after (sheet.Rows n)
   unfolding TableAfter
   copied-answered {before} room e =
       record {

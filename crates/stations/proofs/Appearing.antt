@@ -1,18 +1,11 @@
 -- The pass that finds the stations by first appearance: the lines before i are placed.
 use Prim.Native.Nat.{ℕ, zero, suc, _+_, _-_, _≤_, _<_}
-use mathlib.Core.Path.{_≡_, refl, sym, ap, _∙_}
-use mathlib.Core.Logic.{_⊎_, inl, inr, ⊎-elim}
-use mathlib.Core.Bool.{Bool, true, false, _||_}
-use mathlib.Core.List.{List, [], _∷_, _++_}
-use native.Mathlib.Nat.{eq-or-lt-of-le}
-use native.Mathlib.Numerals.{add-one}
-use native.Mathlib.Omega.{arith}
-use lib.IntN.{ℤ, pos}
-use lib.ListN.{length, getD, set, take, length-set}
+use mathlib.Core.{Path.{_≡_, refl, sym, ap, _∙_}, Logic.{_⊎_, inl, inr, ⊎-elim}, Bool.{Bool, true, false, _||_}, List.{List, [], _∷_, _++_}}
+use native.Mathlib.{Nat.{eq-or-lt-of-le}, Numerals.{add-one}, Omega.{arith}}
+use lib.{IntN.{ℤ, pos}, ListN.{length, getD, set, take, length-set}}
 use lib.Seq.{getD-set-same, getD-set-other, getD-take, take-suc-set, length-take-le}
 use Rattle.judgement.specs.Limits.{mostLines}
-use Rattle.stations.specs.Summary.{sameZ, among, byAppearance}
-use Rattle.stations.specs.Places.{PlaceOf, stationAt, stationColumn, Places}
+use Rattle.stations.specs.{Summary.{sameZ, among, byAppearance}, Places.{PlaceOf, stationAt, stationColumn, Places}}
 use Rattle.stations.proofs.Same.{same-refl, not-same}
 
 -- ---- a station among some

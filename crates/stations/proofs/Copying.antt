@@ -1,12 +1,8 @@
 -- The pass that copies the rows: the first i numbers are copied.
 use Prim.Native.Nat.{ℕ, _+_, _≤_, _<_}
-use mathlib.Core.Path.{_≡_, refl, sym, ap, _∙_}
-use mathlib.Core.List.{List, _++_}
-use native.Mathlib.Numerals.{add-one}
-use native.Mathlib.Omega.{arith}
-use lib.IntN.{ℤ, pos}
-use lib.ListN.{length, getD, set, take, drop, length-set}
-use lib.Seq.{paste, paste-zero, paste-suc}
+use mathlib.Core.{Path.{_≡_, refl, sym, ap, _∙_}, List.{List, _++_}}
+use native.Mathlib.{Numerals.{add-one}, Omega.{arith}}
+use lib.{IntN.{ℤ, pos}, ListN.{length, getD, set, take, drop, length-set}, Seq.{paste, paste-zero, paste-suc}}
 
 pub record Copying (source before : List ℤ) (n i : ℕ) (to : List ℤ) : Type 0 where
   pub most : i ≤ n

@@ -1,15 +1,9 @@
 -- The marks of stations: a station whose mark is not among them is not among the stations.
 use Prim.Native.Nat.{ℕ, _+_, _%_, _≤_, _<_}
-use mathlib.Core.Path.{_≡_, refl, ap, _∙_}
-use mathlib.Core.Bool.{Bool, true, false, _||_}
-use mathlib.Core.List.{List}
+use mathlib.Core.{Path.{_≡_, refl, ap, _∙_}, Bool.{Bool, true, false, _||_}, List.{List}}
 use native.Mathlib.Omega.{arith}
-use lib.IntN.{ℤ, pos, natAbs}
-use lib.ListN.{length, getD, set, length-set}
-use lib.Seq.{getD-set-same, getD-set-other}
-use lib.Dec.{eqb}
-use borrow.Author.Count.{below-more}
-use borrow.Author.Tests.{eqb-false}
+use lib.{IntN.{ℤ, pos, natAbs}, ListN.{length, getD, set, length-set}, Seq.{getD-set-same, getD-set-other}, Dec.{eqb}}
+use borrow.Author.{Count.{below-more}, Tests.{eqb-false}}
 use Rattle.text.proofs.Clash.{clash}
 use Rattle.stations.specs.Places.{markOf, NotMarked, Marked, PlaceOf}
 
@@ -51,19 +45,13 @@ marked-start known marks = record { room = omega arith; marks-are = λ k h. absu
 
 -- a station whose mark is not there is new
 pub not-marked : {known : List ℤ} {marks : List ℕ} {count : ℕ} {station : ℤ} → Marked known marks count
-    → NotMarked marks count (markOf station)
-    → PlaceOf known count station count
+    → NotMarked marks count (markOf station) → PlaceOf known count station count
 not-marked m n =
-    record {
-      most = omega arith;
-      before = λ k h e. n .none k h (m .marks-are k h ∙ ap markOf e);
-      here = λ h. absurd (omega arith);
-    }
+    record { most = omega arith; before = λ k h e. n .none k h (m .marks-are k h ∙ ap markOf e); here = λ h. absurd (omega arith) }
 
 -- a new station with its mark
 pub marked-more : {known : List ℤ} {marks : List ℕ} {count : ℕ} (station : ℤ) → Marked known marks count → count < length known
-    → count < length marks
-    → Marked (set known count station) (set marks count (markOf station)) (count + 1)
+    → count < length marks → Marked (set known count station) (set marks count (markOf station)) (count + 1)
 marked-more {known} {marks} {count} station m h l =
     record {
       room = rw (length-set marks count (markOf station)) (omega arith);

@@ -1,20 +1,11 @@
 -- One row more at the end of some rows: the rows of a station, its counts and its worst season.
 use Prim.Native.Nat.{ℕ, suc, _+_}
-use mathlib.Core.Path.{_≡_, refl, sym, ap, _∙_}
-use mathlib.Core.Bool.{Bool, true, false, cond, _||_}
-use mathlib.Core.List.{List, [], _∷_, _++_}
+use mathlib.Core.{Path.{_≡_, refl, sym, ap, _∙_}, Bool.{Bool, true, false, cond, _||_}, List.{List, [], _∷_, _++_}}
 use native.Mathlib.Omega.{arith}
-use lib.Dec.{eqb}
-use lib.IntN.{ℤ}
-use lib.ListN.{length, length-append}
-use lib.Signed.{ltZ}
+use lib.{Dec.{eqb}, IntN.{ℤ}, ListN.{length, length-append}, Signed.{ltZ}}
 use borrow.Author.Tests.{ne-eqb}
-use Rattle.row.specs.declared.Row.{Row}
-use Rattle.row.specs.declared.Verdict.{Verdict}
-use Rattle.row.specs.declared.Verdict.the-variants.{Safe, Unsafe, Undecided}
-use Rattle.row.specs.Verdict.{verdictNumber}
-use Rattle.stations.specs.declared.Sums.{Sums}
-use Rattle.stations.specs.Summary.{sameZ, one, rowsOf, countOf, higher, highest, worstSeason}
+use Rattle.row.specs.{declared.{Row.{Row}, Verdict.{Verdict, the-variants.{Safe, Unsafe, Undecided}}}, Verdict.{verdictNumber}}
+use Rattle.stations.specs.{declared.Sums.{Sums}, Summary.{sameZ, one, rowsOf, countOf, higher, highest, worstSeason}}
 use Rattle.stations.specs.Sums.{entryOf, worst, addTo, worstMesh, sumsOf}
 
 -- sums are equal by their six numbers

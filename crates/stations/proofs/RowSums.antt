@@ -1,20 +1,11 @@
 -- The pass that adds each row at the place of its station.
 use Prim.Native.Nat.{ℕ, zero, suc, _+_, _≤_, _<_}
-use mathlib.Core.Path.{_≡_, refl, sym, ap, _∙_}
-use mathlib.Core.Bool.{Bool, true, false, cond}
-use mathlib.Core.List.{List}
-use native.Mathlib.Numerals.{add-one}
-use native.Mathlib.Omega.{arith}
-use lib.Dec.{eqb}
-use lib.IntN.{ℤ, pos}
-use lib.ListN.{length, getD, set, length-set}
-use lib.Seq.{getD-set-same, getD-set-other}
+use mathlib.Core.{Path.{_≡_, refl, sym, ap, _∙_}, Bool.{Bool, true, false, cond}, List.{List}}
+use native.Mathlib.{Numerals.{add-one}, Omega.{arith}}
+use lib.{Dec.{eqb}, IntN.{ℤ, pos}, ListN.{length, getD, set, length-set}, Seq.{getD-set-same, getD-set-other}}
 use borrow.Author.Tests.{eqb-true, eqb-false}
 use Rattle.judgement.specs.Limits.{mostLines}
-use Rattle.stations.specs.declared.Entry.{Entry}
-use Rattle.stations.specs.declared.Sums.{Sums}
-use Rattle.stations.specs.Summary.{sameZ}
-use Rattle.stations.specs.Sums.{addTo, none, entryAt, sumsAt, Small}
+use Rattle.stations.specs.{declared.{Entry.{Entry}, Sums.{Sums}}, Summary.{sameZ}, Sums.{addTo, none, entryAt, sumsAt, Small}}
 use Rattle.stations.proofs.Same.{one-most}
 
 -- ---- the counts are small

@@ -1,14 +1,10 @@
 -- Two signed numbers are the same where their bits are.
 use Prim.Native.Nat.{ℕ, _≤_}
-use mathlib.Core.Path.{_≡_, refl, sym, ap, _∙_}
-use mathlib.Core.Bool.{Bool, true, false}
+use mathlib.Core.{Path.{_≡_, refl, sym, ap, _∙_}, Bool.{Bool, true, false}}
 use native.Mathlib.Omega.{arith}
-use lib.Dec.{eqb}
-use lib.IntN.{ℤ, pos, negsuc}
+use lib.{Dec.{eqb}, IntN.{ℤ, pos, negsuc}}
 use borrow.Author.Tests.{eqb-true, eq-eqb}
-use mir.Syntax.{w64}
-use mir.Val.{SFits, toZ, ofZ}
-use mir.Facts.{toZ-ofZ}
+use mir.{Syntax.{w64}, Val.{SFits, toZ, ofZ}, Facts.{toZ-ofZ}}
 use Rattle.text.proofs.Clash.{clash}
 use Rattle.stations.specs.Summary.{sameZ, one}
 
@@ -44,8 +40,7 @@ one-most true = omega arith
 one-most false = omega arith
 
 pub same-comm : (a b : ℤ) → sameZ a b ≡ sameZ b a
-same-comm a b =
-    agree (sameZ a b) (sameZ b a) (λ h. rw (same-eq a b h) (same-refl b)) (λ h. rw (same-eq b a h) (same-refl a))
+same-comm a b = agree (sameZ a b) (sameZ b a) (λ h. rw (same-eq a b h) (same-refl b)) (λ h. rw (same-eq b a h) (same-refl a))
 
 pub not-same : (a b : ℤ) → (a ≡ b → ⊥) → sameZ a b ≡ false
 not-same a b h = go (sameZ a b) refl

@@ -1,13 +1,10 @@
 -- Every station of some rows stands once among the stations by first appearance, and no other number does.
 use Prim.Native.Nat.{_+_}
-use mathlib.Core.Path.{_≡_, refl, sym, ap, _∙_}
-use mathlib.Core.Bool.{Bool, true, false, cond, _||_}
-use mathlib.Core.List.{List, [], _∷_, _++_}
+use mathlib.Core.{Path.{_≡_, refl, sym, ap, _∙_}, Bool.{Bool, true, false, cond, _||_}, List.{List, [], _∷_, _++_}}
 use native.Mathlib.Omega.{arith}
 use lib.IntN.{ℤ}
 use Rattle.row.specs.declared.Row.{Row}
-use Rattle.stations.specs.Summary.{sameZ, one, among, byAppearance, stationsOf, stations}
-use Rattle.stations.specs.Meaning.{times}
+use Rattle.stations.specs.{Summary.{sameZ, one, among, byAppearance, stationsOf, stations}, Meaning.{times}}
 use Rattle.stations.proofs.Same.{same-eq, same-comm}
 
 -- ---- one number more at the end

@@ -1,29 +1,19 @@
 -- What the passes gather at the place of a station is what the station's rows add up to, and so the numbers put are the summary.
 use Prim.Native.Nat.{ℕ, zero, suc, _+_, _*_, _≤_, _<_}
-use mathlib.Core.Path.{_≡_, refl, sym, ap, _∙_}
-use mathlib.Core.Bool.{Bool, true, false, cond}
-use mathlib.Core.List.{List, [], _∷_, _++_, map}
+use mathlib.Core.{Path.{_≡_, refl, sym, ap, _∙_}, Bool.{Bool, true, false, cond}, List.{List, [], _∷_, _++_, map}}
 use native.Mathlib.Omega.{arith}
-use lib.Dec.{eqb}
-use lib.IntN.{ℤ, pos}
-use lib.ListN.{length, getD, take, drop, length-map, drop-of-length-le, List·getD-map}
+use lib.{Dec.{eqb}, IntN.{ℤ, pos}, ListN.{length, getD, take, drop, length-map, drop-of-length-le, List·getD-map}}
 use lib.Seq.{getD-take, getD-drop, drop-cons, take-suc, take-all}
 use borrow.Author.Tests.{eqb-true, eqb-false}
-use Rattle.case.specs.declared.Case.{Case}
-use Rattle.case.specs.Case.{caseOf}
-use Rattle.row.specs.declared.Row.{Row}
-use Rattle.row.specs.Places.{seasonPlace, verdictPlace, meshUpperPlace}
-use Rattle.row.specs.Row.{rowLength, numbers}
-use Rattle.row.specs.Ends.{rowOf}
+use Rattle.case.specs.{declared.Case.{Case}, Case.{caseOf}}
+use Rattle.row.specs.{declared.Row.{Row}, Places.{seasonPlace, verdictPlace, meshUpperPlace}, Row.{rowLength, numbers}, Ends.{rowOf}}
 use Rattle.judgement.specs.Limits.{mostLines}
 use Rattle.sheet.specs.Table.{rowAt, RowOf}
-use Rattle.stations.specs.declared.Entry.{Entry}
-use Rattle.stations.specs.declared.Sums.{Sums}
+use Rattle.stations.specs.declared.{Entry.{Entry}, Sums.{Sums}}
 use Rattle.stations.specs.Summary.{sameZ, byAppearance, stationsOf, stations, rowsOf, countOf, worstSeason, stationNumbers, summaryOf}
 use Rattle.stations.specs.Sums.{entryOf, entryAt, addTo, none, worstMesh, sumsOf, sumsAt, six, sixes}
 use Rattle.stations.specs.Places.{stationAt, stationColumn, Places}
-use Rattle.stations.proofs.Same.{same-refl, not-same}
-use Rattle.stations.proofs.OneRowMore.{rows-more, sums-more}
+use Rattle.stations.proofs.{Same.{same-refl, not-same}, OneRowMore.{rows-more, sums-more}}
 
 -- a row where there is none
 abbrev noRow : Row

@@ -1,16 +1,11 @@
 -- The summary table: six numbers a station, one station after the other.
 use Prim.Native.Nat.{ℕ, suc, _+_, _*_, _-_, _≤_, _<_}
-use mathlib.Core.Path.{_≡_, refl, sym, ap, _∙_}
-use mathlib.Core.List.{List, [], _∷_, _++_, append-assoc}
-use native.Mathlib.Numerals.{add-one}
-use native.Mathlib.Omega.{arith}
-use lib.IntN.{ℤ, pos}
-use lib.ListN.{length, getD, set, take, drop, length-append, length-drop, take-append-drop}
+use mathlib.Core.{Path.{_≡_, refl, sym, ap, _∙_}, List.{List, [], _∷_, _++_, append-assoc}}
+use native.Mathlib.{Numerals.{add-one}, Omega.{arith}}
+use lib.{IntN.{ℤ, pos}, ListN.{length, getD, set, take, drop, length-append, length-drop, take-append-drop}}
 use lib.Seq.{take-at, drop-at, length-take-le, drop-drop}
 use borrow.Rule.Slice.PartMut.{putMid, post-is}
-use Rattle.stations.specs.declared.Sums.{Sums}
-use Rattle.stations.specs.Summary.{filled, stationLength}
-use Rattle.stations.specs.Sums.{none, six, sixes, putAt}
+use Rattle.stations.specs.{declared.Sums.{Sums}, Summary.{filled, stationLength}, Sums.{none, six, sixes, putAt}}
 
 pub six-set : (l : List ℤ) (a b c d e f : ℤ) → length l ≡ stationLength
     → set (set (set (set (set (set l 0 a) 1 b) 2 c) 3 d) 4 e) 5 f ≡ a ∷ b ∷ c ∷ d ∷ e ∷ f ∷ []

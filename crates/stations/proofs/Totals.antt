@@ -1,20 +1,12 @@
 -- "The three counts add up to the seasons, and the seasons over all stations to the rows."
 use Prim.Native.Nat.{ℕ, zero, suc, _+_, _<_}
-use mathlib.Core.Path.{_≡_, refl, ap, _∙_}
-use mathlib.Core.Bool.{Bool, true, false, cond, _||_}
-use mathlib.Core.List.{List, [], _∷_, map}
+use mathlib.Core.{Path.{_≡_, refl, ap, _∙_}, Bool.{Bool, true, false, cond, _||_}, List.{List, [], _∷_, map}}
 use native.Mathlib.Omega.{arith}
-use lib.Dec.{eqb}
-use lib.IntN.{ℤ, pos}
-use lib.ListN.{length, getD}
-use Rattle.row.specs.declared.Row.{Row}
-use Rattle.row.specs.declared.Verdict.{Verdict}
-use Rattle.row.specs.declared.Verdict.the-variants.{Safe, Unsafe, Undecided}
-use Rattle.row.specs.Verdict.{verdictNumber}
+use lib.{Dec.{eqb}, IntN.{ℤ, pos}, ListN.{length, getD}}
+use Rattle.row.specs.{declared.{Row.{Row}, Verdict.{Verdict, the-variants.{Safe, Unsafe, Undecided}}}, Verdict.{verdictNumber}}
 use Rattle.stations.specs.Summary.{sameZ, one, among, stationsOf, stations, rowsOf, countOf, stationNumbers, summaryOf}
 use Rattle.stations.specs.Meaning.{times, total, CountsAddUp}
-use Rattle.stations.proofs.Same.{same-refl}
-use Rattle.stations.proofs.StandsOnce.{stands-once}
+use Rattle.stations.proofs.{Same.{same-refl}, StandsOnce.{stands-once}}
 
 -- ---- the three counts
 

@@ -1,19 +1,14 @@
 -- The stations that a sheet is answered with lie within the summary table.
 use Prim.Native.Nat.{ℕ, _*_, _≤_}
-use mathlib.Core.Path.{_≡_, refl, sym, ap, _∙_}
-use mathlib.Core.Bool.{Bool, true, false, cond}
-use mathlib.Core.List.{List, [], _∷_, map}
+use mathlib.Core.{Path.{_≡_, refl, sym, ap, _∙_}, Bool.{Bool, true, false, cond}, List.{List, [], _∷_, map}}
 use native.Mathlib.Omega.{arith}
-use lib.Dec.{ltb}
-use lib.IntN.{ℤ}
-use lib.ListN.{length, drop, length-drop}
+use lib.{Dec.{ltb}, IntN.{ℤ}, ListN.{length, drop, length-drop}}
 use borrow.Author.Tests.{ltb-false}
 use Rattle.text.proofs.Clash.{clash}
 use Rattle.row.specs.declared.Row.{Row}
 use Rattle.sheet.specs.declared.Answer.{Answer}
 use Rattle.sheet.specs.declared.Answer.the-variants as sheet
-use Rattle.stations.specs.declared.Summed.{Summed}
-use Rattle.stations.specs.declared.Summed.the-variants.{Summary, Refused}
+use Rattle.stations.specs.declared.Summed.{Summed, the-variants.{Summary, Refused}}
 use Rattle.stations.specs.Summary.{stations, rowsOf, stationLength, stationNumbers, summaryOf, filled}
 use Rattle.stations.specs.Answer.{sheetRows, summaryRefused, answerAfter, summaryAnswer, Summarised, TablesAfter, SummaryAnswered}
 

@@ -1,20 +1,14 @@
 -- The season named belongs to a row of the station whose upper mesh end no row of the station exceeds and no earlier one equals.
 use Prim.Native.Nat.{ℕ, zero, suc, _<_}
-use mathlib.Core.Path.{_≡_, refl, sym, ap, _∙_}
-use mathlib.Core.Bool.{Bool, true, false, cond, _||_}
-use mathlib.Core.List.{List, [], _∷_, map}
+use mathlib.Core.{Path.{_≡_, refl, sym, ap, _∙_}, Bool.{Bool, true, false, cond, _||_}, List.{List, [], _∷_, map}}
 use native.Mathlib.Omega.{arith}
-use lib.IntN.{ℤ, pos}
-use lib.ListN.{length, getD}
-use lib.Signed.{ltZ, _≤ℤ_, _<ℤ_, ltZ-no, ≤ℤ-refl}
+use lib.{IntN.{ℤ, pos}, ListN.{length, getD}, Signed.{ltZ, _≤ℤ_, _<ℤ_, ltZ-no, ≤ℤ-refl}}
 use Rattle.text.proofs.Clash.{clash}
 use Rattle.interval.proofs.Signed.{le-halves, halves-le, lt-halves, halves-lt}
 use Rattle.row.specs.declared.Row.{Row}
 use Rattle.stations.specs.Summary.{sameZ, one, among, stationsOf, rowsOf, higher, highest, worstSeason, stations, stationNumbers}
-use Rattle.stations.specs.Summary.{summaryOf}
-use Rattle.stations.specs.Meaning.{times, numberOf, HighestAt, WorstSeason}
-use Rattle.stations.proofs.Same.{same-refl}
-use Rattle.stations.proofs.StandsOnce.{stands-once}
+use Rattle.stations.specs.{Summary.{summaryOf}, Meaning.{times, numberOf, HighestAt, WorstSeason}}
+use Rattle.stations.proofs.{Same.{same-refl}, StandsOnce.{stands-once}}
 
 -- ---- the order of mesh ends
 
@@ -41,11 +35,7 @@ record HighestRow (none x : Row) (rows : List Row) : Type 0 where
 highest-later : {none x y : Row} {rows : List Row} → x .mesh .upper <ℤ y .mesh .upper → (r : HighestRow none y rows)
     → HighestAt (x ∷ y ∷ rows) none (suc (r .line))
 highest-later {none} {x} {y} {rows} h r =
-    record {
-      within = omega (arith, r .at .within);
-      highest = at-highest;
-      earlier = at-earlier;
-    }
+    record { within = omega (arith, r .at .within); highest = at-highest; earlier = at-earlier }
   where
     below : x .mesh .upper <ℤ getD (y ∷ rows) (r .line) none .mesh .upper
     below = lt-le h (r .at .highest zero (omega arith))
@@ -82,8 +72,7 @@ module _ {none x : Row} (y : Row) {rows : List Row} (h : y .mesh .upper ≤ℤ x
   at-highest (suc (suc j)) l = r .at .highest (suc j) (omega arith)
 
   at-earlier : (k j : ℕ) → ((j : ℕ) → j < k → getD (x ∷ rows) j none .mesh .upper <ℤ getD (x ∷ rows) (r .line) none .mesh .upper)
-      → j < past k
-      → getD (x ∷ y ∷ rows) j none .mesh .upper <ℤ getD (x ∷ rows) (r .line) none .mesh .upper
+      → j < past k → getD (x ∷ y ∷ rows) j none .mesh .upper <ℤ getD (x ∷ rows) (r .line) none .mesh .upper
   unfolding past
   at-earlier zero j e l = absurd (omega arith)
   at-earlier (suc k) zero e l = e zero (omega arith)

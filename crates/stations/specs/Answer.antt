@@ -1,20 +1,12 @@
 -- The answer of the station summary, and what it leaves in the two tables: one claim over every sheet and every two tables. Document 02
 -- (m).
 use Prim.Native.Nat.{ℕ, _*_}
-use mathlib.Core.Path.{_≡_}
-use mathlib.Core.Bool.{cond}
-use mathlib.Core.List.{List, map}
-use lib.Dec.{ltb}
-use lib.IntN.{ℤ}
-use lib.ListN.{length}
-use Rattle.row.specs.declared.Row.{Row}
-use Rattle.row.specs.Ends.{rowOf}
-use Rattle.sheet.specs.declared.Answer.{Answer}
+use mathlib.Core.{Path.{_≡_}, Bool.{cond}, List.{List, map}}
+use lib.{Dec.{ltb}, IntN.{ℤ}, ListN.{length}}
+use Rattle.row.specs.{declared.Row.{Row}, Ends.{rowOf}}
+use Rattle.sheet.specs.{declared.Answer.{Answer}, Answer.{cases, answer}, Table.{Answered}}
 use Rattle.sheet.specs.declared.Answer.the-variants as sheet
-use Rattle.sheet.specs.Answer.{cases, answer}
-use Rattle.sheet.specs.Table.{Answered}
-use Rattle.stations.specs.declared.Summed.{Summed}
-use Rattle.stations.specs.declared.Summed.the-variants.{Summary, Refused}
+use Rattle.stations.specs.declared.Summed.{Summed, the-variants.{Summary, Refused}}
 use Rattle.stations.specs.Summary.{stations, stationLength, summaryOf, filled}
 
 -- the rows of a sheet: those of the sheet's own question (`RowOf` in sheet/specs/Table.antt)

@@ -1,13 +1,9 @@
 -- The summary computed: stations scattered over the lines, a tie, four seasons.
 use Prim.Native.Nat.{ℕ}
-use mathlib.Core.Path.{_≡_, refl}
-use mathlib.Core.List.{[], _∷_}
+use mathlib.Core.{Path.{_≡_, refl}, List.{[], _∷_}}
 use lib.IntN.{pos}
 use Rattle.interval.specs.Operations.{natural}
-use Rattle.row.specs.declared.Row.{Row}
-use Rattle.row.specs.declared.Verdict.{Verdict}
-use Rattle.row.specs.declared.Verdict.the-variants.{Safe, Unsafe, Undecided}
-use Rattle.row.specs.Verdict.{verdictNumber}
+use Rattle.row.specs.{declared.{Row.{Row}, Verdict.{Verdict, the-variants.{Safe, Unsafe, Undecided}}}, Verdict.{verdictNumber}}
 use Rattle.stations.specs.Summary.{sameZ, one, among, byAppearance, stations, rowsOf, countOf, higher, highest, worstSeason}
 use Rattle.stations.specs.Summary.{stationNumbers, summaryOf, filled}
 

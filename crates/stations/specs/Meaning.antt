@@ -1,10 +1,7 @@
 -- What document 02 (m) says of the summary, in its own words: proofs/StandsOnce.antt, Totals.antt and WorstSeason.antt show that it holds.
 use Prim.Native.Nat.{ℕ, _+_, _<_}
-use mathlib.Core.Path.{_≡_}
-use mathlib.Core.List.{List, [], _∷_}
-use lib.IntN.{ℤ, pos, natAbs}
-use lib.ListN.{length, getD}
-use lib.Signed.{_≤ℤ_, _<ℤ_}
+use mathlib.Core.{Path.{_≡_}, List.{List, [], _∷_}}
+use lib.{IntN.{ℤ, pos, natAbs}, ListN.{length, getD}, Signed.{_≤ℤ_, _<ℤ_}}
 use Rattle.row.specs.declared.Row.{Row}
 use Rattle.stations.specs.Summary.{sameZ, one}
 

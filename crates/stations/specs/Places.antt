@@ -1,9 +1,7 @@
 -- The stations of a table of rows, and the place of each row's station among them.
 use Prim.Native.Nat.{ℕ, zero, suc, _*_, _%_, _≤_, _<_}
-use mathlib.Core.Path.{_≡_}
-use mathlib.Core.List.{List, [], _∷_}
-use lib.IntN.{ℤ, pos, negsuc}
-use lib.ListN.{getD, take, length}
+use mathlib.Core.{Path.{_≡_}, List.{List, [], _∷_}}
+use lib.{IntN.{ℤ, pos, negsuc}, ListN.{getD, take, length}}
 use Rattle.row.specs.Row.{rowLength}
 use Rattle.judgement.specs.Limits.{mostLines}
 use Rattle.stations.specs.Summary.{byAppearance}

@@ -1,16 +1,9 @@
 -- The summary of some rows. Document 02 (m): "a table beside the rows with six numbers a station, stations by first appearance: station,
 -- count of seasons, counts of safe, unsafe and undecided, and the season with the highest upper mesh end, the earlier line on a tie."
 use Prim.Native.Nat.{ℕ, _+_}
-use mathlib.Core.Bool.{Bool, false, cond, _||_}
-use mathlib.Core.List.{List, [], _∷_, _++_, map}
-use lib.Dec.{eqb}
-use lib.IntN.{ℤ, pos, negsuc}
-use lib.ListN.{length, drop}
-use lib.Signed.{ltZ}
-use Rattle.row.specs.declared.Row.{Row}
-use Rattle.row.specs.declared.Verdict.{Verdict}
-use Rattle.row.specs.declared.Verdict.the-variants.{Safe, Unsafe, Undecided}
-use Rattle.row.specs.Verdict.{verdictNumber}
+use mathlib.Core.{Bool.{Bool, false, cond, _||_}, List.{List, [], _∷_, _++_, map}}
+use lib.{Dec.{eqb}, IntN.{ℤ, pos, negsuc}, ListN.{length, drop}, Signed.{ltZ}}
+use Rattle.row.specs.{declared.{Row.{Row}, Verdict.{Verdict, the-variants.{Safe, Unsafe, Undecided}}}, Verdict.{verdictNumber}}
 
 -- two signed numbers are equal
 unfoldable pub sameZ : ℤ → ℤ → Bool

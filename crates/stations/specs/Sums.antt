@@ -1,19 +1,10 @@
 -- The counts of a station as rows are added to them, read from the table of rows.
 use Prim.Native.Nat.{ℕ, zero, suc, _+_, _*_, _≤_, _<_, _^_}
-use mathlib.Core.Bool.{Bool, cond, _||_}
-use mathlib.Core.List.{List, [], _∷_, _++_}
-use lib.Dec.{eqb}
-use lib.IntN.{ℤ, pos}
-use lib.ListN.{getD, length, take, drop}
-use lib.Signed.{ltZ}
-use Rattle.row.specs.declared.Row.{Row}
-use Rattle.row.specs.declared.Verdict.the-variants.{Safe, Unsafe, Undecided}
-use Rattle.row.specs.Verdict.{verdictNumber}
-use Rattle.row.specs.Row.{rowLength}
+use mathlib.Core.{Bool.{Bool, cond, _||_}, List.{List, [], _∷_, _++_}}
+use lib.{Dec.{eqb}, IntN.{ℤ, pos}, ListN.{getD, length, take, drop}, Signed.{ltZ}}
+use Rattle.row.specs.{declared.{Row.{Row}, Verdict.the-variants.{Safe, Unsafe, Undecided}}, Verdict.{verdictNumber}, Row.{rowLength}}
 use Rattle.row.specs.Places.{seasonPlace, verdictPlace, meshUpperPlace}
-use Rattle.stations.specs.declared.Entry.{Entry}
-use Rattle.stations.specs.declared.Sums.{Sums}
-use Rattle.stations.specs.Summary.{sameZ, one, countOf, highest, worstSeason, stationLength}
+use Rattle.stations.specs.{declared.{Entry.{Entry}, Sums.{Sums}}, Summary.{sameZ, one, countOf, highest, worstSeason, stationLength}}
 
 -- ---- what the summary reads of a row
 

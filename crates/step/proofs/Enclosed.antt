@@ -2,38 +2,20 @@
 use Prim.Native.Nat.{ℕ, _+_, _*_, _^_}
 use mathlib.Core.Path.{refl}
 use native.Mathlib.Omega.{arith}
-use lib.Dec.{lit≤}
-use lib.IntN.{pos}
+use lib.{Dec.{lit≤}, IntN.{pos}}
 use Rattle.interval.proofs.Span.{span-divisor}
-use Rattle.exact.specs.Fraction.{_≈f_, decimal, _+f_, _·f_}
-use Rattle.exact.specs.Exact.{exactly, _·x_, _÷x_}
-use Rattle.exact.specs.Reported.{ten, over}
-use Rattle.exact.proofs.Order.{refl≈, trans≈}
-use Rattle.exact.proofs.Sums.{cong+}
-use Rattle.exact.proofs.Products.{cong·}
-use Rattle.exact.proofs.Consistency.{consistent-exactly, consistent-quotient}
-use Rattle.exact.proofs.Factors.{factor-last}
-use Rattle.exact.proofs.Reported.{decimal-over}
-use Rattle.exact.proofs.Quantity.{quantity-exactly}
-use Rattle.enclosure.specs.Enclosure.{Encloses}
-use Rattle.enclosure.proofs.Basics.{encloses-same, encloses-count}
-use Rattle.enclosure.proofs.Products.{encloses-product}
+use Rattle.exact.specs.{Fraction.{_≈f_, decimal, _+f_, _·f_}, Exact.{exactly, _·x_, _÷x_}, Reported.{ten, over}}
+use Rattle.exact.proofs.{Order.{refl≈, trans≈}, Sums.{cong+}, Products.{cong·}, Consistency.{consistent-exactly, consistent-quotient}}
+use Rattle.exact.proofs.{Factors.{factor-last}, Reported.{decimal-over}, Quantity.{quantity-exactly}}
+use Rattle.enclosure.{specs.Enclosure.{Encloses}, proofs.{Basics.{encloses-same, encloses-count}, Products.{encloses-product}}}
 use Rattle.enclosure.proofs.Quotients.{encloses-quotient}
-use Rattle.case.specs.declared.Case.{Case}
-use Rattle.case.specs.Bounds.{Bounds}
-use Rattle.formulas.specs.Lengths.{ρ, Ki}
-use Rattle.formulas.specs.Current.{IG}
-use Rattle.formulas.specs.Step.{LS, step}
-use Rattle.formulas.specs.Width.{mV}
-use Rattle.formulas.proofs.Positive.{LS-pos}
-use Rattle.formulas.proofs.Quantities.{quantity-Ki, quantity-IG}
-use Rattle.formulas.proofs.Consistent.{consistent-Ks}
-use Rattle.lengths.specs.Lengths.{conductorLength, rodLength}
-use Rattle.lengths.proofs.Lengths.{conductor-is, rod-is}
+use Rattle.case.specs.{declared.Case.{Case}, Bounds.{Bounds}}
+use Rattle.formulas.{specs.{Lengths.{ρ, Ki}, Current.{IG}, Step.{LS, step}, Width.{mV}}, proofs.Positive.{LS-pos}}
+use Rattle.formulas.proofs.{Quantities.{quantity-Ki, quantity-IG}, Consistent.{consistent-Ks}}
+use Rattle.lengths.{specs.Lengths.{conductorLength, rodLength}, proofs.Lengths.{conductor-is, rod-is}}
 use Rattle.drive.proofs.Enclosed.{drive-consistent, drive-encloses}
 use Rattle.step.specs.Ends.{stepLength, drivenEnds, stepVoltageEnds}
-use Rattle.step.proofs.Spans.{length-span}
-use Rattle.step.proofs.FactorEnclosed.{factor-encloses}
+use Rattle.step.proofs.{Spans.{length-span}, FactorEnclosed.{factor-encloses}}
 
 weighted : (m k : ℕ) → decimal 75 2 ·f decimal m 3 +f decimal 85 2 ·f decimal k 3 ≈f decimal (50 * (15 * m + 17 * k)) 6
 unfolding decimal _·f_ _+f_

@@ -1,46 +1,23 @@
 -- The ends of Ks include the exact value's ends.
 use Prim.Native.Nat.{ℕ, _+_, _-_, _*_, _^_, _<_}
 use mathlib.Core.Path.{_≡_, refl, ap}
-use native.Mathlib.Omega.{arith}
-use native.Mathlib.Nat.{mul-pos}
-use lib.Dec.{lit≤}
-use lib.IntN.{pos}
-use Rattle.interval.specs.Operations.{point, sumOf, differenceOf, quotientOf}
-use Rattle.interval.specs.declared.Interval.{Interval}
-use Rattle.interval.proofs.Span.{span-divisor}
+use native.Mathlib.{Omega.{arith}, Nat.{mul-pos}}
+use lib.{Dec.{lit≤}, IntN.{pos}}
+use Rattle.interval.{specs.{Operations.{point, sumOf, differenceOf, quotientOf}, declared.Interval.{Interval}}, proofs.Span.{span-divisor}}
 use Rattle.exact.specs.Fraction.{Fraction, _<f_, _≈f_, whole, decimal, _+f_, neg, _−f_, _·f_, inv, _÷f_}
-use Rattle.exact.specs.Exact.{Exact, exactly, _−x_, _÷x_}
-use Rattle.exact.specs.Depth.{workDepth, Consistent, SameEnds}
-use Rattle.exact.specs.Reported.{Scale, ten, reported}
-use Rattle.exact.proofs.Order.{refl≈, sym≈, trans≈}
-use Rattle.exact.proofs.Sums.{cong−}
-use Rattle.exact.proofs.Products.{cong·}
-use Rattle.exact.proofs.Divisors.{inv-cong}
-use Rattle.exact.proofs.Points.{Point, point-same}
-use Rattle.exact.proofs.KnownEnds.{same-refl, same-trans}
-use Rattle.exact.proofs.Alike.{quotient-same}
-use Rattle.exact.proofs.Fractions.{exactly-difference, exactly-quotient}
+use Rattle.exact.specs.{Exact.{Exact, exactly, _−x_, _÷x_}, Depth.{workDepth, Consistent, SameEnds}, Reported.{Scale, ten, reported}}
+use Rattle.exact.proofs.{Order.{refl≈, sym≈, trans≈}, Sums.{cong−}, Products.{cong·}, Divisors.{inv-cong}, Points.{Point, point-same}}
+use Rattle.exact.proofs.{KnownEnds.{same-refl, same-trans}, Alike.{quotient-same}, Fractions.{exactly-difference, exactly-quotient}}
 use Rattle.exact.proofs.Consistency.{proper-at, consistent-exactly, consistent-sum, consistent-difference, consistent-minus}
-use Rattle.exact.proofs.Exponential.{consistent-exp}
-use Rattle.exact.proofs.Reported.{decimal-over}
-use Rattle.exact.proofs.Quantity.{quantity-exactly, quantity-π}
-use Rattle.enclosure.specs.Enclosure.{Encloses}
-use Rattle.enclosure.proofs.Basics.{encloses-same, encloses-exactly, encloses-count, encloses-whole}
-use Rattle.enclosure.proofs.Sums.{encloses-sum, encloses-difference}
-use Rattle.enclosure.proofs.Quotients.{encloses-quotient}
-use Rattle.enclosure.proofs.Constants.{π-encloses, π-span}
-use Rattle.case.specs.declared.Case.{Case}
-use Rattle.case.specs.Bounds.{Bounds}
-use Rattle.formulas.specs.Lengths.{D, h, equalCounts}
-use Rattle.formulas.specs.Step.{halfPower, Ks}
-use Rattle.formulas.proofs.Positive.{decimal-pos}
-use Rattle.formulas.proofs.Conductors.{by-both}
-use Rattle.formulas.proofs.Quantities.{one, consistent-half-exponent}
-use Rattle.formulas.proofs.Consistent.{consistent-share}
+use Rattle.exact.proofs.{Exponential.{consistent-exp}, Reported.{decimal-over}, Quantity.{quantity-exactly, quantity-π}}
+use Rattle.enclosure.{specs.Enclosure.{Encloses}, proofs.Basics.{encloses-same, encloses-exactly, encloses-count, encloses-whole}}
+use Rattle.enclosure.proofs.{Sums.{encloses-sum, encloses-difference}, Quotients.{encloses-quotient}, Constants.{π-encloses, π-span}}
+use Rattle.case.specs.{declared.Case.{Case}, Bounds.{Bounds}}
+use Rattle.formulas.{specs.{Lengths.{D, h, equalCounts}, Step.{halfPower, Ks}}, proofs.{Positive.{decimal-pos}, Conductors.{by-both}}}
+use Rattle.formulas.proofs.{Quantities.{one, consistent-half-exponent}, Consistent.{consistent-share}}
 use Rattle.conductors.proofs.WeightsEnclosed.{half-encloses}
 use Rattle.step.specs.Ends.{perMetre, powerOfTwo, shareEnds, reach, spacingSum, spacingFactor}
-use Rattle.step.proofs.FactorSpans.{power-bounds, space-span}
-use Rattle.step.proofs.Ratios.{inverse-is, counted, counted-point, sum-point}
+use Rattle.step.proofs.{FactorSpans.{power-bounds, space-span}, Ratios.{inverse-is, counted, counted-point, sum-point}}
 
 -- a fraction between the ends of a pair
 encloses-point : {q : Fraction} {u : Scale} {i : Interval} → Point q (reported u i) → Encloses (exactly q) u i

@@ -1,25 +1,14 @@
 -- Sizes and widths of the ends of Ks and of its parts.
 use Prim.Native.Nat.{ℕ, _-_, _*_, _^_, _≤_, _<_}
-use mathlib.Core.Path.{_≡_}
-use mathlib.Core.Bool.{false}
-use native.Mathlib.Omega.{arith}
-use native.Mathlib.Nat.{mul-le-mul, mul-le-mul-left, one-le-pow, pow-le-pow-right}
-use lib.Dec.{lit≤, lit<}
-use lib.IntN.{pos}
-use Rattle.interval.specs.Operations.{point, differenceOf}
-use Rattle.interval.specs.Span.{Span}
-use Rattle.interval.proofs.Span.{span-point, span-sum, span-divide}
-use Rattle.interval.proofs.Negated.{span-difference}
-use Rattle.interval.proofs.Rules.{lits}
-use Rattle.interval.proofs.NumeralSpans.{numeral-point, numeral-quotient, numeral-wider}
+use mathlib.Core.{Path.{_≡_}, Bool.{false}}
+use native.Mathlib.{Omega.{arith}, Nat.{mul-le-mul, mul-le-mul-left, one-le-pow, pow-le-pow-right}}
+use lib.{Dec.{lit≤, lit<}, IntN.{pos}}
+use Rattle.interval.{specs.{Operations.{point, differenceOf}, Span.{Span}}, proofs.Span.{span-point, span-sum, span-divide}}
+use Rattle.interval.proofs.{Negated.{span-difference}, Rules.{lits}, NumeralSpans.{numeral-point, numeral-quotient, numeral-wider}}
 use Rattle.enclosure.proofs.Constants.{π-span}
-use Rattle.case.specs.declared.Case.{Case}
-use Rattle.case.specs.Bounds.{Between, Bounds}
-use Rattle.formulas.specs.Lengths.{equalCounts}
-use Rattle.formulas.proofs.Conductors.{by-place}
-use Rattle.conductors.specs.Weights.{halfPowerEnds}
-use Rattle.conductors.proofs.NumberEnclosed.{counts}
-use Rattle.conductors.proofs.WeightWidths.{half-span}
+use Rattle.case.specs.{declared.Case.{Case}, Bounds.{Between, Bounds}}
+use Rattle.formulas.{specs.Lengths.{equalCounts}, proofs.Conductors.{by-place}}
+use Rattle.conductors.{specs.Weights.{halfPowerEnds}, proofs.{NumberEnclosed.{counts}, WeightWidths.{half-span}}}
 use Rattle.drive.specs.Ends.{numberOf}
 use Rattle.step.specs.Ends.{perMetre, powerOfTwo, shareEnds, reach, spacingSum, spacingFactor}
 
@@ -47,8 +36,7 @@ module _ {c : Case} (b : Bounds c) where
       record { low = one-le-pow _ 2 (lit< tt); high = pow-le-pow-right {n = 2} (lit< tt) {j = 23} (omega (arith, b .across .high)) }
 
   pub divisor-bounds : Between 2500 (powerOfTwo c * c .space) 251658240000
-  divisor-bounds =
-      record { low = mul-le-mul (power-bounds .low) (b .space .low); high = mul-le-mul (power-bounds .high) (b .space .high) }
+  divisor-bounds = record { low = mul-le-mul (power-bounds .low) (b .space .low); high = mul-le-mul (power-bounds .high) (b .space .high) }
 
   square-span : Span (perMetre (powerOfTwo c - 1) (powerOfTwo c * c .space)) 0 400000000 1
   square-span =

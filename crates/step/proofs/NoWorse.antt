@@ -4,14 +4,11 @@ use Prim.Native.Nat.{ℕ, _*_, _≤_}
 use mathlib.Core.Path.{_≡_, refl}
 use lib.Dec.{lit≤, lit<}
 use Rattle.interval.proofs.Below.{Below, below-times, below-quotient}
-use Rattle.case.specs.declared.Case.{Case}
-use Rattle.case.specs.Bounds.{Bounds}
-use Rattle.case.specs.Eased.{eased}
+use Rattle.case.specs.{declared.Case.{Case}, Bounds.{Bounds}, Eased.{eased}}
 use Rattle.lengths.specs.Lengths.{conductorLength, rodLength}
 use Rattle.drive.proofs.NoWorse.{drive-below}
 use Rattle.step.specs.Ends.{powerOfTwo, shareEnds, reach, spacingSum, spacingFactor, stepLength, drivenEnds, stepVoltageEnds}
-use Rattle.step.proofs.FactorSpans.{factor-span}
-use Rattle.step.proofs.Spans.{length-span}
+use Rattle.step.proofs.{FactorSpans.{factor-span}, Spans.{length-span}}
 
 module _ {c : Case} (b : Bounds c) (fault split shock body : ℕ) (enters : fault * split ≤ c .fault * c .split) where
   same-length : stepLength (eased fault split shock body c) ≡ stepLength c

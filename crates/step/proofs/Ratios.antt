@@ -1,19 +1,12 @@
 -- Quotients of whole numbers: as fractions, they lie between their ends rounded outward.
 use Prim.Native.Nat.{ℕ, _*_, _<_}
 use mathlib.Core.Path.{_≡_, ap}
-use native.Mathlib.Omega.{arith}
-use native.Mathlib.Nat.{mul-pos, mul-le-mul-right}
+use native.Mathlib.{Omega.{arith}, Nat.{mul-pos, mul-le-mul-right}}
 use lib.IntN.{pos}
-use Rattle.interval.specs.Operations.{natural, point, sumOf, quotientOf}
-use Rattle.interval.specs.declared.Interval.{Interval}
-use Rattle.interval.proofs.Natural.{point-natural, natural-quotient}
-use Rattle.interval.proofs.Rounding.{floorDiv-below, ceilDiv-above}
-use Rattle.exact.specs.Fraction.{Fraction, _≈f_, _+f_, inv}
-use Rattle.exact.specs.Reported.{Scale, over, reported}
-use Rattle.exact.proofs.Order.{trans≤}
-use Rattle.exact.proofs.Sums.{mono+}
-use Rattle.exact.proofs.Points.{Point}
-use Rattle.exact.proofs.Reported.{over-sum}
+use Rattle.interval.specs.{Operations.{natural, point, sumOf, quotientOf}, declared.Interval.{Interval}}
+use Rattle.interval.proofs.{Natural.{point-natural, natural-quotient}, Rounding.{floorDiv-below, ceilDiv-above}}
+use Rattle.exact.{specs.{Fraction.{Fraction, _≈f_, _+f_, inv}, Reported.{Scale, over, reported}}, proofs.{Order.{trans≤}, Sums.{mono+}}}
+use Rattle.exact.proofs.{Points.{Point}, Reported.{over-sum}}
 
 -- n / d
 abbrev pub ratio : ℕ → (d : ℕ) → 0 < d → Fraction

@@ -1,19 +1,13 @@
 -- Sizes and widths of ρ·Ki·IG/LS.
 use Prim.Native.Nat.{ℕ, _+_, _*_, _/_, _≤_, _<_}
 use mathlib.Core.Path.{_≡_}
-use native.Mathlib.Omega.{arith}
-use native.Mathlib.Nat.{mul-le-mul-left, lt-of-mul-lt-mul-right, le-of-suc-le-suc}
+use native.Mathlib.{Omega.{arith}, Nat.{mul-le-mul-left, lt-of-mul-lt-mul-right, le-of-suc-le-suc}}
 use lib.IntN.{pos}
-use Rattle.interval.specs.Whole.{ceilDiv}
-use Rattle.interval.specs.Operations.{natural, point}
-use Rattle.interval.specs.Span.{Span}
-use Rattle.interval.proofs.Natural.{point-natural, natural-quotient}
+use Rattle.interval.{specs.{Whole.{ceilDiv}, Operations.{natural, point}, Span.{Span}}, proofs.Natural.{point-natural, natural-quotient}}
 use Rattle.interval.proofs.Rounding.{floorDiv-below, floorDiv-above, ceilDiv-below, ceilDiv-by}
 use Rattle.interval.proofs.Span.{floor≤ceil, span-natural, span-point}
-use Rattle.case.specs.declared.Case.{Case}
-use Rattle.case.specs.Bounds.{Between, Bounds}
-use Rattle.lengths.specs.Lengths.{conductorLength}
-use Rattle.lengths.proofs.Lengths.{conductor-bounds, rod-bound}
+use Rattle.case.specs.{declared.Case.{Case}, Bounds.{Between, Bounds}}
+use Rattle.lengths.{specs.Lengths.{conductorLength}, proofs.Lengths.{conductor-bounds, rod-bound}}
 use Rattle.drive.proofs.Spans.{low, high, drive-is, drive-order, drive-near, drive-by-length}
 use Rattle.step.specs.Ends.{stepLength, drivenEnds}
 

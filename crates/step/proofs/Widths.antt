@@ -1,26 +1,15 @@
 -- The step voltage's ends are no further apart than allowed: 1/100,000 of ρ·Ki·IG/LS, with Ki of na and IG its upper end, plus 10 mV.
 use Prim.Native.Nat.{ℕ, _+_, _*_, _^_, _≤_, _<_}
-use native.Mathlib.Omega.{arith}
-use native.Mathlib.Nat.{mul-le-mul-left, mul-le-mul-right}
-use lib.Dec.{lit≤, lit<}
-use lib.IntN.{pos}
-use Rattle.interval.specs.Operations.{natural}
-use Rattle.interval.proofs.Choice.{pos≤}
-use Rattle.interval.proofs.Natural.{natural-product}
+use native.Mathlib.{Omega.{arith}, Nat.{mul-le-mul-left, mul-le-mul-right}}
+use lib.{Dec.{lit≤, lit<}, IntN.{pos}}
+use Rattle.interval.{specs.Operations.{natural}, proofs.{Choice.{pos≤}, Natural.{natural-product}}}
 use Rattle.interval.proofs.Rounding.{floorDiv-above, ceilDiv-below}
-use Rattle.exact.specs.Fraction.{_≤f_, decimal, _+f_, neg, _−f_, _·f_, _÷f_}
-use Rattle.exact.specs.Reported.{ten, over, reported, AtMost}
-use Rattle.exact.proofs.Order.{trans≤, refl≈}
-use Rattle.exact.proofs.Divisors.{cong÷}
-use Rattle.exact.proofs.Reported.{quotient-low}
-use Rattle.case.specs.declared.Case.{Case}
-use Rattle.case.specs.Bounds.{Bounds}
-use Rattle.formulas.specs.Step.{LS}
-use Rattle.formulas.specs.Width.{mV, μA, stepWidth}
-use Rattle.formulas.proofs.Positive.{decimal-nonneg, LS-pos}
+use Rattle.exact.specs.{Fraction.{_≤f_, decimal, _+f_, neg, _−f_, _·f_, _÷f_}, Reported.{ten, over, reported, AtMost}}
+use Rattle.exact.proofs.{Order.{trans≤, refl≈}, Divisors.{cong÷}, Reported.{quotient-low}}
+use Rattle.case.specs.{declared.Case.{Case}, Bounds.{Bounds}}
+use Rattle.formulas.{specs.{Step.{LS}, Width.{mV, μA, stepWidth}}, proofs.Positive.{decimal-nonneg, LS-pos}}
 use Rattle.current.specs.Ends.{currentEnds}
-use Rattle.drive.proofs.Spans.{low}
-use Rattle.drive.proofs.Reference.{reference-width}
+use Rattle.drive.proofs.{Spans.{low}, Reference.{reference-width}}
 use Rattle.step.specs.Ends.{stepVoltageEnds}
 use Rattle.step.proofs.FactorSpans.{factor-span}
 use Rattle.step.proofs.Spans.{length-pos, drivenLow, drivenHigh, driven-is, driven-order, driven-near, driven-below}

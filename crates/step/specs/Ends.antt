@@ -2,8 +2,7 @@
 use Prim.Native.Nat.{ℕ, _+_, _-_, _*_, _^_}
 use mathlib.Core.Bool.{cond}
 use lib.IntN.{pos}
-use Rattle.interval.specs.declared.Interval.{Interval}
-use Rattle.interval.specs.Operations.{point, sumOf, differenceOf, productOf, quotientOf}
+use Rattle.interval.specs.{declared.Interval.{Interval}, Operations.{point, sumOf, differenceOf, productOf, quotientOf}}
 use Rattle.enclosure.specs.Pi.{πEnds}
 use Rattle.case.specs.declared.Case.{Case}
 use Rattle.formulas.specs.Lengths.{equalCounts}

@@ -1,10 +1,7 @@
 -- Parts of a table are written one after the other.
 use Prim.Native.Nat.{ℕ, _+_, _<_}
-use mathlib.Core.Path.{_≡_, refl, subst, _∙_}
-use mathlib.Core.Logic.{_⊎_, inl, inr}
-use mathlib.Core.List.{List}
-use native.Mathlib.Nat.{eq-or-lt-of-le}
-use native.Mathlib.Omega.{arith}
+use mathlib.Core.{Path.{_≡_, refl, subst, _∙_}, Logic.{_⊎_, inl, inr}, List.{List}}
+use native.Mathlib.{Nat.{eq-or-lt-of-le}, Omega.{arith}}
 use Rattle.tables.specs.Parts.{partAt, Written, Filled}
 use Rattle.tables.proofs.Writing.{part-kept, rest-kept}
 

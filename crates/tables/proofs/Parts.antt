@@ -1,10 +1,8 @@
 -- The first parts of a table as a list.
 use Prim.Native.Nat.{ℕ, zero, suc, _+_, _*_, _<_}
-use mathlib.Core.Path.{_≡_, refl, ap, _∙_}
-use mathlib.Core.List.{List, [], _∷_}
+use mathlib.Core.{Path.{_≡_, refl, ap, _∙_}, List.{List, [], _∷_}}
 use native.Mathlib.Omega.{arith}
-use lib.ListN.{length, getD, take, drop}
-use lib.Seq.{drop-drop, getD-take, getD-drop}
+use lib.{ListN.{length, getD, take, drop}, Seq.{drop-drop, getD-take, getD-drop}}
 use Rattle.tables.specs.Parts.{partAt, partsOf}
 
 pub parts-length : {A : Type 0} (width n : ℕ) (t : List A) → length (partsOf width n t) ≡ n

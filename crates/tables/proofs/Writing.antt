@@ -1,11 +1,8 @@
 -- Writing part i of a table changes only its own part.
 use Prim.Native.Nat.{ℕ, zero, suc, _+_, _*_, _-_, _≤_, _<_}
-use mathlib.Core.Path.{_≡_, refl, sym, ap, subst, _∙_}
-use mathlib.Core.List.{List, [], _∷_, _++_}
-use native.Mathlib.Nat.{mul-le-mul-left}
-use native.Mathlib.Omega.{arith}
-use lib.ListN.{length, take, drop}
-use lib.Seq.{take-at, drop-at, length-take-le, take-take, drop-drop}
+use mathlib.Core.{Path.{_≡_, refl, sym, ap, subst, _∙_}, List.{List, [], _∷_, _++_}}
+use native.Mathlib.{Nat.{mul-le-mul-left}, Omega.{arith}}
+use lib.{ListN.{length, take, drop}, Seq.{take-at, drop-at, length-take-le, take-take, drop-drop}}
 use borrow.Rule.Slice.PartMut.{putMid, postOf, same-len-mid, mid-len, take-put, drop-put}
 use Rattle.tables.specs.Parts.{partAt, Written}
 
@@ -50,8 +47,7 @@ part-kept {A} {width} {i} {t = t} {u} j w h =
 
 -- what lies past part i is kept, where what lies past the parts before it was
 pub rest-kept : {A : Type 0} {width n : ℕ} {part u w : List A} (t : List A) → Written width n part u w
-    → drop (width * n) u ≡ drop (width * n) t
-    → drop (width * (n + 1)) w ≡ drop (width * (n + 1)) t
+    → drop (width * n) u ≡ drop (width * n) t → drop (width * (n + 1)) w ≡ drop (width * (n + 1)) t
 rest-kept {width = width} {n} {u = u} {w} t r f =
     ap (λ (k : ℕ). drop k w) next ∙ r .back ∙ sym (drop-drop width (width * n) u) ∙ ap (drop width) f ∙ drop-drop width (width * n) t
     ∙ ap (λ (k : ℕ). drop k t) (sym next)

@@ -1,24 +1,16 @@
 -- What is counted of a station's lines, with one line more.
 use Prim.Native.Nat.{ℕ, suc, _+_, _*_, _/_, _≤_}
-use mathlib.Core.Path.{_≡_, refl, sym}
-use mathlib.Core.Bool.{Bool, true, false, not, _&&_}
-use mathlib.Core.List.{List, [], _∷_}
-use native.Mathlib.Nat.{mul-le-mul}
-use native.Mathlib.Omega.{arith}
-use lib.Dec.{ltb}
-use lib.IntN.{ℤ, pos}
-use lib.ListN.{length}
-use lib.Signed.{ltZ}
+use mathlib.Core.{Path.{_≡_, refl, sym}, Bool.{Bool, true, false, not, _&&_}, List.{List, [], _∷_}}
+use native.Mathlib.{Nat.{mul-le-mul}, Omega.{arith}}
+use lib.{Dec.{ltb}, IntN.{ℤ, pos}, ListN.{length}, Signed.{ltZ}}
 use borrow.Author.Tests.{ltb-true, ltb-false, lt-ltb, le-ltb}
-use Rattle.case.specs.declared.Case.{Case}
-use Rattle.case.specs.Bounds.{Bounds}
+use Rattle.case.specs.{declared.Case.{Case}, Bounds.{Bounds}}
 use Rattle.formulas.specs.Size as Size
 use Rattle.current.specs.Ends.{upperFactor}
 use Rattle.row.specs.Ends.{rowOf}
 use Rattle.judgement.specs.Limits.{mostLines}
 use Rattle.tally.specs.declared.Tally.{Tally}
-use Rattle.tally.specs.Lines.{licensed}
-use Rattle.tally.specs.Lines.{one, countOf, hasLine, answeredUnsafe, answeredUndecided, otherYard, tooSmall}
+use Rattle.tally.specs.Lines.{licensed, one, countOf, hasLine, answeredUnsafe, answeredUndecided, otherYard, tooSmall}
 use Rattle.tally.specs.Tally.{EveryBounds, tallyOf, addLine, Small, lacks, missingBy}
 use Rattle.tally.proofs.Faults.{common-none, common-step}
 

@@ -1,27 +1,16 @@
 -- The greatest fault current at which every one of some lines is answered safe: with less fault current a safe line stays safe, so it is
 -- the least of what each line has alone.
 use Prim.Native.Nat.{ℕ, zero, suc, _≤_, _<_, min}
-use mathlib.Core.Path.{_≡_, refl, sym, ap, _∙_}
-use mathlib.Core.Bool.{Bool, true, false, cond, _&&_}
-use mathlib.Core.Logic.{_⊎_, inl, inr}
-use mathlib.Core.List.{List, [], _∷_}
-use native.Mathlib.Nat.{eq-or-lt-of-le, min-eq-left, min-eq-right, min-le-left, min-le-right}
-use native.Mathlib.Omega.{arith}
+use mathlib.Core.{Path.{_≡_, refl, sym, ap, _∙_}, Bool.{Bool, true, false, cond, _&&_}, Logic.{_⊎_, inl, inr}, List.{List, [], _∷_}}
+use native.Mathlib.{Nat.{eq-or-lt-of-le, min-eq-left, min-eq-right, min-le-left, min-le-right}, Omega.{arith}}
 use lib.Dec.{leb}
 use borrow.Author.Tests.{leb-true, leb-false}
 use Rattle.text.proofs.Clash.{clash}
-use Rattle.case.specs.declared.Case.{Case}
-use Rattle.case.specs.Bounds.{Bounds}
-use Rattle.case.specs.Fault.{withFault}
-use Rattle.row.specs.LessFault.{LessFault}
-use Rattle.row.proofs.Right.{row-verdict}
-use Rattle.row.proofs.StaysSafe.{safe-stays}
-use Rattle.yards.specs.Yards.{meansSafe, isSafe}
-use Rattle.yards.proofs.Found.{means-safe}
-use Rattle.headroom.specs.Headroom.{InRange, SafeWith, Headroom, NoHeadroom}
-use Rattle.headroom.proofs.Halving.{fault-bounds}
-use Rattle.tally.specs.Fault.{everySafe, greatestFault, commonFault}
-use Rattle.tally.specs.Tally.{EveryBounds}
+use Rattle.case.specs.{declared.Case.{Case}, Bounds.{Bounds}, Fault.{withFault}}
+use Rattle.row.{specs.LessFault.{LessFault}, proofs.{Right.{row-verdict}, StaysSafe.{safe-stays}}}
+use Rattle.yards.{specs.Yards.{meansSafe, isSafe}, proofs.Found.{means-safe}}
+use Rattle.headroom.{specs.Headroom.{InRange, SafeWith, Headroom, NoHeadroom}, proofs.Halving.{fault-bounds}}
+use Rattle.tally.specs.{Fault.{everySafe, greatestFault, commonFault}, Tally.{EveryBounds}}
 
 -- ---- answered safe, as a test and as a verdict
 
@@ -53,8 +42,7 @@ module _ {f g : ℕ} (h : InRange g) (l : f ≤ g) where
   every-less : (cs : List Case) → EveryBounds cs → everySafe g cs ≡ true → everySafe f cs ≡ true
   unfolding everySafe EveryBounds
   every-less [] b e = refl
-  every-less (c ∷ cs) b e =
-      rw (safe-less (b .0) (left _ (everySafe g cs) e)) (every-less cs (b .1) (right (isSafe (withFault g c)) _ e))
+  every-less (c ∷ cs) b e = rw (safe-less (b .0) (left _ (everySafe g cs) e)) (every-less cs (b .1) (right (isSafe (withFault g c)) _ e))
 
 -- ---- what the greatest fault current is
 
@@ -160,8 +148,7 @@ module _ {c : Case} {cs : List Case} {F G : ℕ} (u : UpTo (c ∷ []) F) (v : Up
 pub common-step : {c : Case} (cs : List Case) → Bounds c → EveryBounds cs
     → commonFault (c ∷ cs) ≡ min (commonFault (c ∷ [])) (commonFault cs)
 unfolding EveryBounds
-common-step {c} cs b d =
-    up-to-one (common-up-to (c ∷ cs) (b, d)) (up-to-both (common-up-to (c ∷ []) (b, tt)) (common-up-to cs d))
+common-step {c} cs b d = up-to-one (common-up-to (c ∷ cs) (b, d)) (up-to-both (common-up-to (c ∷ []) (b, tt)) (common-up-to cs d))
 
 -- ---- the headroom of one line
 

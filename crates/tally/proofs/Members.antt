@@ -1,22 +1,13 @@
 -- The lines of a station are the value lines that name it; what the counts of 0 and the tests say of each of them.
 use Prim.Native.Nat.{ℕ, zero, suc, _≤_, _<_}
-use mathlib.Core.Path.{_≡_, refl}
-use mathlib.Core.Bool.{Bool, true, false, cond, not, _&&_, _||_}
-use mathlib.Core.List.{List, [], _∷_}
+use mathlib.Core.{Path.{_≡_, refl}, Bool.{Bool, true, false, cond, not, _&&_, _||_}, List.{List, [], _∷_}}
 use native.Mathlib.Omega.{arith}
-use lib.Dec.{eqb}
-use lib.ListN.{length, getD}
+use lib.{Dec.{eqb}, ListN.{length, getD}}
 use borrow.Author.Tests.{eqb-true, eq-eqb}
 use Rattle.text.proofs.Clash.{clash}
-use Rattle.case.specs.declared.Case.{Case}
-use Rattle.case.specs.Case.{caseOf}
-use Rattle.case.specs.Bounds.{Bounds}
-use Rattle.case.specs.Fault.{withFault}
+use Rattle.case.specs.{declared.Case.{Case}, Case.{caseOf}, Bounds.{Bounds}, Fault.{withFault}}
 use Rattle.yards.specs.Yards.{isSafe}
-use Rattle.tally.specs.Lines.{licensed}
-use Rattle.tally.specs.Lines.{linesOf, one, countOf, hasLine, without, missing}
-use Rattle.tally.specs.Fault.{everySafe}
-use Rattle.tally.specs.Tally.{EveryBounds}
+use Rattle.tally.specs.{Lines.{licensed, linesOf, one, countOf, hasLine, without, missing}, Fault.{everySafe}, Tally.{EveryBounds}}
 use Rattle.tally.proofs.Faults.{left, right}
 
 -- c stands in the list at a place

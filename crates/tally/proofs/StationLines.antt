@@ -1,25 +1,14 @@
 -- The lines of a station among the stored values, taken from the last to the first.
 use Prim.Native.Nat.{ℕ, suc, _+_, _-_, _*_, _≤_, _<_}
-use mathlib.Core.Path.{_≡_, sym, ap, _∙_}
-use mathlib.Core.Bool.{Bool, true, false, cond}
-use mathlib.Core.List.{List, [], _∷_}
+use mathlib.Core.{Path.{_≡_, sym, ap, _∙_}, Bool.{Bool, true, false, cond}, List.{List, [], _∷_}}
 use native.Mathlib.Omega.{arith}
-use lib.Dec.{eqb}
-use lib.ListN.{length, getD, drop, drop-of-length-le}
-use lib.Seq.{drop-cons}
+use lib.{Dec.{eqb}, ListN.{length, getD, drop, drop-of-length-le}, Seq.{drop-cons}}
 use borrow.Author.Tests.{eq-eqb, ne-eqb}
-use Rattle.tables.specs.Parts.{partAt}
-use Rattle.tables.proofs.Parts.{part-entry}
-use Rattle.case.specs.declared.Case.{Case}
-use Rattle.case.specs.Case.{caseOf}
-use Rattle.case.specs.Columns.{nameCount}
-use Rattle.case.specs.Bounds.{Bounds}
+use Rattle.tables.{specs.Parts.{partAt}, proofs.Parts.{part-entry}}
+use Rattle.case.specs.{declared.Case.{Case}, Case.{caseOf}, Columns.{nameCount}, Bounds.{Bounds}}
 use Rattle.judgement.specs.Limits.{mostLines}
-use Rattle.sheet.specs.Rows.{storedCases}
-use Rattle.sheet.proofs.StoredCases.{cases-count, stored-case}
-use Rattle.tally.specs.declared.Tally.{Tally}
-use Rattle.tally.specs.Lines.{linesOf, firstLine}
-use Rattle.tally.specs.Tally.{EveryBounds, tallyOf, addLine, Small}
+use Rattle.sheet.{specs.Rows.{storedCases}, proofs.StoredCases.{cases-count, stored-case}}
+use Rattle.tally.specs.{declared.Tally.{Tally}, Lines.{linesOf, firstLine}, Tally.{EveryBounds, tallyOf, addLine, Small}}
 use Rattle.tally.proofs.Counts.{tally-none, tally-step, tally-small}
 
 -- the lines of a station from line i on

@@ -1,11 +1,8 @@
 -- "the greatest fault current at which, put into every line of the station, every line is answered safe (0 where none, or no line)".
 use Prim.Native.Nat.{ℕ, zero, suc}
-use mathlib.Core.Bool.{Bool, true, cond, _&&_}
-use mathlib.Core.List.{List, [], _∷_}
-use lib.Dec.{leb, eqb}
-use lib.ListN.{length}
-use Rattle.case.specs.declared.Case.{Case}
-use Rattle.case.specs.Fault.{withFault}
+use mathlib.Core.{Bool.{Bool, true, cond, _&&_}, List.{List, [], _∷_}}
+use lib.{Dec.{leb, eqb}, ListN.{length}}
+use Rattle.case.specs.{declared.Case.{Case}, Fault.{withFault}}
 use Rattle.yards.specs.Yards.{isSafe}
 
 -- every line is answered safe with this fault current in place of its own

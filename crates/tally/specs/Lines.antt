@@ -1,14 +1,9 @@
 -- The lines of a station, and what is counted of them: "of all lines of the station, licensed or not".
 use Prim.Native.Nat.{ℕ, _+_, _*_, _-_, _/_, _%_, _^_}
-use mathlib.Core.Bool.{Bool, false, cond, not, _&&_, _||_}
-use mathlib.Core.List.{List, [], _∷_}
-use lib.Dec.{ltb, eqb}
-use lib.IntN.{natAbs}
-use lib.ListN.{getD}
-use Rattle.case.specs.declared.Case.{Case}
-use Rattle.case.specs.Case.{caseOf}
-use Rattle.row.specs.Verdict.{verdictNumber}
-use Rattle.row.specs.Ends.{rowOf}
+use mathlib.Core.{Bool.{Bool, false, cond, not, _&&_, _||_}, List.{List, [], _∷_}}
+use lib.{Dec.{ltb, eqb}, IntN.{natAbs}, ListN.{getD}}
+use Rattle.case.specs.{declared.Case.{Case}, Case.{caseOf}}
+use Rattle.row.specs.{Verdict.{verdictNumber}, Ends.{rowOf}}
 
 -- the cases of a station, in their order
 unfoldable pub linesOf : ℕ → List Case → List Case

@@ -1,11 +1,8 @@
 -- What is counted of a station's lines, line by line from the last to the first.
 use Prim.Native.Nat.{ℕ, _+_, _<_, _^_, min}
-use mathlib.Core.Bool.{Bool, cond, not, _&&_, _||_}
-use mathlib.Core.List.{List, [], _∷_}
-use lib.Dec.{eqb}
-use lib.ListN.{length}
-use Rattle.case.specs.declared.Case.{Case}
-use Rattle.case.specs.Bounds.{Bounds}
+use mathlib.Core.{Bool.{Bool, cond, not, _&&_, _||_}, List.{List, [], _∷_}}
+use lib.{Dec.{eqb}, ListN.{length}}
+use Rattle.case.specs.{declared.Case.{Case}, Bounds.{Bounds}}
 use Rattle.tally.specs.declared.Tally.{Tally}
 use Rattle.tally.specs.Lines.{licensed, one, countOf, hasLine, answeredUnsafe, answeredUndecided, otherYard, tooSmall}
 use Rattle.tally.specs.Fault.{commonFault}

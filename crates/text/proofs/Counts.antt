@@ -1,16 +1,10 @@
 -- The count of a byte, and of lines by it: what holds while n of the bytes before index i are b.
 use Prim.Native.Nat.{ℕ, zero, suc, _+_, _-_, _≤_, _<_}
-use mathlib.Core.Path.{_≡_, refl, sym, _∙_}
-use mathlib.Core.Bool.{Bool, true, false, cond}
-use mathlib.Core.List.{List, [], _∷_}
-use native.Mathlib.Numerals.{add-one}
-use native.Mathlib.Omega.{arith}
-use lib.ListN.{length, getD, take, drop, length-drop, drop-of-length-le}
-use lib.Seq.{drop-cons, length-take-le}
-use lib.Dec.{eqb}
+use mathlib.Core.{Path.{_≡_, refl, sym, _∙_}, Bool.{Bool, true, false, cond}, List.{List, [], _∷_}}
+use native.Mathlib.{Numerals.{add-one}, Omega.{arith}}
+use lib.{ListN.{length, getD, take, drop, length-drop, drop-of-length-le}, Seq.{drop-cons, length-take-le}, Dec.{eqb}}
 use borrow.Author.Tests.{eq-eqb, ne-eqb}
-use Rattle.text.specs.Text.{onFirst, linesOf}
-use Rattle.text.specs.Parts.{countOf}
+use Rattle.text.specs.{Text.{onFirst, linesOf}, Parts.{countOf}}
 
 pub record Counting (b : ℕ) (s : List ℕ) (n i : ℕ) : Type 0 where
   pub within : i ≤ length s
@@ -33,11 +27,7 @@ module _ {b : ℕ} {s : List ℕ} {n i : ℕ} (a : Counting b s n i) where
   pub counting-other : i < length s → (getD s i 0 ≡ b → ⊥) → Counting b s n (i + 1)
   unfolding countOf
   counting-other h e =
-      record {
-        within = omega arith;
-        few = omega (arith, a .few);
-        passed = a .passed ∙ rw (drop-cons s i 0 h, ne-eqb _ _ e, add-one i);
-      }
+      record { within = omega arith; few = omega (arith, a .few); passed = a .passed ∙ rw (drop-cons s i 0 h, ne-eqb _ _ e, add-one i) }
 
   pub counting-end : length s ≤ i → n ≡ countOf b s
   unfolding countOf

@@ -1,16 +1,10 @@
 -- A turn of a loop over the fields of a line: rest holds the fields that are left, and the first of them ends at e.
 use Prim.Native.Nat.{ℕ, _+_, _-_, _≤_, _<_}
-use mathlib.Core.Path.{_≡_, sym, ap, _∙_}
-use mathlib.Core.Logic.{⊎-elim}
-use mathlib.Core.List.{List, [], _∷_}
-use native.Mathlib.Numerals.{add-one}
-use native.Mathlib.Nat.{eq-or-lt-of-le}
-use native.Mathlib.Omega.{arith}
-use lib.ListN.{length, take, drop, length-drop}
-use lib.Seq.{take-all, length-take-le, drop-drop}
+use mathlib.Core.{Path.{_≡_, sym, ap, _∙_}, Logic.{⊎-elim}, List.{List, [], _∷_}}
+use native.Mathlib.{Numerals.{add-one}, Nat.{eq-or-lt-of-le}, Omega.{arith}}
+use lib.{ListN.{length, take, drop, length-drop}, Seq.{take-all, length-take-le, drop-drop}}
 use Rattle.text.specs.Text.{indexOf, fieldsOf}
-use Rattle.text.proofs.Searching.{index-within}
-use Rattle.text.proofs.Fields.{fields-more, fields-one}
+use Rattle.text.proofs.{Searching.{index-within}, Fields.{fields-more, fields-one}}
 
 -- a part to the end
 pub part-end : (l : List ℕ) (k : ℕ) → take (length l - k) (drop k l) ≡ drop k l

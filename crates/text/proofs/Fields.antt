@@ -1,11 +1,8 @@
 -- The fields of a line: the first runs to the first comma.
 use Prim.Native.Nat.{ℕ, zero, suc, _≤_, _<_}
-use mathlib.Core.Path.{_≡_, refl}
-use mathlib.Core.Bool.{Bool, true, false, cond}
-use mathlib.Core.List.{List, [], _∷_}
+use mathlib.Core.{Path.{_≡_, refl}, Bool.{Bool, true, false, cond}, List.{List, [], _∷_}}
 use native.Mathlib.Nat.{le-of-suc-le-suc, not-suc-le-zero}
-use lib.ListN.{length, take, drop}
-use lib.Dec.{eqb}
+use lib.{ListN.{length, take, drop}, Dec.{eqb}}
 use Rattle.text.specs.Text.{indexOf, onFirst, fieldsOf}
 
 more-step : (t : Bool) (b : ℕ) (s : List ℕ)

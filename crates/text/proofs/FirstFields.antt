@@ -1,18 +1,10 @@
 -- The first field of a line by the digits at its front.
 use Prim.Native.Nat.{ℕ, _+_, _*_, _-_, _%_, _^_, _≤_, _<_}
-use mathlib.Core.Path.{_≡_, refl, sym, ap, _∙_}
-use mathlib.Core.Bool.{Bool, true, false, _&&_}
-use mathlib.Core.List.{List, [], _∷_, _++_}
-use native.Mathlib.Numerals.{add-one}
-use native.Mathlib.Nat.{pow-suc, pow-le-pow-right}
-use native.Mathlib.Decide.{decLt, decLe}
-use native.Mathlib.Omega.{arith}
-use lib.ListN.{length, getD, take}
-use lib.Seq.{take-suc, take-take, length-take-le, getD-take}
+use mathlib.Core.{Path.{_≡_, refl, sym, ap, _∙_}, Bool.{Bool, true, false, _&&_}, List.{List, [], _∷_, _++_}}
+use native.Mathlib.{Numerals.{add-one}, Nat.{pow-suc, pow-le-pow-right}, Decide.{decLt, decLe}, Omega.{arith}}
+use lib.{ListN.{length, getD, take}, Seq.{take-suc, take-take, length-take-le, getD-take}}
 use borrow.Author.Tests.{le-leb}
-use Rattle.text.specs.Text.{indexOf}
-use Rattle.text.specs.Value.{digit, digits, numberFrom, valueOf, fieldValue}
-use Rattle.text.specs.Parts.{Passed, digitsValue, IsFront}
+use Rattle.text.specs.{Text.{indexOf}, Value.{digit, digits, numberFrom, valueOf, fieldValue}, Parts.{Passed, digitsValue, IsFront}}
 use Rattle.text.specs.declared.Field.the-variants.{Value}
 use Rattle.text.proofs.Searching.{searching-start, searching-found, searching-step, searching-end, index-part}
 use Rattle.text.proofs.Form.{form-one, form-more}

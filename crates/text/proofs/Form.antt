@@ -1,14 +1,10 @@
 -- The form of a value, by its length and its first byte.
 use Prim.Native.Nat.{ℕ, _≤_, _<_}
-use mathlib.Core.Path.{_≡_}
-use mathlib.Core.Bool.{and-false, and-true}
-use mathlib.Core.List.{List}
+use mathlib.Core.{Path.{_≡_}, Bool.{and-false, and-true}, List.{List}}
 use native.Mathlib.Omega.{arith}
 use lib.ListN.{length, getD}
 use borrow.Author.Tests.{eq-eqb, ne-eqb, le-leb, lt-leb}
-use Rattle.text.specs.Value.{digits, plain, isValue, fieldValue}
-use Rattle.text.specs.Parts.{digitsValue}
-use Rattle.text.specs.declared.Field.the-variants.{Wrong}
+use Rattle.text.specs.{Value.{digits, plain, isValue, fieldValue}, Parts.{digitsValue}, declared.Field.the-variants.{Wrong}}
 
 module _ (t : List ℕ) where
   pub form-empty : length t ≡ 0 → Wrong ≡ fieldValue t

@@ -1,19 +1,10 @@
 -- A turn of a loop over lines: rest holds the lines that are left, the first of them ends at e, and the others begin at r.
 use Prim.Native.Nat.{ℕ, suc, _+_, _-_, _≤_, _<_}
-use mathlib.Core.Path.{_≡_, sym, ap, _∙_}
-use mathlib.Core.Logic.{⊎-elim}
-use mathlib.Core.List.{List, [], _∷_}
-use native.Mathlib.Numerals.{add-one}
-use native.Mathlib.Nat.{eq-or-lt-of-le, lt-of-not-le}
-use native.Mathlib.Decide.{decLe}
-use native.Mathlib.Omega.{arith}
-use lib.ListN.{length, getD, take, drop, length-drop, drop-of-length-le}
-use lib.Seq.{drop-cons}
-use Rattle.text.specs.Text.{indexOf, linesOf}
-use Rattle.text.proofs.Searching.{index-within}
-use Rattle.text.proofs.Lines.{lines-next}
-use Rattle.text.specs.Parts.{Skipped}
-use Rattle.text.proofs.FieldTurns.{part-end}
+use mathlib.Core.{Path.{_≡_, sym, ap, _∙_}, Logic.{⊎-elim}, List.{List, [], _∷_}}
+use native.Mathlib.{Numerals.{add-one}, Nat.{eq-or-lt-of-le, lt-of-not-le}, Decide.{decLe}, Omega.{arith}}
+use lib.{ListN.{length, getD, take, drop, length-drop, drop-of-length-le}, Seq.{drop-cons}}
+use Rattle.text.specs.{Text.{indexOf, linesOf}, Parts.{Skipped}}
+use Rattle.text.proofs.{Searching.{index-within}, Lines.{lines-next}, FieldTurns.{part-end}}
 
 -- what is left after a part is shorter, whatever byte ends the part
 pub skipped-shorter : (rest : List ℕ) {e r : ℕ} → 0 < length rest → Skipped e (length rest) r

@@ -1,11 +1,8 @@
 -- The lines of a text: the first runs to the first byte 10.
 use Prim.Native.Nat.{ℕ, zero, suc, _≤_, _<_}
-use mathlib.Core.Path.{_≡_, refl}
-use mathlib.Core.Bool.{Bool, true, false, cond}
-use mathlib.Core.List.{List, [], _∷_}
+use mathlib.Core.{Path.{_≡_, refl}, Bool.{Bool, true, false, cond}, List.{List, [], _∷_}}
 use native.Mathlib.Nat.{not-suc-le-zero}
-use lib.ListN.{length, take, drop}
-use lib.Dec.{eqb}
+use lib.{ListN.{length, take, drop}, Dec.{eqb}}
 use Rattle.text.specs.Text.{indexOf, onFirst, linesOf}
 
 last-step : (t : Bool) (b : ℕ) → cond t ([] ∷ linesOf []) (onFirst b (linesOf []))

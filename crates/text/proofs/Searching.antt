@@ -1,17 +1,11 @@
 -- The search for a byte: what holds while it has not been met before index i.
 use Prim.Native.Nat.{ℕ, zero, suc, _+_, _≤_, _<_}
-use mathlib.Core.Path.{_≡_, refl, sym, ap, _∙_}
-use mathlib.Core.Bool.{Bool, true, false, cond, _||_}
-use mathlib.Core.List.{List, [], _∷_}
-use native.Mathlib.Numerals.{add-one}
-use native.Mathlib.Omega.{arith}
-use lib.ListN.{length, getD, take, drop, length-drop, drop-of-length-le}
-use lib.Seq.{drop-cons, drop-drop}
-use lib.Dec.{eqb}
+use mathlib.Core.{Path.{_≡_, refl, sym, ap, _∙_}, Bool.{Bool, true, false, cond, _||_}, List.{List, [], _∷_}}
+use native.Mathlib.{Numerals.{add-one}, Omega.{arith}}
+use lib.{ListN.{length, getD, take, drop, length-drop, drop-of-length-le}, Seq.{drop-cons, drop-drop}, Dec.{eqb}}
 use borrow.Author.Tests.{eq-eqb, ne-eqb}
 use Rattle.text.proofs.Clash.{clash}
-use Rattle.text.specs.Text.{indexOf}
-use Rattle.text.specs.Parts.{Passed}
+use Rattle.text.specs.{Text.{indexOf}, Parts.{Passed}}
 
 pub searching-start : (b : ℕ) (s : List ℕ) → Passed b s 0
 searching-start b s = record { within = omega arith; passed = omega arith }
@@ -24,10 +18,7 @@ module _ {b : ℕ} {s : List ℕ} {i : ℕ} (a : Passed b s i) where
   pub searching-step : i < length s → (getD s i 0 ≡ b → ⊥) → Passed b s (i + 1)
   unfolding indexOf
   searching-step h e =
-      record {
-        within = omega arith;
-        passed = a .passed ∙ rw (drop-cons s i 0 h, ne-eqb _ _ e, add-one) (omega arith);
-      }
+      record { within = omega arith; passed = a .passed ∙ rw (drop-cons s i 0 h, ne-eqb _ _ e, add-one) (omega arith) }
 
   pub searching-end : length s ≤ i → i ≡ indexOf b s
   unfolding indexOf
@@ -72,8 +63,7 @@ index-past b (suc k) [] h l = absurd (omega arith)
 index-past b (suc k) (x ∷ s) h l = step (eqb x b) (λ m. index-past b k s (omega arith) m) l
   where
     step : (t : Bool) → (k ≤ indexOf b (take k s) → indexOf b s ≡ k + indexOf b (drop k s))
-        → suc k ≤ cond t zero (suc (indexOf b (take k s)))
-        → cond t zero (suc (indexOf b s)) ≡ suc k + indexOf b (drop k s)
+        → suc k ≤ cond t zero (suc (indexOf b (take k s))) → cond t zero (suc (indexOf b s)) ≡ suc k + indexOf b (drop k s)
     step true next m = absurd (omega arith)
     step false next m = omega (arith, next (omega arith))
 

@@ -1,14 +1,8 @@
 -- What the parts of reading a text promise.
 use Prim.Native.Nat.{ℕ, zero, suc, _+_, _≤_, _<_}
-use mathlib.Core.Path.{_≡_}
-use mathlib.Core.Bool.{cond}
-use mathlib.Core.List.{List, [], _∷_}
-use lib.Dec.{eqb}
-use lib.ListN.{length, take, drop}
-use Rattle.text.specs.Text.{indexOf}
-use Rattle.text.specs.Value.{digits, valueOf, fieldValue}
-use Rattle.text.specs.declared.Field.{Field}
-use Rattle.text.specs.declared.FirstField.{FirstField}
+use mathlib.Core.{Path.{_≡_}, Bool.{cond}, List.{List, [], _∷_}}
+use lib.{Dec.{eqb}, ListN.{length, take, drop}}
+use Rattle.text.specs.{Text.{indexOf}, Value.{digits, valueOf, fieldValue}, declared.{Field.{Field}, FirstField.{FirstField}}}
 use Rattle.text.specs.declared.Field.the-variants.{Wrong, Value}
 
 -- the number of a text of digits, however many

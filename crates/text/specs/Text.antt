@@ -1,9 +1,6 @@
 -- Bytes into lines and fields. Document 01, 'The sheet': "A line ends with one byte 10. Fields are parted by one comma."
-use Prim.Native.Nat.{ℕ, zero, suc}
-use Prim.Native.Char.{code}
-use Prim.Native.String.{String, [] as ends, _∷_ as _then_}
-use mathlib.Core.Bool.{Bool, true, false, cond, _&&_}
-use mathlib.Core.List.{List, [], _∷_}
+use Prim.Native.{Nat.{ℕ, zero, suc}, Char.{code}, String.{String, [] as ends, _∷_ as _then_}}
+use mathlib.Core.{Bool.{Bool, true, false, cond, _&&_}, List.{List, [], _∷_}}
 use lib.Dec.{eqb}
 
 -- the bytes of a quoted text of ASCII characters

@@ -1,11 +1,8 @@
 -- Values. Document 01, 'The sheet': "A value is one to six decimal digits; 0 is the only value that may start with 0."
 use Prim.Native.Nat.{ℕ, _+_, _*_, _-_}
-use mathlib.Core.Bool.{Bool, true, not, cond, _&&_, _||_}
-use mathlib.Core.List.{List, [], _∷_}
-use lib.ListN.{length, getD}
-use lib.Dec.{leb, eqb}
-use Rattle.text.specs.declared.Field.{Field}
-use Rattle.text.specs.declared.Field.the-variants.{Wrong, Value}
+use mathlib.Core.{Bool.{Bool, true, not, cond, _&&_, _||_}, List.{List, [], _∷_}}
+use lib.{ListN.{length, getD}, Dec.{leb, eqb}}
+use Rattle.text.specs.declared.Field.{Field, the-variants.{Wrong, Value}}
 
 -- decimal digits: bytes 48 to 57
 unfoldable pub digit : ℕ → Bool

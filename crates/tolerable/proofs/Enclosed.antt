@@ -1,37 +1,19 @@
 -- The tolerable voltages' ends include the exact values' ends.
 use Prim.Native.Nat.{ℕ, _+_, _*_, _^_}
-use mathlib.Core.Path.{_≡_, refl}
-use mathlib.Core.Bool.{Bool, true, false, cond}
-use native.Mathlib.Omega.{arith}
-use native.Mathlib.Nat.{zero-lt-suc}
-use lib.Dec.{lit≤, eqb}
-use lib.IntN.{pos}
-use Rattle.interval.specs.Operations.{natural}
-use Rattle.interval.proofs.Natural.{point-natural, natural-sum, natural-scaled}
-use Rattle.interval.proofs.Span.{span-divisor}
-use Rattle.exact.specs.Fraction.{Fraction, _≤f_, _≈f_, whole, decimal, _+f_, _·f_}
-use Rattle.exact.specs.Exact.{exactly, _÷x_}
-use Rattle.exact.specs.Reported.{Scale, ten, over, reported}
-use Rattle.exact.proofs.Order.{trans≤, refl≤, refl≈, sym≈, nonneg}
-use Rattle.exact.proofs.Sums.{mono+}
-use Rattle.exact.proofs.Products.{mul≤, mul-left≤, cong·}
-use Rattle.exact.proofs.Points.{Point}
-use Rattle.exact.proofs.Consistency.{consistent-exactly}
-use Rattle.enclosure.specs.Enclosure.{Encloses}
-use Rattle.enclosure.proofs.SquareRoot.{pair-ends}
-use Rattle.enclosure.proofs.Basics.{encloses-exactly, encloses-decimal}
-use Rattle.enclosure.proofs.Quotients.{encloses-quotient}
-use Rattle.enclosure.proofs.Roots.{encloses-sqrt-even}
-use Rattle.case.specs.declared.Case.{Case}
-use Rattle.case.specs.Bounds.{Bounds}
-use Rattle.formulas.specs.Tolerable.{Q, k, rootTime, tolerableTouch, tolerableStep}
-use Rattle.formulas.specs.Width.{mV}
-use Rattle.formulas.proofs.Positive.{decimal-nonneg}
+use mathlib.Core.{Path.{_≡_, refl}, Bool.{Bool, true, false, cond}}
+use native.Mathlib.{Omega.{arith}, Nat.{zero-lt-suc}}
+use lib.{Dec.{lit≤, eqb}, IntN.{pos}}
+use Rattle.interval.{specs.Operations.{natural}, proofs.{Natural.{point-natural, natural-sum, natural-scaled}, Span.{span-divisor}}}
+use Rattle.exact.specs.{Fraction.{Fraction, _≤f_, _≈f_, whole, decimal, _+f_, _·f_}, Exact.{exactly, _÷x_}}
+use Rattle.exact.{specs.Reported.{Scale, ten, over, reported}, proofs.{Order.{trans≤, refl≤, refl≈, sym≈, nonneg}, Sums.{mono+}}}
+use Rattle.exact.proofs.{Products.{mul≤, mul-left≤, cong·}, Points.{Point}, Consistency.{consistent-exactly}}
+use Rattle.enclosure.{specs.Enclosure.{Encloses}, proofs.{SquareRoot.{pair-ends}, Basics.{encloses-exactly, encloses-decimal}}}
+use Rattle.enclosure.proofs.{Quotients.{encloses-quotient}, Roots.{encloses-sqrt-even}}
+use Rattle.case.specs.{declared.Case.{Case}, Bounds.{Bounds}}
+use Rattle.formulas.{specs.{Tolerable.{Q, k, rootTime, tolerableTouch, tolerableStep}, Width.{mV}}, proofs.Positive.{decimal-nonneg}}
 use Rattle.formulas.proofs.Consistent.{quantity-rootTime}
 use Rattle.tolerable.specs.Ends.{bodyFactor, timeRoot, topEnds, tolerableEnds, touchEnds, stepEnds}
-use Rattle.tolerable.proofs.Layer.{layer-span}
-use Rattle.tolerable.proofs.Surface.{layer-point}
-use Rattle.tolerable.proofs.Spans.{time-span}
+use Rattle.tolerable.proofs.{Layer.{layer-span}, Surface.{layer-point}, Spans.{time-span}}
 
 -- units of 1/2,000,000
 halfMicro : Scale
@@ -48,8 +30,7 @@ body-is c = go (eqb (c .body) 50)
 -- (1000 + weight/2 · m/1000) · f/1000, counted in units of 1/2,000,000
 module _ (share : Fraction) (weight : ℕ) where
   Counted : Type 0
-  Counted =
-      (m f : ℕ) → (whole 1000 +f share ·f over (pos m) (ten 3)) ·f decimal f 3 ≈f over (pos ((2000000 + m * weight) * f)) halfMicro
+  Counted = (m f : ℕ) → (whole 1000 +f share ·f over (pos m) (ten 3)) ·f decimal f 3 ≈f over (pos ((2000000 + m * weight) * f)) halfMicro
 
 touch-counted : Counted (decimal 15 1) 3
 unfolding Counted whole decimal over ten halfMicro _·f_ _+f_

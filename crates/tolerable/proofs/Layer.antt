@@ -1,22 +1,14 @@
 -- The layer effect: its ends are natural numbers, and Q lies between them.
 use Prim.Native.Nat.{ℕ, _+_, _*_, _/_, _≤_, _<_}
-use mathlib.Core.Path.{_≡_, ap}
-use mathlib.Core.Bool.{cond}
-use mathlib.Core.Logic.{_⊎_, inl, inr, ⊎-elim}
-use native.Mathlib.Omega.{arith}
-use native.Mathlib.Nat.{mul-le-mul-right}
-use lib.Dec.{eqb}
+use mathlib.Core.{Path.{_≡_, ap}, Bool.{cond}, Logic.{_⊎_, inl, inr, ⊎-elim}}
+use native.Mathlib.{Omega.{arith}, Nat.{mul-le-mul-right}}
+use lib.{Dec.{eqb}, IntN.{ℤ, pos, _-ℤ_}}
 use borrow.Author.Tests.{ne-eqb}
-use lib.IntN.{ℤ, pos, _-ℤ_}
-use Rattle.interval.specs.Whole.{floorZ, ceilZ, ceilDiv}
-use Rattle.interval.specs.Operations.{natural, point, size, differenceOf, outwardOf}
-use Rattle.interval.specs.Span.{Span}
+use Rattle.interval.specs.{Whole.{floorZ, ceilZ, ceilDiv}, Operations.{natural, point, size, differenceOf, outwardOf}, Span.{Span}}
 use Rattle.interval.proofs.Signed.{difference-is, floor-below, floor-above}
-use Rattle.interval.proofs.Rounding.{ceilDiv-by, ceil-above, ceil-below, floor-is, ceil-is}
-use Rattle.interval.proofs.Sizes.{size-point, size-difference}
+use Rattle.interval.proofs.{Rounding.{ceilDiv-by, ceil-above, ceil-below, floor-is, ceil-is}, Sizes.{size-point, size-difference}}
 use Rattle.interval.proofs.Span.{span-natural, span-point, span-wider, floor≤ceil, round-near}
-use Rattle.case.specs.declared.Case.{Case}
-use Rattle.case.specs.Bounds.{Bounds, Bare, Layered}
+use Rattle.case.specs.{declared.Case.{Case}, Bounds.{Bounds, Bare, Layered}}
 use Rattle.tolerable.specs.Ends.{layered, layerEnds}
 
 -- A − (B − C) / d, rounded outward, is (A d + C − B) / d rounded outward

@@ -1,17 +1,12 @@
 -- A shorter shock or a heavier body, all else equal but fault current and split: the ends of the tolerable voltages rise or stay.
 use Prim.Native.Nat.{ℕ, _*_, _^_, _≤_}
-use mathlib.Core.Path.{_≡_}
-use mathlib.Core.Bool.{Bool, true, false, cond}
-use mathlib.Core.Logic.{_⊎_, inl, inr}
-use native.Mathlib.Omega.{arith}
-use native.Mathlib.Nat.{mul-le-mul-right}
+use mathlib.Core.{Path.{_≡_}, Bool.{Bool, true, false, cond}, Logic.{_⊎_, inl, inr}}
+use native.Mathlib.{Omega.{arith}, Nat.{mul-le-mul-right}}
 use lib.Dec.{lit≤, lit<, eqb}
 use borrow.Author.Tests.{ne-eqb}
 use Rattle.interval.proofs.Below.{Below, below-more, below-divided}
 use Rattle.enclosure.proofs.RootSpan.{root-span, root-below}
-use Rattle.case.specs.declared.Case.{Case}
-use Rattle.case.specs.Bounds.{Bounds}
-use Rattle.case.specs.Eased.{eased}
+use Rattle.case.specs.{declared.Case.{Case}, Bounds.{Bounds}, Eased.{eased}}
 use Rattle.tolerable.specs.Ends.{layered, layerEnds, bodyFactor, timeRoot, topEnds, tolerableEnds, touchEnds, stepEnds}
 use Rattle.tolerable.proofs.Spans.{sum-span}
 

@@ -1,18 +1,12 @@
 -- Sizes and widths of the parts of the tolerable voltages' ends.
 use Prim.Native.Nat.{ℕ, _+_, _*_, _≤_}
 use mathlib.Core.Bool.{Bool, true, false, cond}
-use native.Mathlib.Omega.{arith}
-use native.Mathlib.Nat.{mul-le-mul, le-trans}
-use lib.Dec.{lit≤, eqb}
-use lib.IntN.{pos}
-use Rattle.interval.specs.Operations.{point, sumOf, scaledOf}
-use Rattle.interval.specs.Span.{Span}
-use Rattle.interval.proofs.Span.{span-wider, span-sum, span-scaled}
-use Rattle.interval.proofs.Rules.{lits}
-use Rattle.interval.proofs.NumeralSpans.{numeral-point}
+use native.Mathlib.{Omega.{arith}, Nat.{mul-le-mul, le-trans}}
+use lib.{Dec.{lit≤, eqb}, IntN.{pos}}
+use Rattle.interval.{specs.{Operations.{point, sumOf, scaledOf}, Span.{Span}}, proofs.Span.{span-wider, span-sum, span-scaled}}
+use Rattle.interval.proofs.{Rules.{lits}, NumeralSpans.{numeral-point}}
 use Rattle.enclosure.proofs.RootSpan.{root-span}
-use Rattle.case.specs.declared.Case.{Case}
-use Rattle.case.specs.Bounds.{Between, Bounds}
+use Rattle.case.specs.{declared.Case.{Case}, Bounds.{Between, Bounds}}
 use Rattle.tolerable.specs.Ends.{layerEnds, bodyFactor, timeRoot, topEnds}
 use Rattle.tolerable.proofs.Layer.{layer-span}
 

@@ -1,22 +1,14 @@
 -- Q lies between the ends of the layer effect.
 use Prim.Native.Nat.{ℕ, _+_, _*_, _/_, _≤_}
-use mathlib.Core.Path.{_≡_}
-use mathlib.Core.Logic.{⊎-elim}
+use mathlib.Core.{Path.{_≡_}, Logic.{⊎-elim}}
 use native.Mathlib.Omega.{arith}
 use borrow.Author.Tests.{eq-eqb, ne-eqb}
 use lib.IntN.{pos}
-use Rattle.interval.specs.Whole.{ceilDiv}
-use Rattle.interval.specs.Operations.{natural, point}
-use Rattle.interval.proofs.Rounding.{floorDiv-below, ceilDiv-above}
-use Rattle.exact.specs.Fraction.{_≤f_, whole, decimal, _+f_, _−f_, _·f_, _÷f_}
-use Rattle.exact.specs.Reported.{ten, over, reported}
-use Rattle.exact.proofs.Order.{trans≤}
+use Rattle.interval.{specs.{Whole.{ceilDiv}, Operations.{natural, point}}, proofs.Rounding.{floorDiv-below, ceilDiv-above}}
+use Rattle.exact.{specs.{Fraction.{_≤f_, whole, decimal, _+f_, _−f_, _·f_, _÷f_}, Reported.{ten, over, reported}}, proofs.Order.{trans≤}}
 use Rattle.exact.proofs.Points.{Point}
-use Rattle.case.specs.declared.Case.{Case}
-use Rattle.case.specs.Bounds.{Bounds, Bare, Layered}
-use Rattle.formulas.specs.Lengths.{ρ}
-use Rattle.formulas.specs.Tolerable.{ρs, hs, Q}
-use Rattle.formulas.proofs.Surface.{divisor, thickness, effect, effect-is}
+use Rattle.case.specs.{declared.Case.{Case}, Bounds.{Bounds, Bare, Layered}}
+use Rattle.formulas.{specs.{Lengths.{ρ}, Tolerable.{ρs, hs, Q}}, proofs.Surface.{divisor, thickness, effect, effect-is}}
 use Rattle.tolerable.specs.Ends.{layered, layerEnds}
 use Rattle.tolerable.proofs.Layer.{weighed, layered-is}
 

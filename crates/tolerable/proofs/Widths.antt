@@ -1,17 +1,11 @@
 -- The tolerable voltages' ends are no further apart than document 01 allows: 1/10,000 of the lower end plus 10 mV.
 use Prim.Native.Nat.{ℕ, _+_, _*_, _/_, _≤_, _<_}
-use native.Mathlib.Omega.{arith}
-use native.Mathlib.Nat.{mul-le-mul-left, mul-le-mul-right, le-trans, lt-of-mul-lt-mul-right, le-of-suc-le-suc}
+use native.Mathlib.{Omega.{arith}, Nat.{mul-le-mul-left, mul-le-mul-right, le-trans, lt-of-mul-lt-mul-right, le-of-suc-le-suc}}
 use lib.Dec.{lit≤}
-use Rattle.interval.specs.Whole.{ceilDiv}
-use Rattle.interval.specs.Operations.{natural}
-use Rattle.interval.specs.Span.{Relative}
-use Rattle.interval.proofs.Natural.{natural-quotient}
+use Rattle.interval.{specs.{Whole.{ceilDiv}, Operations.{natural}, Span.{Relative}}, proofs.Natural.{natural-quotient}}
 use Rattle.interval.proofs.Rounding.{floorDiv-above, ceilDiv-below}
-use Rattle.exact.specs.Fraction.{decimal, _+f_, neg, _−f_, _·f_}
-use Rattle.exact.specs.Reported.{ten, over, reported, AtMost}
-use Rattle.case.specs.declared.Case.{Case}
-use Rattle.case.specs.Bounds.{Bounds}
+use Rattle.exact.specs.{Fraction.{decimal, _+f_, neg, _−f_, _·f_}, Reported.{ten, over, reported, AtMost}}
+use Rattle.case.specs.{declared.Case.{Case}, Bounds.{Bounds}}
 use Rattle.formulas.specs.Width.{mV, tolerableWidth}
 use Rattle.tolerable.specs.Ends.{tolerableEnds, touchEnds, stepEnds}
 use Rattle.tolerable.proofs.Spans.{top-span, time-span}
@@ -22,15 +16,7 @@ near : (a b c d k L U : ℕ) → b ≤ a + 1884 → 232000000 ≤ a → d ≤ c 
 near a b c d k L U p q r s u l =
     le-of-suc-le-suc
     (lt-of-mul-lt-mul-right (100 * c)
-    (omega (
-      arith,
-      mul-le-mul-right k p,
-      mul-le-mul-right k q,
-      mul-le-mul-left L r,
-      mul-le-mul-left L s,
-      u,
-      l,
-    )))
+    (omega (arith, mul-le-mul-right k p, mul-le-mul-right k q, mul-le-mul-left L r, mul-le-mul-left L s, u, l)))
 
 pub tolerable-near : {c : Case} → Bounds c → (weight : ℕ) → weight ≤ 12 → Relative (tolerableEnds c weight) 10000 10
 unfolding tolerableEnds

@@ -1,34 +1,20 @@
 -- Cs as one fraction: that it lies between its ends, and that Q is Cs times the surface's resistivity.
 use Prim.Native.Nat.{ℕ, _+_, _*_, _^_, _≤_, _<_}
-use mathlib.Core.Path.{_≡_, refl}
-use mathlib.Core.Logic.{⊎-elim}
-use native.Mathlib.Omega.{arith}
-use native.Mathlib.Nat.{mul-le-mul, mul-le-mul-left, mul-pos}
+use mathlib.Core.{Path.{_≡_, refl}, Logic.{⊎-elim}}
+use native.Mathlib.{Omega.{arith}, Nat.{mul-le-mul, mul-le-mul-left, mul-pos}}
 use borrow.Author.Tests.{eq-eqb, ne-eqb}
 use lib.IntN.{pos}
-use Rattle.interval.specs.Operations.{point, quotientOf}
-use Rattle.interval.specs.Span.{Span}
-use Rattle.interval.proofs.Span.{span-point, span-divide}
-use Rattle.interval.proofs.Rules.{lits}
+use Rattle.interval.{specs.{Operations.{point, quotientOf}, Span.{Span}}, proofs.{Span.{span-point, span-divide}, Rules.{lits}}}
 use Rattle.interval.proofs.NumeralSpans.{numeral-point, numeral-wider}
-use Rattle.exact.specs.Fraction.{Fraction, _≈f_, whole, decimal, _+f_, neg, _−f_, _·f_, _÷f_}
-use Rattle.exact.specs.Exact.{exactly}
-use Rattle.exact.specs.Reported.{ten, reported}
-use Rattle.exact.proofs.Order.{refl≈, sym≈, trans≈, whole-pos}
-use Rattle.exact.proofs.Sums.{cong−}
-use Rattle.exact.proofs.Products.{cong·, one-mul}
-use Rattle.exact.proofs.Points.{Point, point-same}
-use Rattle.enclosure.specs.Enclosure.{Encloses}
-use Rattle.enclosure.proofs.Basics.{encloses-exactly, encloses-whole}
-use Rattle.case.specs.declared.Case.{Case}
-use Rattle.case.specs.Bounds.{Between, Bounds, Bare, Layered}
-use Rattle.formulas.specs.Lengths.{ρ}
-use Rattle.formulas.specs.Tolerable.{ρs, hs, Q}
+use Rattle.exact.specs.{Fraction.{Fraction, _≈f_, whole, decimal, _+f_, neg, _−f_, _·f_, _÷f_}, Exact.{exactly}, Reported.{ten, reported}}
+use Rattle.exact.proofs.{Order.{refl≈, sym≈, trans≈, whole-pos}, Sums.{cong−}, Products.{cong·, one-mul}, Points.{Point, point-same}}
+use Rattle.enclosure.{specs.Enclosure.{Encloses}, proofs.Basics.{encloses-exactly, encloses-whole}}
+use Rattle.case.specs.{declared.Case.{Case}, Bounds.{Between, Bounds, Bare, Layered}}
+use Rattle.formulas.specs.{Lengths.{ρ}, Tolerable.{ρs, hs, Q}}
 use Rattle.formulas.proofs.Surface.{quotient-is, divisor, thickness, thickness-pos, effect, effect-is}
 use Rattle.tolerable.proofs.Layer.{by-surface}
 use Rattle.step.proofs.Ratios.{ratio, counted, counted-point}
-use Rattle.working.specs.Surface.{Cs, surface}
-use Rattle.working.specs.Ends.{derated, full, layerFactor}
+use Rattle.working.specs.{Surface.{Cs, surface}, Ends.{derated, full, layerFactor}}
 
 module _ (soil layer thick : ℕ) (p : 0 < layer) where
   below : 0 < layer * (2 * thick + 90)

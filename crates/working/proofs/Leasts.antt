@@ -1,34 +1,19 @@
 -- Least values of Kii, Km and Ks, so that their widths may be told as a share of them.
 use Prim.Native.Nat.{ℕ, zero, suc, _+_, _*_, _/_, _^_, _≤_, _<_}
 use mathlib.Core.Path.{_≡_, ap}
-use native.Mathlib.Omega.{arith}
-use native.Mathlib.Nat.{mul-le-mul, div-mul-le-self}
-use lib.Dec.{eqb, lit≤, lit<}
-use lib.IntN.{pos, _+ℤ_}
-use Rattle.interval.specs.Signed.{plus, minus}
-use Rattle.interval.specs.declared.Interval.{Interval}
-use Rattle.interval.specs.Operations.{natural, point, sumOf}
-use Rattle.interval.specs.Span.{Span}
-use Rattle.interval.proofs.Signed.{size-is, sum-is}
-use Rattle.interval.proofs.Sizes.{size-lower}
-use Rattle.interval.proofs.Rounding.{floorDiv-by}
-use Rattle.interval.proofs.Span.{span-sum, span-divide, span-lower}
-use Rattle.interval.proofs.Rules.{lits}
-use Rattle.interval.proofs.NumeralSpans.{numeral-point, numeral-quotient, numeral-wider}
+use native.Mathlib.{Omega.{arith}, Nat.{mul-le-mul, div-mul-le-self}}
+use lib.{Dec.{eqb, lit≤, lit<}, IntN.{pos, _+ℤ_}}
+use Rattle.interval.specs.{Signed.{plus, minus}, declared.Interval.{Interval}, Operations.{natural, point, sumOf}, Span.{Span}}
+use Rattle.interval.proofs.{Signed.{size-is, sum-is}, Sizes.{size-lower}, Rounding.{floorDiv-by}, Span.{span-sum, span-divide, span-lower}}
+use Rattle.interval.proofs.{Rules.{lits}, NumeralSpans.{numeral-point, numeral-quotient, numeral-wider}}
 use Rattle.exponential.specs.Ends.{halvingsOf, argumentOf, nestedOf, seriesOf, inverseOf, squaredOf, endOf, expEnds, expPair}
 use Rattle.exponential.proofs.Sizes.{halvings-least, argument-size, nested-size, series-least}
 use Rattle.enclosure.proofs.Constants.{π-span}
-use Rattle.case.specs.declared.Case.{Case}
-use Rattle.case.specs.Bounds.{Bounds}
+use Rattle.case.specs.{declared.Case.{Case}, Bounds.{Bounds}}
 use Rattle.formulas.proofs.Conductors.{by-place}
-use Rattle.conductors.specs.Counts.{Counts}
-use Rattle.conductors.specs.Number.{nEnds}
-use Rattle.conductors.specs.Weights.{innerEnds}
-use Rattle.conductors.proofs.LineRoots.{line-root-span}
-use Rattle.conductors.proofs.WeightWidths.{exponent-span, inner-span}
-use Rattle.conductors.proofs.NumberEnclosed.{counts}
-use Rattle.mesh.specs.Factor.{argumentLog, innerTerm, innerFactor, perimeterRods, geometricFactor}
-use Rattle.mesh.proofs.Logarithms.{argument-span}
+use Rattle.conductors.{specs.{Counts.{Counts}, Number.{nEnds}, Weights.{innerEnds}}, proofs.LineRoots.{line-root-span}}
+use Rattle.conductors.proofs.{WeightWidths.{exponent-span, inner-span}, NumberEnclosed.{counts}}
+use Rattle.mesh.{specs.Factor.{argumentLog, innerTerm, innerFactor, perimeterRods, geometricFactor}, proofs.Logarithms.{argument-span}}
 use Rattle.mesh.proofs.FactorSpans as mesh
 use Rattle.step.specs.Ends.{perMetre, spacingSum, spacingFactor}
 use Rattle.step.proofs.FactorSpans as step

@@ -1,44 +1,28 @@
 -- The working of a case within its bounds is right, and the answer to a record.
 use Prim.Native.Nat.{ℕ, _*_}
 use mathlib.Core.Path.{_≡_, refl, sym, _∙_}
-use lib.Dec.{lit≤}
-use lib.IntN.{pos}
-use Rattle.exact.specs.Reported.{ten}
-use Rattle.exact.proofs.Consistency.{consistent-exactly, consistent-quotient}
-use Rattle.enclosure.proofs.Basics.{encloses-count}
-use Rattle.enclosure.proofs.Reporting.{reports}
-use Rattle.case.specs.declared.Case.{Case}
-use Rattle.case.specs.declared.Judged.{Judged}
-use Rattle.case.specs.declared.Judged.the-variants.{Sound, Refused}
-use Rattle.case.specs.Check.{recordJudged, recordAnswer}
-use Rattle.case.specs.Bounds.{Bounds}
-use Rattle.case.proofs.Bounds.{record-bounds}
-use Rattle.formulas.proofs.Conductors.{quantity-n, quantity-s}
-use Rattle.formulas.proofs.Quantities.{quantity-Ki, quantity-Kh, quantity-Kii, quantity-LM}
+use lib.{Dec.{lit≤}, IntN.{pos}}
+use Rattle.exact.{specs.Reported.{ten}, proofs.Consistency.{consistent-exactly, consistent-quotient}}
+use Rattle.enclosure.proofs.{Basics.{encloses-count}, Reporting.{reports}}
+use Rattle.case.specs.{declared.{Case.{Case}, Judged.{Judged, the-variants.{Sound, Refused}}}, Check.{recordJudged, recordAnswer}}
+use Rattle.case.{specs.Bounds.{Bounds}, proofs.Bounds.{record-bounds}}
+use Rattle.formulas.proofs.{Conductors.{quantity-n, quantity-s}, Quantities.{quantity-Ki, quantity-Kh, quantity-Kii, quantity-LM}}
 use Rattle.formulas.proofs.Consistent.{quantity-rootTime, consistent-Km, consistent-Ks}
-use Rattle.lengths.specs.Lengths.{conductorLength, rodLength, totalLength}
-use Rattle.lengths.proofs.Lengths.{conductor-is, rod-is, total-is}
-use Rattle.conductors.proofs.NumberSpans.{n-span, Ki-span}
-use Rattle.conductors.proofs.NumberEnclosed.{counts, n-encloses, Ki-encloses}
+use Rattle.lengths.{specs.Lengths.{conductorLength, rodLength, totalLength}, proofs.Lengths.{conductor-is, rod-is, total-is}}
+use Rattle.conductors.proofs.{NumberSpans.{n-span, Ki-span}, NumberEnclosed.{counts, n-encloses, Ki-encloses}}
 use Rattle.drive.proofs.Enclosed.{drive-consistent}
-use Rattle.tolerable.proofs.Spans.{time-span}
-use Rattle.tolerable.proofs.Enclosed.{time-encloses}
-use Rattle.resistance.proofs.Spans.{side-span}
-use Rattle.resistance.proofs.Enclosed.{side-encloses}
-use Rattle.mesh.specs.Ends.{meshEnds}
-use Rattle.mesh.proofs.FactorSpans.{depth-span}
-use Rattle.mesh.proofs.FactorEnclosed as ME
+use Rattle.tolerable.proofs.{Spans.{time-span}, Enclosed.{time-encloses}}
+use Rattle.resistance.proofs.{Spans.{side-span}, Enclosed.{side-encloses}}
+use Rattle.mesh.{specs.Ends.{meshEnds}, proofs.FactorSpans.{depth-span}}
 use Rattle.mesh.proofs.Enclosed.{length-encloses, mesh-length-encloses, driven-encloses}
-use Rattle.step.specs.Ends.{stepLength}
+use Rattle.mesh.proofs.FactorEnclosed as ME
+use Rattle.step.{specs.Ends.{stepLength}, proofs.Enclosed.{length-is}}
 use Rattle.step.proofs.FactorEnclosed as SE
-use Rattle.step.proofs.Enclosed.{length-is}
-use Rattle.working.specs.declared.Quantities.{Quantities}
-use Rattle.working.specs.declared.Worked.the-variants as worked
-use Rattle.working.specs.Ends.{workingOf}
+use Rattle.working.specs.{declared.Quantities.{Quantities}, Ends.{workingOf}}
 use Rattle.working.specs.Working.{millionth, hundredThousandth, drivenWidth, RightWorking, workingAnswer, RightWorked}
 use Rattle.working.specs.Working.{WorkingAnswered}
-use Rattle.working.proofs.Layer.{factor-encloses, effect-is-derated, factor-span}
-use Rattle.working.proofs.Leasts.{Kii-span, Km-span, Ks-span}
+use Rattle.working.specs.declared.Worked.the-variants as worked
+use Rattle.working.proofs.{Layer.{factor-encloses, effect-is-derated, factor-span}, Leasts.{Kii-span, Km-span, Ks-span}}
 use Rattle.working.proofs.Widths.{millionth-narrow, hundred-thousandth-narrow, point-narrow, mesh-length-narrow, driven-narrow}
 
 pub right-working : {c : Case} → Bounds c → RightWorking c (workingOf c)

@@ -1,19 +1,12 @@
 -- The pairs of a working are no wider than allowed.
 use Prim.Native.Nat.{ℕ, _+_, _*_, _^_, _≤_}
-use native.Mathlib.Omega.{arith}
-use native.Mathlib.Nat.{mul-le-mul-right}
+use native.Mathlib.{Omega.{arith}, Nat.{mul-le-mul-right}}
 use lib.IntN.{pos}
-use Rattle.interval.specs.declared.Interval.{Interval}
-use Rattle.interval.specs.Operations.{natural, point}
-use Rattle.interval.specs.Span.{Span}
-use Rattle.interval.proofs.Span.{span-point}
-use Rattle.exact.specs.Fraction.{decimal, _+f_, neg, _−f_, _·f_}
-use Rattle.exact.specs.Reported.{Scale, ten, over, reported, AtMost}
-use Rattle.case.specs.declared.Case.{Case}
-use Rattle.case.specs.Bounds.{Bounds}
+use Rattle.interval.{specs.{declared.Interval.{Interval}, Operations.{natural, point}, Span.{Span}}, proofs.Span.{span-point}}
+use Rattle.exact.specs.{Fraction.{decimal, _+f_, neg, _−f_, _·f_}, Reported.{Scale, ten, over, reported, AtMost}}
+use Rattle.case.specs.{declared.Case.{Case}, Bounds.{Bounds}}
 use Rattle.formulas.specs.Width.{mV}
-use Rattle.mesh.specs.Ends.{meshLength, drivenEnds}
-use Rattle.mesh.proofs.DrivenWidths.{mesh-length-relative, driven-ends}
+use Rattle.mesh.{specs.Ends.{meshLength, drivenEnds}, proofs.DrivenWidths.{mesh-length-relative, driven-ends}}
 use Rattle.working.specs.Working.{millionth, hundredThousandth, drivenWidth}
 
 -- ---- a share of the lower end: of ends a and b, 10^e times their difference is at most a

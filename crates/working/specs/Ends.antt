@@ -2,18 +2,15 @@
 -- their laws.
 use Prim.Native.Nat.{ℕ, _+_, _*_, _^_}
 use mathlib.Core.Bool.{cond}
-use lib.Dec.{eqb}
-use lib.IntN.{pos}
-use Rattle.interval.specs.declared.Interval.{Interval}
-use Rattle.interval.specs.Operations.{point, quotientOf}
+use lib.{Dec.{eqb}, IntN.{pos}}
+use Rattle.interval.specs.{declared.Interval.{Interval}, Operations.{point, quotientOf}}
 use Rattle.case.specs.declared.Case.{Case}
 use Rattle.lengths.specs.Lengths.{conductorLength, rodLength, totalLength}
 use Rattle.conductors.specs.Number.{KiEnds}
 use Rattle.drive.specs.Ends.{numberOf}
 use Rattle.tolerable.specs.Ends.{timeRoot}
 use Rattle.resistance.specs.Ends.{sideEnds}
-use Rattle.mesh.specs.Factor.{depthFactor, innerFactor, geometricFactor}
-use Rattle.mesh.specs.Ends.{meshLength, drivenEnds}
+use Rattle.mesh.specs.{Factor.{depthFactor, innerFactor, geometricFactor}, Ends.{meshLength, drivenEnds}}
 use Rattle.step.specs.Ends.{spacingFactor, stepLength}
 use Rattle.working.specs.declared.Quantities.{Quantities}
 

@@ -1,9 +1,7 @@
 -- Cs computed on examples.
 use lib.Dec.{lit≤}
 use Rattle.exact.specs.Fraction.{_≈f_, whole, decimal, _+f_, neg, _−f_, _·f_, inv, _÷f_}
-use Rattle.formulas.specs.Lengths.{ρ}
-use Rattle.formulas.specs.Tolerable.{ρs, hs}
-use Rattle.formulas.specs.Yards.{sample, yard}
+use Rattle.formulas.specs.{Lengths.{ρ}, Tolerable.{ρs, hs}, Yards.{sample, yard}}
 use Rattle.working.specs.Surface.{Cs}
 
 -- 102 mm of 2500 ohm metres on soil of 400, which IEEE Std 80's Annex B prints as 0.74

@@ -3,8 +3,7 @@ use mathlib.Core.Bool.{cond}
 use lib.Dec.{eqb}
 use Rattle.exact.specs.Fraction.{Fraction, whole, decimal, _+f_, _−f_, _·f_, _÷f_}
 use Rattle.case.specs.declared.Case.{Case}
-use Rattle.formulas.specs.Lengths.{ρ}
-use Rattle.formulas.specs.Tolerable.{ρs, hs}
+use Rattle.formulas.specs.{Lengths.{ρ}, Tolerable.{ρs, hs}}
 
 module _ (c : Case) where
   -- "Cs = 1 − 0.09(1 − ρ/ρs)/(2hs + 0.09)"; 1 for bare soil, which nothing derates

@@ -1,23 +1,14 @@
 -- What a right working is: the quantities that IEEE Std 80-2013, Annex B, prints of a case between its record and its row.
 use mathlib.Core.Path.{_≡_}
 use Rattle.interval.specs.Operations.{productOf}
-use Rattle.exact.specs.Fraction.{Fraction, _≈f_, decimal, _+f_, _·f_}
-use Rattle.exact.specs.Ends.{Ends}
-use Rattle.exact.specs.Exact.{exactly, _·x_, _÷x_}
-use Rattle.exact.specs.Reported.{ten, Reports}
-use Rattle.case.specs.declared.Case.{Case}
-use Rattle.case.specs.Check.{recordJudged, recordAnswer}
+use Rattle.exact.specs.{Fraction.{Fraction, _≈f_, decimal, _+f_, _·f_}, Ends.{Ends}, Exact.{exactly, _·x_, _÷x_}, Reported.{ten, Reports}}
+use Rattle.case.specs.{declared.Case.{Case}, Check.{recordJudged, recordAnswer}}
 use Rattle.formulas.specs.Lengths
-use Rattle.formulas.specs.Current.{IG}
-use Rattle.formulas.specs.Tolerable.{Q, rootTime}
+use Rattle.formulas.specs.{Current.{IG}, Tolerable.{Q, rootTime}, Width.{mV}}
 use Rattle.formulas.specs.Mesh
 use Rattle.formulas.specs.Step
-use Rattle.formulas.specs.Width.{mV}
 use Rattle.mesh.specs.Ends.{meshEnds}
-use Rattle.working.specs.declared.Quantities.{Quantities}
-use Rattle.working.specs.declared.Worked.{Worked}
-use Rattle.working.specs.declared.Worked.the-variants.{Is, Refused}
-use Rattle.working.specs.Surface.{Cs, surface}
+use Rattle.working.specs.{declared.{Quantities.{Quantities}, Worked.{Worked, the-variants.{Is, Refused}}}, Surface.{Cs, surface}}
 use Rattle.working.specs.Ends.{workingOf}
 
 -- ---- widths

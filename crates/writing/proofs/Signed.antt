@@ -1,17 +1,9 @@
 -- Numbers with a sign: their digits, and the bits of the code's numbers as their magnitude.
 use Prim.Native.Nat.{ℕ, zero, suc, _+_, _-_, _/_, _≤_}
-use mathlib.Core.Path.{_≡_, refl, _∙_}
-use mathlib.Core.Bool.{Bool, true, false, cond}
-use mathlib.Core.List.{_∷_}
-use native.Mathlib.Numerals.{add-one}
-use native.Mathlib.Omega.{arith}
-use lib.Dec.{ltb, leb·suc-zero}
-use lib.IntN.{ℤ, pos, negsuc, natAbs}
-use lib.ListN.{length}
-use lib.Signed.{mag, ltZ}
-use mir.Syntax.{w64}
-use mir.Val.{SFits, toZ, ofZ}
-use mir.Facts.{toZ-ofZ, toZ-pos}
+use mathlib.Core.{Path.{_≡_, refl, _∙_}, Bool.{Bool, true, false, cond}, List.{_∷_}}
+use native.Mathlib.{Numerals.{add-one}, Omega.{arith}}
+use lib.{Dec.{ltb, leb·suc-zero}, IntN.{ℤ, pos, negsuc, natAbs}, ListN.{length}, Signed.{mag, ltZ}}
+use mir.{Syntax.{w64}, Val.{SFits, toZ, ofZ}, Facts.{toZ-ofZ, toZ-pos}}
 use Rattle.writing.specs.Decimal.{digitsIn, digitCount, decimal, signed}
 use Rattle.writing.proofs.Decimal.{decimal-length}
 

@@ -1,20 +1,12 @@
 -- The writing of a whole text at a buffer's start, in two parts, or not at all.
 use Prim.Native.Nat.{ℕ, _+_, _*_, _≤_, _<_}
-use mathlib.Core.Path.{_≡_, refl, ap, _∙_}
-use mathlib.Core.Bool.{Bool, true, false, cond}
-use mathlib.Core.List.{List, _++_}
+use mathlib.Core.{Path.{_≡_, refl, ap, _∙_}, Bool.{Bool, true, false, cond}, List.{List, _++_}}
 use native.Mathlib.Omega.{arith}
-use lib.Dec.{leb}
-use lib.ListN.{length, drop, length-append, length-drop}
+use lib.{Dec.{leb}, ListN.{length, drop, length-append, length-drop}}
 use borrow.Author.Tests.{le-leb, lt-leb, leb-true}
-use Rattle.tables.specs.Parts.{partsOf}
-use Rattle.tables.proofs.Parts.{parts-length}
-use Rattle.writing.specs.Text.{allLines}
-use Rattle.writing.specs.Put.{Put, WrittenFirst}
-use Rattle.writing.specs.declared.Written.{Written}
-use Rattle.writing.specs.declared.Written.the-variants.{Short, Count}
-use Rattle.writing.proofs.Filling.{Filling, filling-start, filling-room, filling-rest, text-step}
-use Rattle.writing.proofs.Lengths.{text-most}
+use Rattle.tables.{specs.Parts.{partsOf}, proofs.Parts.{parts-length}}
+use Rattle.writing.specs.{Text.{allLines}, Put.{Put, WrittenFirst}, declared.Written.{Written, the-variants.{Short, Count}}}
+use Rattle.writing.proofs.{Filling.{Filling, filling-start, filling-room, filling-rest, text-step}, Lengths.{text-most}}
 use Rattle.writing.proofs.LinesWriting.{linesText}
 
 -- lines of values take at most seven bytes a value

@@ -1,9 +1,7 @@
 -- Lines and fields into bytes. Document 01, 'The sheet': "A line ends with one byte 10. Fields are parted by one comma."
 use Prim.Native.Nat.{ℕ}
-use mathlib.Core.Bool.{Bool, true, not, _&&_}
-use mathlib.Core.List.{List, [], _∷_, _++_, map}
-use lib.Dec.{leb, eqb}
-use lib.ListN.{length}
+use mathlib.Core.{Bool.{Bool, true, not, _&&_}, List.{List, [], _∷_, _++_, map}}
+use lib.{Dec.{leb, eqb}, ListN.{length}}
 use Rattle.writing.specs.Decimal.{decimal}
 
 -- a comma before each of some fields

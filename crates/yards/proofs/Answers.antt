@@ -1,30 +1,17 @@
 -- What holds of an answer: an answer that is no refusal is the search's, over yards that are sound cases.
 use Prim.Native.Nat.{ℕ, zero, suc, _<_}
-use mathlib.Core.Path.{_≡_, refl, sym, ap, _∙_}
-use mathlib.Core.Bool.{Bool, true, false, cond, _&&_}
-use mathlib.Core.List.{List, [], _∷_}
+use mathlib.Core.{Path.{_≡_, refl, sym, ap, _∙_}, Bool.{Bool, true, false, cond, _&&_}, List.{List, [], _∷_}}
 use native.Mathlib.Omega.{arith}
-use lib.Dec.{leb, eqb}
-use lib.ListN.{length, getD}
+use lib.{Dec.{leb, eqb}, ListN.{length, getD}}
 use Rattle.text.proofs.Clash.{clash}
-use Rattle.case.specs.declared.Case.{Case}
-use Rattle.case.specs.declared.Judged.{Judged}
+use Rattle.case.specs.{declared.{Case.{Case}, Judged.{Judged}}, Check.{recordJudged, recordAnswer}, Bounds.{Bounds}}
+use Rattle.case.proofs.{Bounds.{record-bounds}, BoundsSound.{bounds-sound}}
 use Rattle.case.specs.declared.Judged.the-variants as judged
-use Rattle.case.specs.Check.{recordJudged, recordAnswer}
-use Rattle.case.specs.Bounds.{Bounds}
-use Rattle.case.proofs.Bounds.{record-bounds}
-use Rattle.case.proofs.BoundsSound.{bounds-sound}
-use Rattle.row.specs.declared.Verdict.the-variants.{Safe}
-use Rattle.row.specs.Ends.{caseVerdict, rowOf}
-use Rattle.row.proofs.Right.{row-verdict, right-row}
-use Rattle.yards.specs.declared.FewestLines.{FewestLines}
-use Rattle.yards.specs.declared.FewestLines.the-variants.{Found, None, Refused}
+use Rattle.row.{specs.{declared.Verdict.the-variants.{Safe}, Ends.{caseVerdict, rowOf}}, proofs.Right.{row-verdict, right-row}}
+use Rattle.yards.specs.declared.FewestLines.{FewestLines, the-variants.{Found, None, Refused}}
 use Rattle.yards.specs.Yards.{yard, yards, trial, meansSafe, isSafe}
 use Rattle.yards.specs.Fewest.{leastSide, mostSide, fewest, sideAnswer, answer, AnsweredYard, RightAnswer, FewestAnswered}
-use Rattle.yards.proofs.Trying.{yards-most}
-use Rattle.yards.proofs.Sound.{Tried, Every, yards-sound}
-use Rattle.yards.proofs.Place.{Says, fewest-says}
-use Rattle.yards.proofs.Found.{found-yard}
+use Rattle.yards.proofs.{Trying.{yards-most}, Sound.{Tried, Every, yards-sound}, Place.{Says, fewest-says}, Found.{found-yard}}
 
 -- ---- an answer that is no refusal
 

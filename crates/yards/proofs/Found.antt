@@ -1,17 +1,10 @@
 -- What a found yard is: a case within its bounds whose verdict is safe.
 use Prim.Native.Nat.{ℕ, suc}
-use mathlib.Core.Path.{_≡_, refl, _∙_}
-use mathlib.Core.Bool.{Bool, true, false, cond}
-use mathlib.Core.List.{List, [], _∷_}
+use mathlib.Core.{Path.{_≡_, refl, _∙_}, Bool.{Bool, true, false, cond}, List.{List, [], _∷_}}
 use Rattle.text.proofs.Clash.{clash}
-use Rattle.case.specs.declared.Case.{Case}
-use Rattle.case.specs.Bounds.{Bounds}
-use Rattle.row.specs.declared.Verdict.{Verdict}
-use Rattle.row.specs.declared.Verdict.the-variants.{Safe, Unsafe, Undecided}
-use Rattle.row.specs.Ends.{caseVerdict}
-use Rattle.yards.specs.declared.FewestLines.the-variants.{Found}
-use Rattle.yards.specs.Yards.{yard, yards, meansSafe, isSafe}
-use Rattle.yards.specs.Fewest.{firstSafe, fewest}
+use Rattle.case.specs.{declared.Case.{Case}, Bounds.{Bounds}}
+use Rattle.row.specs.{declared.Verdict.{Verdict, the-variants.{Safe, Unsafe, Undecided}}, Ends.{caseVerdict}}
+use Rattle.yards.specs.{declared.FewestLines.the-variants.{Found}, Yards.{yard, yards, meansSafe, isSafe}, Fewest.{firstSafe, fewest}}
 use Rattle.yards.proofs.Sound.{Tried, Every, yards-sound}
 
 -- a yard of these counts of lines and rods

@@ -1,14 +1,10 @@
 -- What an answer of the search says of its list: the place of the first safe yard, or that none is.
 use Prim.Native.Nat.{ℕ, zero, suc, _+_, _<_}
-use mathlib.Core.Path.{_≡_, refl}
-use mathlib.Core.Bool.{Bool, true, false, cond}
-use mathlib.Core.List.{List, [], _∷_}
+use mathlib.Core.{Path.{_≡_, refl}, Bool.{Bool, true, false, cond}, List.{List, [], _∷_}}
 use native.Mathlib.Omega.{arith}
 use lib.ListN.{length, getD}
 use Rattle.case.specs.declared.Case.{Case}
-use Rattle.yards.specs.declared.FewestLines.{FewestLines}
-use Rattle.yards.specs.declared.FewestLines.the-variants.{Found, None, Refused}
-use Rattle.yards.specs.Yards.{yards, isSafe}
+use Rattle.yards.specs.{declared.FewestLines.{FewestLines, the-variants.{Found, None, Refused}}, Yards.{yards, isSafe}}
 use Rattle.yards.specs.Fewest.{firstSafe, fewest}
 
 -- the yard with index `at` is safe and none before it is; d stands past the list's end

@@ -1,17 +1,11 @@
 -- Every yard tried is a sound case where the rest of the case is, so no yard is refused.
 use Prim.Native.Nat.{ℕ, zero, suc, _+_, _*_, _-_, _%_, _≤_}
-use mathlib.Core.Path.{_≡_, refl}
-use mathlib.Core.Bool.{Bool, true, false, _&&_}
-use mathlib.Core.Logic.{_⊎_, inl, inr}
-use mathlib.Core.List.{List, [], _∷_, _++_}
+use mathlib.Core.{Path.{_≡_, refl}, Bool.{Bool, true, false, _&&_}, Logic.{_⊎_, inl, inr}, List.{List, [], _∷_, _++_}}
 use native.Mathlib.Omega.{arith}
 use lib.Dec.{leb, eqb}
 use borrow.Author.Tests.{leb-true, ne-eqb}
-use Rattle.text.proofs.Clash.{clash}
-use Rattle.case.specs.declared.Case.{Case}
-use Rattle.text.specs.Text.{same}
-use Rattle.case.specs.Columns.{columns, inRange, nameIndex}
-use Rattle.case.specs.Parts.{rangeAt}
+use Rattle.text.{specs.Text.{same}, proofs.Clash.{clash}}
+use Rattle.case.specs.{declared.Case.{Case}, Columns.{columns, inRange, nameIndex}, Parts.{rangeAt}}
 use Rattle.case.specs.Bounds.{Between, Bare, Layered, Rodless, Rodded, Bounds}
 use Rattle.yards.specs.Yards.{spacing, spaceRange, fits, yard, yardsOf, yardsFrom, yards}
 use Rattle.yards.proofs.Trying.{lines-next, lines-skipped, lines-end, rods-next, rods-end}

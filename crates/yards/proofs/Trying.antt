@@ -1,17 +1,11 @@
 -- The search for the first safe yard: what is left to try, and what each turn makes of it. No code here.
 use Prim.Native.Nat.{ℕ, zero, suc, _+_, _*_, _-_, _≤_, _<_}
-use mathlib.Core.Path.{_≡_, refl, sym, ap, _∙_}
-use mathlib.Core.Bool.{Bool, true, false, cond}
-use mathlib.Core.List.{List, [], _∷_, _++_, map}
-use native.Mathlib.Numerals.{add-one}
-use native.Mathlib.Omega.{arith}
+use mathlib.Core.{Path.{_≡_, refl, sym, ap, _∙_}, Bool.{Bool, true, false, cond}, List.{List, [], _∷_, _++_, map}}
+use native.Mathlib.{Numerals.{add-one}, Omega.{arith}}
 use lib.ListN.{length, length-append, length-map}
-use Rattle.case.specs.declared.Case.{Case}
-use Rattle.case.specs.Check.{countFrom}
-use Rattle.yards.specs.declared.FewestLines.{FewestLines}
-use Rattle.yards.specs.declared.FewestLines.the-variants.{Found, None}
-use Rattle.yards.specs.Yards.{fits, yard, rodCounts, yardsOf, yardsOver, yardsFrom, yards, isSafe}
-use Rattle.yards.specs.Fewest.{firstSafe, fewest}
+use Rattle.case.specs.{declared.Case.{Case}, Check.{countFrom}}
+use Rattle.yards.specs.declared.FewestLines.{FewestLines, the-variants.{Found, None}}
+use Rattle.yards.specs.{Yards.{fits, yard, rodCounts, yardsOf, yardsOver, yardsFrom, yards, isSafe}, Fewest.{firstSafe, fewest}}
 
 -- ---- the list of yards
 

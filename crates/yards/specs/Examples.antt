@@ -1,12 +1,8 @@
 -- The list of yards, computed on a side of 70 m.
-use mathlib.Core.Path.{_≡_, refl}
-use mathlib.Core.List.{[], _∷_, map}
+use mathlib.Core.{Path.{_≡_, refl}, List.{[], _∷_, map}}
 use lib.ListN.{length}
-use Rattle.case.specs.declared.Case.{Case}
+use Rattle.case.specs.{declared.Case.{Case}, Columns.{columns, inRange, nameIndex}, Parts.{rangeAt}, Check.{countFrom}}
 use Rattle.text.specs.Text.{same}
-use Rattle.case.specs.Columns.{columns, inRange, nameIndex}
-use Rattle.case.specs.Parts.{rangeAt}
-use Rattle.case.specs.Check.{countFrom}
 use Rattle.yards.specs.Yards.{spacing, spaceRange, fits, rodCounts, yardsOf, yardsOver, yardsFrom, yards}
 
 -- 0, 4, 8 up to 40 rods

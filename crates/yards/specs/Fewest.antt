@@ -1,19 +1,10 @@
 -- The first safe yard. Document 02 (k).
 use Prim.Native.Nat.{ℕ, suc, _≤_, _<_}
-use mathlib.Core.Path.{_≡_}
-use mathlib.Core.Bool.{cond, _&&_}
-use mathlib.Core.List.{List, [], _∷_}
-use lib.Dec.{leb, eqb}
-use lib.ListN.{length, getD}
-use Rattle.case.specs.declared.Case.{Case}
-use Rattle.case.specs.declared.Judged.the-variants.{Sound}
-use Rattle.case.specs.Check.{recordJudged, recordAnswer}
-use Rattle.row.specs.declared.Verdict.the-variants.{Safe}
-use Rattle.row.specs.Row.{RightRow}
-use Rattle.row.specs.Ends.{rowOf}
-use Rattle.yards.specs.declared.FewestLines.{FewestLines}
-use Rattle.yards.specs.declared.FewestLines.the-variants.{Found, None, Refused}
-use Rattle.yards.specs.Yards.{yard, yards, trial, isSafe}
+use mathlib.Core.{Path.{_≡_}, Bool.{cond, _&&_}, List.{List, [], _∷_}}
+use lib.{Dec.{leb, eqb}, ListN.{length, getD}}
+use Rattle.case.specs.{declared.{Case.{Case}, Judged.the-variants.{Sound}}, Check.{recordJudged, recordAnswer}}
+use Rattle.row.specs.{declared.Verdict.the-variants.{Safe}, Row.{RightRow}, Ends.{rowOf}}
+use Rattle.yards.specs.{declared.FewestLines.{FewestLines, the-variants.{Found, None, Refused}}, Yards.{yard, yards, trial, isSafe}}
 
 -- the first safe of the yards that are left, after some were tried
 unfoldable pub firstSafe : ℕ → List Case → FewestLines

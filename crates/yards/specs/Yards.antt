@@ -1,16 +1,10 @@
 -- The yards tried for a square side, in order. Document 02 (k).
 use Prim.Native.Nat.{ℕ, _*_, _-_, _/_, _%_}
-use mathlib.Core.Bool.{Bool, true, false, cond, _&&_}
-use mathlib.Core.List.{List, [], _∷_, _++_, map}
+use mathlib.Core.{Bool.{Bool, true, false, cond, _&&_}, List.{List, [], _∷_, _++_, map}}
 use lib.Dec.{eqb}
 use Rattle.text.specs.Text.{bytes}
-use Rattle.case.specs.declared.Case.{Case}
-use Rattle.case.specs.Columns.{Range, columns, inRange, nameIndex}
-use Rattle.case.specs.Parts.{rangeAt}
-use Rattle.case.specs.Check.{countFrom}
-use Rattle.row.specs.declared.Verdict.{Verdict}
-use Rattle.row.specs.declared.Verdict.the-variants.{Safe, Unsafe, Undecided}
-use Rattle.row.specs.Ends.{caseVerdict}
+use Rattle.case.specs.{declared.Case.{Case}, Columns.{Range, columns, inRange, nameIndex}, Parts.{rangeAt}, Check.{countFrom}}
+use Rattle.row.specs.{declared.Verdict.{Verdict, the-variants.{Safe, Unsafe, Undecided}}, Ends.{caseVerdict}}
 
 -- mm between two lines
 unfoldable pub spacing : ℕ → ℕ → ℕ

@@ -1,13 +1,9 @@
 -- `margins_of` hands the numbers of the row that is answered to `margins`.
 use mathlib.Core.Path.{ap, _∙_}
 use Rattle.margin.specs.Margin.{marginsOf}
-use Rattle.caller.proofs.Margins.{refused-none, margins-told}
+use Rattle.caller.proofs.{Margins.{refused-none, margins-told}, margins_of.Statement.{statement}}
 use borrow.Author.Needs.{needs}
-use Rattle.caller.proofs.margins_of.Statement.{statement}
 use Rattle.caller.proofs.margins_of.Tie as tie
-
-enum-told : tie.Need-enum-told
-enum-told c = search needs
 
 returns : tie.Need-returns
 returns c = refused-none (c .before .before .row .ensures) (c .enum-told .given .1)
@@ -20,13 +16,5 @@ returns-2 c =
 
 pub margins-of-spec : {M : Type 1} → statement M
 margins-of-spec =
-    tie.close
-    (tie.spec
-    (λ c κs. search needs)
-    (λ c. search needs)
-    enum-told
-    returns
-    (λ c κs. search needs)
-    (λ c. search needs)
-    (λ c κs. search needs)
-    returns-2)
+    tie.close (tie.spec (λ c κs. search needs) (λ c. search needs) (λ c. search needs) returns (λ c κs. search needs) (λ c. search needs)
+    (λ c κs. search needs) returns-2)

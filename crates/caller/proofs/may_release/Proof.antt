@@ -1,12 +1,9 @@
 -- `may_release` answers true of a safe row alone, and a right row that is safe is so of the exact values.
 use Rattle.row.specs.declared.Verdict.the-variants.{Unsafe, Undecided}
 use Rattle.caller.proofs.Release.{refused-held, verdict-held, released, not-unsafe, not-undecided}
-use borrow.Author.Needs.{needs}
 use Rattle.caller.proofs.may_release.Statement.{statement}
+use borrow.Author.Needs.{needs}
 use Rattle.caller.proofs.may_release.Tie as tie
-
-enum-told : tie.Need-enum-told
-enum-told c = search needs
 
 returns : tie.Need-returns
 returns c = refused-held (c .before .before .row .ensures) (c .enum-told .given .1)
@@ -27,15 +24,5 @@ returns-4 c =
 
 pub may-release-spec : {M : Type 1} → statement M
 may-release-spec =
-    tie.close
-    (tie.spec
-    (λ c κs. search needs)
-    (λ c. search needs)
-    enum-told
-    returns
-    (λ c. search needs)
-    (λ c. search needs)
-    (λ c. search needs)
-    returns-2
-    returns-3
-    returns-4)
+    tie.close (tie.spec (λ c κs. search needs) (λ c. search needs) (λ c. search needs) returns (λ c. search needs) (λ c. search needs)
+    (λ c. search needs) returns-2 returns-3 returns-4)

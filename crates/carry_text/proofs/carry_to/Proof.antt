@@ -3,9 +3,6 @@ use borrow.Author.Needs.{needs}
 use Rattle.carry_text.proofs.carry_to.Statement.{statement}
 use Rattle.carry_text.proofs.carry_to.Tie as tie
 
-enum-told : tie.Need-enum-told
-enum-told c = search needs
-
 returns : tie.Need-returns
 returns c = let t = c .before .before in rw (t .before .before .enum-told .given .1) (t .carry .ensures)
 
@@ -14,13 +11,5 @@ returns-2 c = let t = c .before .before in rw (t .before .before .enum-told2 .gi
 
 pub carry-to-spec : {M : Type 1} → statement M
 carry-to-spec =
-    tie.close
-    (tie.spec
-    enum-told
-    (λ c κs. search needs)
-    (λ c. search needs)
-    (λ c κs. search needs)
-    (λ c. search needs)
-    returns
-    (λ c. search needs)
-    returns-2)
+    tie.close (tie.spec (λ c. search needs) (λ c κs. search needs) (λ c. search needs) (λ c κs. search needs) (λ c. search needs) returns
+    (λ c. search needs) returns-2)

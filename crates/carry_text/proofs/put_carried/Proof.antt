@@ -1,7 +1,6 @@
 -- `put_carried` keeps what the conversion wrote, or puts the line of its refusal: proofs/CarriedTexts.antt.
 use borrow.Author.Needs.{needs}
-use Rattle.carry_text.proofs.CarriedTexts.{carried-put, carried-refused}
-use Rattle.carry_text.proofs.put_carried.Statement.{statement}
+use Rattle.carry_text.proofs.{CarriedTexts.{carried-put, carried-refused}, put_carried.Statement.{statement}}
 use Rattle.carry_text.proofs.put_carried.Tie as tie
 
 returns : tie.Need-returns
@@ -21,13 +20,5 @@ returns-2 c =
 
 pub put-carried-spec : {M : Type 1} → statement M
 put-carried-spec =
-    tie.close
-    (tie.spec
-    (λ c κs. search needs)
-    (λ c. search needs)
-    (λ c. search needs)
-    (λ c κs. search needs)
-    (λ c. search needs)
-    returns
-    (λ c. search needs)
-    returns-2)
+    tie.close (tie.spec (λ c κs. search needs) (λ c. search needs) (λ c. search needs) (λ c κs. search needs) (λ c. search needs) returns
+    (λ c. search needs) returns-2)

@@ -2,8 +2,7 @@
 use mathlib.Core.Path.{sym, ap, _∙_}
 use lib.ListN.{length}
 use borrow.Author.Needs.{needs}
-use Rattle.case.specs.Columns.{columns, name-count}
-use Rattle.case.specs.Check.{countFrom, ownPlaces, finding, caseFinding, recordFinding}
+use Rattle.case.specs.{Columns.{columns, name-count}, Check.{countFrom, ownPlaces, finding, caseFinding, recordFinding}}
 use Rattle.case.specs.Parts.{formOf}
 use Rattle.case.proofs.check.Statement.{statement}
 use Rattle.case.proofs.check.Tie as tie
@@ -17,11 +16,4 @@ unfolding recordFinding caseFinding ownPlaces countFrom columns formOf
 returns c = c .check-values .ensures ∙ ap (finding columns _) (c .before .before .before .values-of .ensures)
 
 pub check-spec : {M : Type 1} → statement M
-check-spec =
-    tie.close
-    (tie.spec
-    (λ c κs. search needs)
-    (λ c. search needs)
-    (λ c. search needs)
-    check-values-requires
-    returns)
+check-spec = tie.close (tie.spec (λ c κs. search needs) (λ c. search needs) (λ c. search needs) check-values-requires returns)

@@ -5,9 +5,6 @@ use borrow.Author.Needs.{needs}
 use Rattle.case.proofs.judge.Statement.{statement}
 use Rattle.case.proofs.judge.Tie as tie
 
-enum-told : tie.Need-enum-told
-enum-told c = search needs
-
 returns : tie.Need-returns
 unfolding recordJudged judgedBy
 returns c = rw (sym (c .before .before .check .ensures) ∙ c .enum-told .given .1)
@@ -22,5 +19,4 @@ returns-3 c = rw (sym (c .before .before .before .check .ensures) ∙ c .before 
 
 pub judge-spec : {M : Type 1} → statement M
 judge-spec =
-    tie.close
-    (tie.spec (λ c κs. search needs) enum-told (λ c. search needs) (λ c. search needs) returns returns-2 returns-3)
+    tie.close (tie.spec (λ c κs. search needs) (λ c. search needs) (λ c. search needs) (λ c. search needs) returns returns-2 returns-3)

@@ -1,13 +1,9 @@
 -- `case::name_count` meets its contract.
 use mathlib.Core.Path.{sym}
 use borrow.Author.Needs.{needs}
-use Rattle.case.specs.Columns.{name-count, former-name-count}
-use Rattle.case.specs.Parts.{formOf}
+use Rattle.case.specs.{Columns.{name-count, former-name-count}, Parts.{formOf}}
 use Rattle.case.proofs.name_count.Statement.{statement}
 use Rattle.case.proofs.name_count.Tie as tie
-
-enum-told : tie.Need-enum-told
-enum-told c = search needs
 
 returns : tie.Need-returns
 unfolding formOf
@@ -18,4 +14,4 @@ unfolding formOf
 returns-2 c = rw (c .enum-told2 .given .1) (sym former-name-count)
 
 pub name-count-spec : {M : Type 1} → statement M
-name-count-spec = tie.close (tie.spec enum-told (λ c. search needs) returns returns-2)
+name-count-spec = tie.close (tie.spec (λ c. search needs) (λ c. search needs) returns returns-2)

@@ -1,32 +1,18 @@
 -- `carry_to` reads, looks for what the form cannot say, converts and writes: the laws of proofs/Answers.antt and SoundCases.antt.
 use Prim.Native.Nat.{ℕ, _*_, _≤_}
-use mathlib.Core.Path.{_≡_, sym, ap, subst, _∙_}
-use mathlib.Core.Bool.{true}
-use mathlib.Core.List.{List, [], map}
-use native.Mathlib.Nat.{mul-le-mul-left, mul-le-mul-right}
-use native.Mathlib.Omega.{arith}
+use mathlib.Core.{Path.{_≡_, sym, ap, subst, _∙_}, Bool.{true}, List.{List, [], map}}
+use native.Mathlib.{Nat.{mul-le-mul-left, mul-le-mul-right}, Omega.{arith}}
 use borrow.Author.Needs.{needs}
 use lib.ListN.{length}
 use Rattle.tables.specs.Parts.{partsOf}
-use Rattle.case.specs.declared.Form.{Form}
+use Rattle.case.{specs.{declared.Form.{Form}, Columns.{nameCount}, Parts.{formOf}}, proofs.Findings.{form-most}}
 use Rattle.case.specs.Columns as Columns
-use Rattle.case.specs.Columns.{nameCount}
-use Rattle.case.specs.Parts.{formOf}
-use Rattle.case.proofs.Findings.{form-most}
-use Rattle.judgement.specs.declared.Judgement.the-variants.{Lines}
-use Rattle.judgement.specs.Limits.{mostLines}
-use Rattle.header.specs.Header.{columnsOf}
-use Rattle.judgement.specs.Read.{Stored}
-use Rattle.judgement.specs.Sheet.{names, valueLines, judgement}
-use Rattle.judgement.specs.Accepted.{Accepted}
-use Rattle.judgement.proofs.Accepted.{accepted}
+use Rattle.judgement.specs.{declared.Judgement.the-variants.{Lines}, Limits.{mostLines}, Read.{Stored}}
+use Rattle.judgement.{specs.{Sheet.{names, valueLines, judgement}, Accepted.{Accepted}}, proofs.Accepted.{accepted}}
 use Rattle.judgement.proofs.StoredLines.{stored-parts}
-use Rattle.writing.specs.Put.{WrittenFirst}
-use Rattle.writing.specs.Text.{allLines}
-use Rattle.writing.proofs.Whole.{written-size}
-use Rattle.conversion.specs.Values.{other, carried}
-use Rattle.conversion.specs.Sheet.{casesIn, sheetOf}
-use Rattle.conversion.specs.Answer.{changes, carriedText}
+use Rattle.header.specs.Header.{columnsOf}
+use Rattle.writing.{specs.{Put.{WrittenFirst}, Text.{allLines}}, proofs.Whole.{written-size}}
+use Rattle.conversion.specs.{Values.{other, carried}, Sheet.{casesIn, sheetOf}, Answer.{changes, carriedText}}
 use Rattle.conversion.proofs.SoundCases.{accepted-cases, carried-cases, all-lines}
 use Rattle.conversion.proofs.Answers.{answered-source, answered-change, answered-short, answered-written}
 use Rattle.conversion.proofs.carry_to.Statement.{statement}
@@ -96,8 +82,7 @@ read-of n = n .before .before .before
 abbrev searched : tie.After-first-change → tie.After-n
 searched f = f .before .before .before
 
-change-is : (f : tie.After-first-change)
-    → f .first-change .result ≡ changes (asked (read-of (searched f))) (cases (read-of (searched f)))
+change-is : (f : tie.After-first-change) → f .first-change .result ≡ changes (asked (read-of (searched f))) (cases (read-of (searched f)))
 change-is f = f .first-change .ensures ∙ ap (changes _) (lines-are (read-of (searched f)) (searched f .n .given .1))
 
 slice-aggregate-first-change : tie.Need-slice-aggregate-first-change
@@ -141,12 +126,10 @@ converted v = v .convert .last .1 .1 .1 .0
 
 carried-lines : (v : tie.After-convert)
     → partsOf (length (to (source v))) (count v) (converted v) ≡ map (carried (asked (source v))) (cases (source v))
-carried-lines v =
-    v .convert .ensures .lines ∙ ap (map (carried (asked (source v)))) (lines-are (source v) (lined v .n .given .1))
+carried-lines v = v .convert .ensures .lines ∙ ap (map (carried (asked (source v)))) (lines-are (source v) (lined v .n .given .1))
 
 -- they can be written
-writable : (v : tie.After-convert)
-    → allLines (length (to (source v))) (partsOf (length (to (source v))) (count v) (converted v)) ≡ true
+writable : (v : tie.After-convert) → allLines (length (to (source v))) (partsOf (length (to (source v))) (count v) (converted v)) ≡ true
 writable v =
     rw (carried-lines v)
     (all-lines (asked (source v)) [] _
@@ -207,27 +190,7 @@ returns-4 c =
 
 pub carry-to-spec : {M : Type 1} → statement M
 carry-to-spec =
-    tie.close
-    (tie.spec
-    (λ c κs. search needs)
-    (λ c. search needs)
-    read-requires
-    (λ c. search needs)
-    (λ c. search needs)
-    slice-aggregate-first-change
-    first-change-requires
-    (λ c. search needs)
-    returns
-    (λ c. search needs)
-    slice-aggregate-convert
-    (λ c. search needs)
-    convert-requires
-    slice-aggregate-write-form
-    write-form-requires
-    (λ c. search needs)
-    (λ c. search needs)
-    returns-2
-    same-length
-    returns-3
-    same-length-2
-    returns-4)
+    tie.close (tie.spec (λ c κs. search needs) (λ c. search needs) read-requires (λ c. search needs) (λ c. search needs)
+    slice-aggregate-first-change first-change-requires (λ c. search needs) returns (λ c. search needs) slice-aggregate-convert
+    (λ c. search needs) convert-requires slice-aggregate-write-form write-form-requires (λ c. search needs) (λ c. search needs) returns-2
+    same-length returns-3 same-length-2 returns-4)

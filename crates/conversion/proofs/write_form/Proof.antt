@@ -40,13 +40,5 @@ returns c =
 
 pub write-form-spec : {M : Type 1} → statement M
 write-form-spec =
-    tie.close
-    (tie.spec
-    (λ c κs. search needs)
-    (λ c. search needs)
-    put-names-requires
-    array-share-prefix-line
-    slice-aggregate-write-sheet
-    write-sheet-requires
-    same-length
-    returns)
+    tie.close (tie.spec (λ c κs. search needs) (λ c. search needs) put-names-requires array-share-prefix-line slice-aggregate-write-sheet
+    write-sheet-requires same-length returns)

@@ -5,9 +5,8 @@ use Rattle.interval.proofs.SpanFits.{scaled-fits, outward-fits}
 use Rattle.enclosure.proofs.Constants.{π-span}
 use Rattle.formulas.proofs.Decrement.{hz-bounds}
 use Rattle.decrement.specs.Ends.{exponentEnds}
-use Rattle.decrement.proofs.Spans.{turns-bounds, over-pos, scaled-span}
+use Rattle.decrement.proofs.{Spans.{turns-bounds, over-pos, scaled-span}, exponent.Statement.{statement}}
 use borrow.Author.Needs.{needs}
-use Rattle.decrement.proofs.exponent.Statement.{statement}
 use Rattle.decrement.proofs.exponent.Tie as tie
 
 mul-scaled : tie.Need-mul-scaled
@@ -43,14 +42,5 @@ returns c =
 
 pub exponent-spec : {M : Type 1} → statement M
 exponent-spec =
-    tie.close
-    (tie.spec
-    (λ c κs. search needs)
-    mul-scaled
-    mul-scaled-2
-    cast-scaled
-    scaled-requires
-    mul-outward
-    (λ c. search needs)
-    outward-requires
-    returns)
+    tie.close (tie.spec (λ c κs. search needs) mul-scaled mul-scaled-2 cast-scaled scaled-requires mul-outward (λ c. search needs)
+    outward-requires returns)

@@ -2,15 +2,12 @@
 use Prim.Native.Nat.{_+_, _≤_}
 use native.Mathlib.Omega.{arith}
 use mir.Facts.{toZ-ofZ}
-use Rattle.interval.specs.Span.{Span}
-use Rattle.interval.proofs.Bits.{Held, natural-cast}
-use Rattle.interval.proofs.SpanFits.{read-lower, read-upper}
+use Rattle.interval.{specs.Span.{Span}, proofs.{Bits.{Held, natural-cast}, SpanFits.{read-lower, read-upper}}}
 use Rattle.enclosure.proofs.SquareRoot.{square-root-is}
 use Rattle.exponential.specs.Ends.{billion}
 use Rattle.decrement.specs.Ends.{factorEnds}
-use Rattle.decrement.proofs.Widths.{square-span, root-most}
+use Rattle.decrement.proofs.{Widths.{square-span, root-most}, factor_ends.Statement.{statement}}
 use borrow.Author.Needs.{needs}
-use Rattle.decrement.proofs.factor_ends.Statement.{statement}
 use Rattle.decrement.proofs.factor_ends.Tie as tie
 
 module _ (c : tie.After-square) where
@@ -66,15 +63,5 @@ returns c =
 
 pub factor-ends-spec : {M : Type 1} → statement M
 factor-ends-spec =
-    tie.close
-    (tie.spec
-    (λ c κs. search needs)
-    cast-isqrt
-    mul-isqrt
-    (λ c κs. search needs)
-    cast-isqrt-2
-    mul-isqrt-2
-    (λ c κs. search needs)
-    add-natural
-    natural-requires
-    returns)
+    tie.close (tie.spec (λ c κs. search needs) cast-isqrt mul-isqrt (λ c κs. search needs) cast-isqrt-2 mul-isqrt-2 (λ c κs. search needs)
+    add-natural natural-requires returns)

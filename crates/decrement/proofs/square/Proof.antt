@@ -1,18 +1,12 @@
 -- `square` keeps within 64 bits by the spans of its parts.
 use mathlib.Core.Path.{_≡_}
-use lib.Dec.{lit<}
-use lib.IntN.{pos}
-use Rattle.interval.specs.Operations.{point}
-use Rattle.interval.specs.Span.{Span}
-use Rattle.interval.proofs.SpanFits.{sum-fits}
-use Rattle.interval.proofs.Rules.{lits}
+use lib.{Dec.{lit<}, IntN.{pos}}
+use Rattle.interval.{specs.{Operations.{point}, Span.{Span}}, proofs.{SpanFits.{sum-fits}, Rules.{lits}}}
 use Rattle.interval.proofs.NumeralSpans.{numeral-point, numeral-quotient-fits, numeral-wider}
 use Rattle.exponential.specs.Ends.{billion}
 use Rattle.decrement.specs.Ends.{ratioEnds, restEnds, squareEnds}
-use Rattle.decrement.proofs.Spans.{exponent-span, power-span, rest-ratio-wide}
-use Rattle.decrement.proofs.Widths.{product-span}
+use Rattle.decrement.proofs.{Spans.{exponent-span, power-span, rest-ratio-wide}, Widths.{product-span}, square.Statement.{statement}}
 use borrow.Author.Needs.{needs}
-use Rattle.decrement.proofs.square.Statement.{statement}
 use Rattle.decrement.proofs.square.Tie as tie
 
 one : Span (point (pos billion)) 0 billion 0
@@ -67,15 +61,5 @@ returns c =
 
 pub square-spec : {M : Type 1} → statement M
 square-spec =
-    tie.close
-    (tie.spec
-    (λ c κs. search needs)
-    (λ c κs. search needs)
-    quotient-requires
-    (λ c κs. search needs)
-    exp-pair-requires
-    difference-requires
-    (λ c κs. search needs)
-    wide-product-requires
-    sum-requires
-    returns)
+    tie.close (tie.spec (λ c κs. search needs) (λ c κs. search needs) quotient-requires (λ c κs. search needs) exp-pair-requires
+    difference-requires (λ c κs. search needs) wide-product-requires sum-requires returns)

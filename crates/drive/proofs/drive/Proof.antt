@@ -1,9 +1,7 @@
 -- `drive` multiplies Ki by ρ·IG; the product is wide.
-use Rattle.conductors.proofs.NumberSpans.{n-span}
-use Rattle.conductors.proofs.NumberEnclosed.{counts}
+use Rattle.conductors.proofs.{NumberSpans.{n-span}, NumberEnclosed.{counts}}
 use Rattle.drive.specs.Ends.{driveEnds}
-use Rattle.drive.proofs.Spans.{drive-wide}
-use Rattle.drive.proofs.drive.Statement.{statement}
+use Rattle.drive.proofs.{Spans.{drive-wide}, drive.Statement.{statement}}
 use Rattle.drive.proofs.drive.Tie as tie
 
 irregularity-requires : tie.Need-irregularity-requires

@@ -1,12 +1,9 @@
 -- `exponential::series` meets its contract: the sum is that of the levels from i on.
 use Prim.Native.Nat.{_-_, _*_, _/_, _≤_}
 use mathlib.Core.Path.{_≡_, refl}
-use native.Mathlib.Omega.{arith}
-use native.Mathlib.Nat.{mul-le-mul, div-le-self}
+use native.Mathlib.{Omega.{arith}, Nat.{mul-le-mul, div-le-self}}
 use Rattle.exponential.specs.Ends.{billion, levels, nestedOf, seriesOf}
-use Rattle.exponential.proofs.Sizes.{nested-size}
-use Rattle.exponential.proofs.Loops.{nested-again}
-use Rattle.exponential.proofs.series.Statement.{statement}
+use Rattle.exponential.proofs.{Sizes.{nested-size}, Loops.{nested-again}, series.Statement.{statement}}
 use Rattle.exponential.proofs.series.Tie as tie
 
 abbrev Inv-loop : tie.InvT-loop
@@ -67,18 +64,5 @@ returns c =
 
 pub series-spec : {M : Type 1} → statement M
 series-spec =
-    tie.close
-    (tie.spec
-    Inv-loop
-    μ-loop
-    loop-holds
-    mul-sum
-    mul-sum-2
-    div-sum
-    add-sum
-    add-sum-2
-    sub-i
-    loop-less
-    loop-again
-    add-result
+    tie.close (tie.spec Inv-loop μ-loop loop-holds mul-sum mul-sum-2 div-sum add-sum add-sum-2 sub-i loop-less loop-again add-result
     returns)

@@ -1,8 +1,7 @@
 -- `put_field` tests the index.
 use borrow.Author.Needs.{needs}
 use mir.Facts.{toZ-ofZ}
-use Rattle.fields.proofs.LineFields.{field-word, field-number}
-use Rattle.fields.proofs.put_field.Statement.{statement}
+use Rattle.fields.proofs.{LineFields.{field-word, field-number}, put_field.Statement.{statement}}
 use Rattle.fields.proofs.put_field.Tie as tie
 
 put-word-requires : tie.Need-put-word-requires
@@ -30,6 +29,4 @@ returns-2 c =
     rw (field-number (s .args .z) (i .if1 .left)) (rw (toZ-ofZ (s .fits .z)) at (k .put-signed .ensures))
 
 pub put-field-spec : {M : Type 1} → statement M
-put-field-spec =
-    tie.close
-    (tie.spec put-word-requires (λ c. search needs) returns put-signed-requires (λ c. search needs) returns-2)
+put-field-spec = tie.close (tie.spec put-word-requires (λ c. search needs) returns put-signed-requires (λ c. search needs) returns-2)

@@ -1,19 +1,14 @@
 -- `put_fields` writes the fields of a line one after the other: proofs/LineFields.antt.
 use Prim.Native.Nat.{ℕ, _+_, _-_}
-use mathlib.Core.Path.{_≡_, refl, _∙_}
-use mathlib.Core.List.{List, [], _∷_, _++_}
+use mathlib.Core.{Path.{_≡_, refl, _∙_}, List.{List, [], _∷_, _++_}}
 use native.Mathlib.Omega.{arith}
 use borrow.Author.Needs.{needs}
-use lib.IntN.{pos}
-use lib.ListN.{length, getD, length-set}
-use mir.Syntax.{w64}
-use mir.Val.{SFits}
-use mir.Facts.{toZ-ofZ}
-use Rattle.writing.proofs.Filling.{Filling, filling-start, filling-room, filling-end, filling-rest}
-use Rattle.writing.proofs.Filling.{byte-room, byte-step, text-room, text-step, field-room, field-step}
+use lib.{IntN.{pos}, ListN.{length, getD, length-set}}
+use mir.{Syntax.{w64}, Val.{SFits}, Facts.{toZ-ofZ}}
+use Rattle.writing.proofs.Filling.{Filling, filling-start, filling-room, filling-end, filling-rest, byte-room, byte-step, text-room}
+use Rattle.writing.proofs.Filling.{text-step, field-room, field-step}
 use Rattle.fields.specs.Fields.{field, lineOf}
-use Rattle.fields.proofs.LineFields.{lineFrom, line-first, line-more, line-last}
-use Rattle.fields.proofs.put_fields.Statement.{statement}
+use Rattle.fields.proofs.{LineFields.{lineFrom, line-first, line-more, line-last}, put_fields.Statement.{statement}}
 use Rattle.fields.proofs.put_fields.Tie as tie
 
 abbrev Inv-loop : tie.InvT-loop
@@ -120,22 +115,6 @@ returns c = filling-rest (first (c .before .before .before .before)) (filling-en
 
 pub put-fields-spec : {M : Type 1} → statement M
 put-fields-spec =
-    tie.close
-    (tie.spec
-    Inv-loop
-    μ-loop
-    (λ c. search needs)
-    put-field-requires
-    loop-holds
-    slice-write-buf
-    add-put-field
-    (λ c. search needs)
-    (λ c. search needs)
-    put-field-requires-2
-    (λ c. search needs)
-    (λ c. search needs)
-    loop-again
-    slice-write-buf-2
-    add-result
-    same-length
+    tie.close (tie.spec Inv-loop μ-loop (λ c. search needs) put-field-requires loop-holds slice-write-buf add-put-field (λ c. search needs)
+    (λ c. search needs) put-field-requires-2 (λ c. search needs) (λ c. search needs) loop-again slice-write-buf-2 add-result same-length
     returns)

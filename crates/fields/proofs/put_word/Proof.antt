@@ -1,8 +1,7 @@
 -- `put_word` tests the bits of the number: proofs/Words.antt.
 use native.Mathlib.Omega.{arith}
 use borrow.Author.Needs.{needs}
-use Rattle.fields.proofs.Words.{safe-word, unsafe-word, undecided-word}
-use Rattle.fields.proofs.put_word.Statement.{statement}
+use Rattle.fields.proofs.{Words.{safe-word, unsafe-word, undecided-word}, put_word.Statement.{statement}}
 use Rattle.fields.proofs.put_word.Tie as tie
 
 put-bytes-requires : tie.Need-put-bytes-requires
@@ -43,17 +42,5 @@ returns-3 c =
 
 pub put-word-spec : {M : Type 1} → statement M
 put-word-spec =
-    tie.close
-    (tie.spec
-    (λ c. search needs)
-    put-bytes-requires
-    (λ c. search needs)
-    returns
-    (λ c. search needs)
-    put-bytes-requires-2
-    (λ c. search needs)
-    returns-2
-    (λ c. search needs)
-    put-bytes-requires-3
-    (λ c. search needs)
-    returns-3)
+    tie.close (tie.spec (λ c. search needs) put-bytes-requires (λ c. search needs) returns (λ c. search needs) put-bytes-requires-2
+    (λ c. search needs) returns-2 (λ c. search needs) put-bytes-requires-3 (λ c. search needs) returns-3)

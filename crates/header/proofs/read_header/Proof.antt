@@ -1,17 +1,12 @@
 -- `header::read_header` meets its contract: the reading of proofs/HeaderReading.antt.
 use Prim.Native.Nat.{ℕ, _+_, _-_, _≤_, _<_}
-use mathlib.Core.Path.{_≡_, sym, ap, _∙_}
-use mathlib.Core.List.{List, []}
+use mathlib.Core.{Path.{_≡_, sym, ap, _∙_}, List.{List, []}}
 use native.Mathlib.Omega.{arith}
 use borrow.Author.Needs.{needs}
 use lib.ListN.{length, take, set}
-use Rattle.text.specs.Text.{fieldsOf}
-use Rattle.text.proofs.FieldTurns.{part-length, field-first, field-last, field-next}
-use Rattle.case.specs.Columns.{Form}
-use Rattle.case.specs.Parts.{formOf}
-use Rattle.case.proofs.Findings.{form-most}
-use Rattle.header.specs.declared.names.Found.the-variants.{At}
-use Rattle.header.specs.Parts.{foundName}
+use Rattle.text.{specs.Text.{fieldsOf}, proofs.FieldTurns.{part-length, field-first, field-last, field-next}}
+use Rattle.case.{specs.{Columns.{Form}, Parts.{formOf}}, proofs.Findings.{form-most}}
+use Rattle.header.specs.{declared.names.Found.the-variants.{At}, Parts.{foundName}}
 use Rattle.header.proofs.HeaderReading.{HeaderAt, no-columns-count, OrderAt, HeaderTurn, turn-start, header-unknown, header-within}
 use Rattle.header.proofs.HeaderReading.{header-room, header-again, header-step, order-step, header-few, header-refused, header-end}
 use Rattle.header.proofs.read_header.Statement.{statement}
@@ -89,8 +84,7 @@ found-is : (c : tie.After-known-told Inv-loop μ-loop)
 found-is c = sym (c .before .before .before .name-of .ensures) ∙ c .before .found .given .1
 
 within : (c : tie.After-known-told Inv-loop μ-loop) → index c < length (asked (finding c))
-within c =
-    header-within (finding c .loop .inv .header) (field-first _ _ (place c .find .ensures)) (found-is c)
+within c = header-within (finding c .loop .inv .header) (field-first _ _ (place c .find .ensures)) (found-is c)
 
 mul-if1 : tie.Need-mul-if1 Inv-loop μ-loop
 mul-if1 c = omega (arith, within c, form-most (start (finding c) .args .form))
@@ -187,39 +181,7 @@ returns-4 c = header-end (stepped (c .before)) (named (c .before .before)) (omeg
 
 pub read-header-spec : {M : Type 1} → statement M
 read-header-spec =
-    tie.close
-    (tie.spec
-    Inv-loop
-    μ-loop
-    loop-holds
-    (λ c κs. search needs)
-    slice-aggregate-name-of
-    (λ c κs. search needs)
-    (λ c. search needs)
-    (λ c. search needs)
-    same-length
-    same-length-2
-    returns
-    mul-if1
-    slice-read-if1
-    same-length-3
-    same-length-4
-    returns-2
-    mul-at
-    slice-write-at
-    sub-order
-    mul-order
-    slice-write-order
-    add-c
-    (λ c. search needs)
-    (λ c. search needs)
-    (λ c. search needs)
-    (λ c. search needs)
-    (λ c. search needs)
-    loop-again
-    same-length-5
-    same-length-6
-    returns-3
-    same-length-7
-    same-length-8
-    returns-4)
+    tie.close (tie.spec Inv-loop μ-loop loop-holds (λ c κs. search needs) slice-aggregate-name-of (λ c κs. search needs) (λ c. search needs)
+    (λ c. search needs) same-length same-length-2 returns mul-if1 slice-read-if1 same-length-3 same-length-4 returns-2 mul-at slice-write-at
+    sub-order mul-order slice-write-order add-c (λ c. search needs) (λ c. search needs) (λ c. search needs) (λ c. search needs)
+    (λ c. search needs) loop-again same-length-5 same-length-6 returns-3 same-length-7 same-length-8 returns-4)

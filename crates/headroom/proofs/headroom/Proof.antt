@@ -5,9 +5,6 @@ use borrow.Author.Needs.{needs}
 use Rattle.headroom.proofs.headroom.Statement.{statement}
 use Rattle.headroom.proofs.headroom.Tie as tie
 
-enum-told : tie.Need-enum-told
-enum-told c = search needs
-
 greatest-fault-requires : tie.Need-greatest-fault-requires
 greatest-fault-requires c κs = sym (c .before .before .judge .ensures) ∙ c .enum-told .given .1
 
@@ -20,5 +17,4 @@ returns-2 c = record { checks = sym (c .before .before .before .judge .ensures) 
 
 pub headroom-spec : {M : Type 1} → statement M
 headroom-spec =
-    tie.close
-    (tie.spec (λ c κs. search needs) enum-told greatest-fault-requires (λ c. search needs) returns returns-2)
+    tie.close (tie.spec (λ c κs. search needs) (λ c. search needs) greatest-fault-requires (λ c. search needs) returns returns-2)

@@ -1,13 +1,9 @@
 -- `conductor_size` answers the size of a sound record, by the factor in its row.
 use Rattle.row.specs.Ends.{rowOf}
 use Rattle.hocsimbur.specs.Asked.{factorInRow, sizeByRow}
-use Rattle.hocsimbur.proofs.Answers.{sound-bounds, size-told, size-refused}
+use Rattle.hocsimbur.proofs.{Answers.{sound-bounds, size-told, size-refused}, conductor_size.Statement.{statement}}
 use borrow.Author.Needs.{needs}
-use Rattle.hocsimbur.proofs.conductor_size.Statement.{statement}
 use Rattle.hocsimbur.proofs.conductor_size.Tie as tie
-
-enum-told : tie.Need-enum-told
-enum-told c = search needs
 
 factor-ends-requires : tie.Need-factor-ends-requires
 factor-ends-requires c κs = sound-bounds _ (c .before .before .judge .ensures) (c .enum-told .given .1)
@@ -28,5 +24,5 @@ returns-2 c = size-refused _ (c .before .before .before .judge .ensures) (c .bef
 
 pub conductor-size-spec : {M : Type 1} → statement M
 conductor-size-spec =
-    tie.close
-    (tie.spec (λ c κs. search needs) enum-told factor-ends-requires conductor-size-requires (λ c. search needs) returns returns-2)
+    tie.close (tie.spec (λ c κs. search needs) (λ c. search needs) factor-ends-requires conductor-size-requires (λ c. search needs) returns
+    returns-2)

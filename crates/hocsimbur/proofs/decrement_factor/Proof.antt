@@ -1,13 +1,9 @@
 -- `decrement_factor` answers the ends of the factor of a sound record, which are those in its row.
 use Rattle.row.specs.Ends.{rowOf}
 use Rattle.hocsimbur.specs.Asked.{factorInRow}
-use Rattle.hocsimbur.proofs.Answers.{sound-bounds, factor-right, pair-told, pair-refused}
+use Rattle.hocsimbur.proofs.{Answers.{sound-bounds, factor-right, pair-told, pair-refused}, decrement_factor.Statement.{statement}}
 use borrow.Author.Needs.{needs}
-use Rattle.hocsimbur.proofs.decrement_factor.Statement.{statement}
 use Rattle.hocsimbur.proofs.decrement_factor.Tie as tie
-
-enum-told : tie.Need-enum-told
-enum-told c = search needs
 
 factor-ends-requires : tie.Need-factor-ends-requires
 factor-ends-requires c κs = sound-bounds _ (c .before .before .judge .ensures) (c .enum-told .given .1)
@@ -20,4 +16,5 @@ returns-2 : tie.Need-returns-2
 returns-2 c = pair-refused _ (c .before .before .before .judge .ensures) (c .before .number .given .1)
 
 pub decrement-factor-spec : {M : Type 1} → statement M
-decrement-factor-spec = tie.close (tie.spec (λ c κs. search needs) enum-told factor-ends-requires (λ c. search needs) returns returns-2)
+decrement-factor-spec =
+    tie.close (tie.spec (λ c κs. search needs) (λ c. search needs) factor-ends-requires (λ c. search needs) returns returns-2)

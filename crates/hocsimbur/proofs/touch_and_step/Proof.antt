@@ -1,11 +1,7 @@
 -- `touch_and_step` answers the ends of both tolerable voltages of a sound record.
-use Rattle.hocsimbur.proofs.Answers.{sound-bounds, voltages-told, voltages-refused}
+use Rattle.hocsimbur.proofs.{Answers.{sound-bounds, voltages-told, voltages-refused}, touch_and_step.Statement.{statement}}
 use borrow.Author.Needs.{needs}
-use Rattle.hocsimbur.proofs.touch_and_step.Statement.{statement}
 use Rattle.hocsimbur.proofs.touch_and_step.Tie as tie
-
-enum-told : tie.Need-enum-told
-enum-told c = search needs
 
 touch-and-step-requires : tie.Need-touch-and-step-requires
 touch-and-step-requires c κs = sound-bounds _ (c .before .before .judge .ensures) (c .enum-told .given .1)
@@ -20,4 +16,4 @@ returns-2 c = voltages-refused _ (c .before .before .before .judge .ensures) (c 
 
 pub touch-and-step-spec : {M : Type 1} → statement M
 touch-and-step-spec =
-    tie.close (tie.spec (λ c κs. search needs) enum-told touch-and-step-requires (λ c. search needs) returns returns-2)
+    tie.close (tie.spec (λ c κs. search needs) (λ c. search needs) touch-and-step-requires (λ c. search needs) returns returns-2)

@@ -1,7 +1,6 @@
 -- `judgement::bad_text` meets its contract, by the laws of proofs/Whole.antt.
 use borrow.Author.Needs.{needs}
-use Rattle.judgement.proofs.Whole.{text-empty, text-long, text-last}
-use Rattle.judgement.proofs.bad_text.Statement.{statement}
+use Rattle.judgement.proofs.{Whole.{text-empty, text-long, text-last}, bad_text.Statement.{statement}}
 use Rattle.judgement.proofs.bad_text.Tie as tie
 
 returns : tie.Need-returns
@@ -14,5 +13,4 @@ returns-3 : tie.Need-returns-3
 returns-3 c = text-last _ (c .before .before .if1 .left) (c .before .if2 .left)
 
 pub bad-text-spec : {M : Type 1} → statement M
-bad-text-spec =
-    tie.close (tie.spec returns returns-2 (λ c. search needs) (λ c. search needs) returns-3)
+bad-text-spec = tie.close (tie.spec returns returns-2 (λ c. search needs) (λ c. search needs) returns-3)

@@ -1,7 +1,6 @@
 -- `judgement::judge_values` meets its contract, by the laws of proofs/Whole.antt.
 use borrow.Author.Needs.{needs}
-use Rattle.judgement.proofs.Whole.{values-none, values-many, values-some}
-use Rattle.judgement.proofs.judge_values.Statement.{statement}
+use Rattle.judgement.proofs.{Whole.{values-none, values-many, values-some}, judge_values.Statement.{statement}}
 use Rattle.judgement.proofs.judge_values.Tie as tie
 
 returns : tie.Need-returns
@@ -27,6 +26,4 @@ returns-3 c =
     values-some _ _ _ _ (e .before .before .count-lines .ensures) (e .before .if1 .left) (e .if2 .left) (k .check-lines .ensures)
 
 pub judge-values-spec : {M : Type 1} → statement M
-judge-values-spec =
-    tie.close
-    (tie.spec (λ c κs. search needs) returns returns-2 check-lines-requires same-length returns-3)
+judge-values-spec = tie.close (tie.spec (λ c κs. search needs) returns returns-2 check-lines-requires same-length returns-3)

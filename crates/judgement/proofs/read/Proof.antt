@@ -1,14 +1,10 @@
 -- `judgement::read` meets its contract: each form has its own count of names.
 use mathlib.Core.Path.{sym}
 use borrow.Author.Needs.{needs}
-use Rattle.case.specs.Columns.{name-count, former-name-count}
-use Rattle.case.specs.Parts.{formOf}
+use Rattle.case.specs.{Columns.{name-count, former-name-count}, Parts.{formOf}}
 use Rattle.header.specs.Header.{noColumns}
 use Rattle.judgement.proofs.read.Statement.{statement}
 use Rattle.judgement.proofs.read.Tie as tie
-
-enum-told : tie.Need-enum-told
-enum-told c = search needs
 
 read-by-requires : tie.Need-read-by-requires
 unfolding formOf noColumns
@@ -36,17 +32,5 @@ returns-2 c = c .before .before .before .before .read-by2 .ensures
 
 pub read-spec : {M : Type 1} → statement M
 read-spec =
-    tie.close
-    (tie.spec
-    enum-told
-    (λ c. search needs)
-    (λ c. search needs)
-    read-by-requires
-    (λ c. search needs)
-    (λ c. search needs)
-    (λ c. search needs)
-    read-by-requires-2
-    same-length
-    returns
-    same-length-2
-    returns-2)
+    tie.close (tie.spec (λ c. search needs) (λ c. search needs) (λ c. search needs) read-by-requires (λ c. search needs) (λ c. search needs)
+    (λ c. search needs) read-by-requires-2 same-length returns same-length-2 returns-2)

@@ -1,15 +1,12 @@
 -- `judgement::read_by` meets its contract, by the laws of proofs/Whole.antt.
-use mathlib.Core.Path.{_≡_, sym, ap, _∙_}
-use mathlib.Core.Bool.{false}
+use mathlib.Core.{Path.{_≡_, sym, ap, _∙_}, Bool.{false}}
 use borrow.Author.Needs.{needs}
 use lib.ListN.{length}
 use Rattle.text.proofs.FieldTurns.{part-length}
 use Rattle.case.specs.Parts.{formOf}
 use Rattle.header.proofs.HeaderReading.{no-columns-count}
-use Rattle.judgement.specs.Limits.{today}
-use Rattle.judgement.specs.Sheet.{badText}
-use Rattle.judgement.proofs.Whole.{read-text, read-names, read-values}
-use Rattle.judgement.proofs.read_by.Statement.{statement}
+use Rattle.judgement.specs.{Limits.{today}, Sheet.{badText}}
+use Rattle.judgement.proofs.{Whole.{read-text, read-names, read-values}, read_by.Statement.{statement}}
 use Rattle.judgement.proofs.read_by.Tie as tie
 
 returns : tie.Need-returns
@@ -72,22 +69,6 @@ returns-3 c =
 
 pub read-by-spec : {M : Type 1} → statement M
 read-by-spec =
-    tie.close
-    (tie.spec
-    (λ c κs. search needs)
-    returns
-    (λ c κs. search needs)
-    slice-aggregate-read-header
-    (λ c κs. search needs)
-    same-length
-    same-length-2
-    returns-2
-    (λ c κs. search needs)
-    (λ c. search needs)
-    (λ c. search needs)
-    (λ c. search needs)
-    judge-values-requires
-    same-length-3
-    same-length-4
-    same-length-5
-    returns-3)
+    tie.close (tie.spec (λ c κs. search needs) returns (λ c κs. search needs) slice-aggregate-read-header (λ c κs. search needs) same-length
+    same-length-2 returns-2 (λ c κs. search needs) (λ c. search needs) (λ c. search needs) (λ c. search needs) judge-values-requires
+    same-length-3 same-length-4 same-length-5 returns-3)

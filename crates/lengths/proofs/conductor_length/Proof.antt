@@ -2,9 +2,8 @@
 use lib.Dec.{lit<}
 use Rattle.interval.proofs.Fits.{fits-below}
 use Rattle.lengths.specs.Lengths.{conductorLength}
-use Rattle.lengths.proofs.Lengths.{across-bounds, along-bounds, conductor-bounds}
+use Rattle.lengths.proofs.{Lengths.{across-bounds, along-bounds, conductor-bounds}, conductor_length.Statement.{statement}}
 use borrow.Author.Needs.{needs}
-use Rattle.lengths.proofs.conductor_length.Statement.{statement}
 use Rattle.lengths.proofs.conductor_length.Tie as tie
 
 mul-result : tie.Need-mul-result
@@ -25,6 +24,5 @@ returns c = rw (c .side-x .ensures, c .before .before .side-y .ensures)
 
 pub conductor-length-spec : {M : Type 1} → statement M
 conductor-length-spec =
-    tie.close
-    (tie.spec (λ c. search needs) (λ c κs. search needs) mul-result (λ c. search needs) (λ c κs. search needs) mul-result-2 add-result
-    returns)
+    tie.close (tie.spec (λ c. search needs) (λ c κs. search needs) mul-result (λ c. search needs) (λ c κs. search needs) mul-result-2
+    add-result returns)

@@ -3,9 +3,8 @@ use mathlib.Core.Path.{refl}
 use lib.Dec.{lit<}
 use Rattle.interval.proofs.Fits.{fits-below}
 use Rattle.lengths.specs.Lengths.{rodLength}
-use Rattle.lengths.proofs.Lengths.{rodlen-high, rod-bound}
+use Rattle.lengths.proofs.{Lengths.{rodlen-high, rod-bound}, rod_length.Statement.{statement}}
 use borrow.Author.Needs.{needs}
-use Rattle.lengths.proofs.rod_length.Statement.{statement}
 use Rattle.lengths.proofs.rod_length.Tie as tie
 
 cast-result-2 : tie.Need-cast-result-2

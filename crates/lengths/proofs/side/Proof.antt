@@ -3,9 +3,8 @@ use mathlib.Core.Path.{refl}
 use lib.Dec.{lit<}
 use Rattle.interval.proofs.Fits.{fits-below}
 use Rattle.lengths.specs.Lengths.{sideOf}
-use Rattle.lengths.proofs.Lengths.{side-bounds}
+use Rattle.lengths.proofs.{Lengths.{side-bounds}, side.Statement.{statement}}
 use borrow.Author.Needs.{needs}
-use Rattle.lengths.proofs.side.Statement.{statement}
 use Rattle.lengths.proofs.side.Tie as tie
 
 mul-result : tie.Need-mul-result

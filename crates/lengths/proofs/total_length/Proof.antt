@@ -2,9 +2,8 @@
 use lib.Dec.{lit<}
 use Rattle.interval.proofs.Fits.{fits-below}
 use Rattle.lengths.specs.Lengths.{totalLength}
-use Rattle.lengths.proofs.Lengths.{total-bounds}
+use Rattle.lengths.proofs.{Lengths.{total-bounds}, total_length.Statement.{statement}}
 use borrow.Author.Needs.{needs}
-use Rattle.lengths.proofs.total_length.Statement.{statement}
 use Rattle.lengths.proofs.total_length.Tie as tie
 
 add-result : tie.Need-add-result
@@ -17,5 +16,4 @@ unfolding totalLength
 returns c = rw (c .rod-length .ensures, c .before .conductor-length .ensures)
 
 pub total-length-spec : {M : Type 1} → statement M
-total-length-spec =
-    tie.close (tie.spec (λ c κs. search needs) (λ c κs. search needs) add-result returns)
+total-length-spec = tie.close (tie.spec (λ c κs. search needs) (λ c κs. search needs) add-result returns)

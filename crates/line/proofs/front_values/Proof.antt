@@ -4,13 +4,9 @@ use mathlib.Core.Path.{_≡_, refl}
 use native.Mathlib.Omega.{arith}
 use borrow.Author.Needs.{needs}
 use lib.ListN.{length, getD, drop, length-drop}
-use Rattle.text.specs.Text.{fieldsOf}
-use Rattle.text.specs.Parts.{IsFront}
-use Rattle.text.proofs.FirstFields.{front-whole}
-use Rattle.text.proofs.FieldTurns.{field-after}
+use Rattle.text.{specs.{Text.{fieldsOf}, Parts.{IsFront}}, proofs.{FirstFields.{front-whole}, FieldTurns.{field-after}}}
 use Rattle.line.specs.Parts.{ValuesAt}
-use Rattle.line.proofs.ValuesReading.{values-start, values-step}
-use Rattle.line.proofs.front_values.Statement.{statement}
+use Rattle.line.proofs.{ValuesReading.{values-start, values-step}, front_values.Statement.{statement}}
 use Rattle.line.proofs.front_values.Tie as tie
 
 abbrev Inv-loop : tie.InvT-loop
@@ -90,29 +86,6 @@ returns-3 c = c .before .before .before .before .before .before .loop .inv
 
 pub front-values-spec : {M : Type 1} → statement M
 front-values-spec =
-    tie.close
-    (tie.spec
-    Inv-loop
-    μ-loop
-    loop-holds
-    (λ c. search needs)
-    (λ c. search needs)
-    (λ c. search needs)
-    (λ c. search needs)
-    (λ c. search needs)
-    (λ c κs. search needs)
-    (λ c. search needs)
-    shared-slice-read-k
-    mul-row
-    slice-write-row
-    (λ c. search needs)
-    add-next
-    add-next-2
-    (λ c. search needs)
-    loop-again
-    same-length
-    returns
-    same-length-2
-    returns-2
-    same-length-3
-    returns-3)
+    tie.close (tie.spec Inv-loop μ-loop loop-holds (λ c. search needs) (λ c. search needs) (λ c. search needs) (λ c. search needs)
+    (λ c. search needs) (λ c κs. search needs) (λ c. search needs) shared-slice-read-k mul-row slice-write-row (λ c. search needs) add-next
+    add-next-2 (λ c. search needs) loop-again same-length returns same-length-2 returns-2 same-length-3 returns-3)

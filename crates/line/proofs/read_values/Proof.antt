@@ -1,12 +1,10 @@
 -- `line::read_values` meets its contract: the reading of proofs/ValuesReading.antt.
 use Prim.Native.Nat.{ℕ, _+_, _≤_, _<_}
-use mathlib.Core.Path.{refl}
-use mathlib.Core.List.{List, []}
+use mathlib.Core.{Path.{refl}, List.{List, []}}
 use native.Mathlib.Omega.{arith}
 use borrow.Author.Needs.{needs}
 use lib.ListN.{length, getD, set}
-use Rattle.text.specs.Text.{fieldsOf}
-use Rattle.text.proofs.FieldTurns.{part-end, field-first, field-last, field-next}
+use Rattle.text.{specs.Text.{fieldsOf}, proofs.FieldTurns.{part-end, field-first, field-last, field-next}}
 use Rattle.line.specs.Parts.{ValuesAt}
 use Rattle.line.proofs.ValuesReading.{values-wrong, values-step, values-refused, values-many, values-few, values-end}
 use Rattle.line.proofs.read_values.Statement.{statement}
@@ -103,37 +101,8 @@ returns-4 c = values-end (stepped (c .before)) (c .if3 .left)
 
 pub read-values-spec : {M : Type 1} → statement M
 read-values-spec =
-    tie.close
-    (tie.spec
-    Inv-loop
-    μ-loop
-    front-values-requires
-    (λ c. search needs)
-    (λ c. search needs)
-    (λ c. search needs)
-    loop-holds
-    (λ c. search needs)
-    same-length
-    returns
-    (λ c κs. search needs)
-    (λ c. search needs)
-    (λ c. search needs)
-    (λ c. search needs)
-    same-length-2
-    returns-2
-    (λ c. search needs)
-    shared-slice-read-k
-    mul-row
-    slice-write-row
-    (λ c. search needs)
-    (λ c. search needs)
-    (λ c. search needs)
-    (λ c. search needs)
-    (λ c. search needs)
-    (λ c. search needs)
-    loop-again
-    (λ c. search needs)
-    same-length-3
-    returns-3
-    same-length-4
+    tie.close (tie.spec Inv-loop μ-loop front-values-requires (λ c. search needs) (λ c. search needs) (λ c. search needs) loop-holds
+    (λ c. search needs) same-length returns (λ c κs. search needs) (λ c. search needs) (λ c. search needs) (λ c. search needs) same-length-2
+    returns-2 (λ c. search needs) shared-slice-read-k mul-row slice-write-row (λ c. search needs) (λ c. search needs) (λ c. search needs)
+    (λ c. search needs) (λ c. search needs) (λ c. search needs) loop-again (λ c. search needs) same-length-3 returns-3 same-length-4
     returns-4)

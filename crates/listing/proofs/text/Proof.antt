@@ -1,8 +1,6 @@
 -- `text` answers 0 where the longest text has no room, else the program's text: proofs/Telling.antt.
 use borrow.Author.Needs.{needs}
-use Rattle.listing.proofs.Programs.{program-fits}
-use Rattle.listing.proofs.Telling.{told-short, told-put}
-use Rattle.listing.proofs.text.Statement.{statement}
+use Rattle.listing.proofs.{Programs.{program-fits}, Telling.{told-short, told-put}, text.Statement.{statement}}
 use Rattle.listing.proofs.text.Tie as tie
 
 returns : tie.Need-returns

@@ -4,8 +4,7 @@ use native.Mathlib.Omega.{arith}
 use borrow.Author.Tests.{lt-ltb, le-ltb}
 use Rattle.interval.specs.Operations.{minusOf}
 use Rattle.logarithm.specs.Ends.{downEnds, lnEnds}
-use Rattle.logarithm.proofs.LnEnds.{up-tight}
-use Rattle.logarithm.proofs.ln_ends.Statement.{statement}
+use Rattle.logarithm.proofs.{LnEnds.{up-tight}, ln_ends.Statement.{statement}}
 use Rattle.logarithm.proofs.ln_ends.Tie as tie
 
 up-ends-requires : tie.Need-up-ends-requires

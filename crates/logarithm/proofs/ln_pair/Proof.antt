@@ -1,16 +1,11 @@
 -- `logarithm::ln_pair` takes the lower end at the pair's lower end, and the upper end at its upper end.
 use Prim.Native.Nat.{_≤_}
 use mathlib.Core.Path.{sym, ap, _∙_}
-use native.Mathlib.Omega.{arith}
-use native.Mathlib.Nat.{add-zero, le-trans}
+use native.Mathlib.{Omega.{arith}, Nat.{add-zero, le-trans}}
 use borrow.Author.Needs.{needs}
-use Rattle.interval.specs.Span.{Span}
-use Rattle.interval.proofs.Bits.{Held, natural-cast}
-use Rattle.interval.proofs.SpanFits.{read-lower, read-upper}
+use Rattle.interval.{specs.Span.{Span}, proofs.{Bits.{Held, natural-cast}, SpanFits.{read-lower, read-upper}}}
 use Rattle.logarithm.specs.Ends.{most, Inside, lnPair}
-use Rattle.logarithm.proofs.EndBounds.{end-fits}
-use Rattle.logarithm.proofs.Pairs.{pair-is}
-use Rattle.logarithm.proofs.ln_pair.Statement.{statement}
+use Rattle.logarithm.proofs.{EndBounds.{end-fits}, Pairs.{pair-is}, ln_pair.Statement.{statement}}
 use Rattle.logarithm.proofs.ln_pair.Tie as tie
 
 module _ (s : tie.Start) where
@@ -66,5 +61,4 @@ returns c =
     (sym (pair-is (span s .from) (upper-from s)) ∙ ap (λ i. lnPair i (s .args .q)) (sym (span s .is)))
 
 pub ln-pair-spec : {M : Type 1} → statement M
-ln-pair-spec =
-    tie.close (tie.spec cast-up-end up-end-requires cast-up-end-2 up-end-requires-2 natural-requires returns)
+ln-pair-spec = tie.close (tie.spec cast-up-end up-end-requires cast-up-end-2 up-end-requires-2 natural-requires returns)

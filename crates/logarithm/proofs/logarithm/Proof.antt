@@ -1,13 +1,10 @@
 -- `logarithm::logarithm` meets its contract.
-use mathlib.Core.Path.{_≡_, sym, ap, _∙_}
-use mathlib.Core.Bool.{true, false}
-use borrow.Author.Needs.{needs}
-use borrow.Author.Tests.{not-true, not-false}
+use mathlib.Core.{Path.{_≡_, sym, ap, _∙_}, Bool.{true, false}}
+use borrow.Author.{Needs.{needs}, Tests.{not-true, not-false}}
 use Rattle.interval.specs.declared.Pair.the-variants.{Ends}
 use Rattle.exact.specs.Answered.{RightPair}
 use Rattle.logarithm.specs.Asked.{inside, refused, answerOf}
-use Rattle.logarithm.proofs.RightEnds.{right-ends, inside-known}
-use Rattle.logarithm.proofs.logarithm.Statement.{statement}
+use Rattle.logarithm.proofs.{RightEnds.{right-ends, inside-known}, logarithm.Statement.{statement}}
 use Rattle.logarithm.proofs.logarithm.Tie as tie
 
 -- what the two tests found
@@ -46,6 +43,4 @@ returns-3 c =
     }
 
 pub logarithm-spec : {M : Type 1} → statement M
-logarithm-spec =
-    tie.close
-    (tie.spec (λ c κs. search needs) returns (λ c κs. search needs) returns-2 ln-ends-requires returns-3)
+logarithm-spec = tie.close (tie.spec (λ c κs. search needs) returns (λ c κs. search needs) returns-2 ln-ends-requires returns-3)

@@ -1,8 +1,7 @@
 -- `logarithm::up_end` meets its contract: its numbers are those of the definition, and small enough.
 use native.Mathlib.Omega.{arith}
 use borrow.Author.Needs.{needs}
-use Rattle.logarithm.proofs.EndBounds.{Small, small}
-use Rattle.logarithm.proofs.up_end.Statement.{statement}
+use Rattle.logarithm.proofs.{EndBounds.{Small, small}, up_end.Statement.{statement}}
 use Rattle.logarithm.proofs.up_end.Tie as tie
 
 bounds : (c : tie.After-reduce) → Small (c .reduce .result .times) (c .reduce .result .argument)

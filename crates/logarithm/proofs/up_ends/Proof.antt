@@ -1,11 +1,9 @@
 -- `logarithm::up_ends` meets its contract: its numbers are those of the definition, and small enough.
-use native.Mathlib.Omega.{arith}
-use native.Mathlib.Nat.{add-zero}
+use native.Mathlib.{Omega.{arith}, Nat.{add-zero}}
 use borrow.Author.Needs.{needs}
 use Rattle.interval.specs.Operations.{natural}
 use Rattle.logarithm.specs.Ends.{upEnds}
-use Rattle.logarithm.proofs.EndBounds.{Small, small, end-fits}
-use Rattle.logarithm.proofs.up_ends.Statement.{statement}
+use Rattle.logarithm.proofs.{EndBounds.{Small, small, end-fits}, up_ends.Statement.{statement}}
 use Rattle.logarithm.proofs.up_ends.Tie as tie
 
 bounds : (c : tie.After-reduce) → Small (c .reduce .result .times) (c .reduce .result .argument)
@@ -41,5 +39,4 @@ returns c =
     rw (c .natural .ensures, e .end .ensures, c .before .end2 .ensures, e .before .reduce .ensures)
 
 pub up-ends-spec : {M : Type 1} → statement M
-up-ends-spec =
-    tie.close (tie.spec (λ c κs. search needs) end-requires add-end end-requires-2 natural-requires returns)
+up-ends-spec = tie.close (tie.spec (λ c κs. search needs) end-requires add-end end-requires-2 natural-requires returns)

@@ -1,6 +1,5 @@
 -- `compare` tests both pairs and works their margins.
-use mathlib.Core.Path.{_≡_, sym, _∙_}
-use mathlib.Core.Bool.{true}
+use mathlib.Core.{Path.{_≡_, sym, _∙_}, Bool.{true}}
 use mir.Facts.{toZ-ofZ}
 use borrow.Author.Needs.{needs}
 use Rattle.interval.proofs.Bits.{back}
@@ -59,12 +58,4 @@ returns-3 c = rw (sym (first (c .before)) ∙ c .if1 .left)
 
 pub compare-spec : {M : Type 1} → statement M
 compare-spec =
-    tie.close
-    (tie.spec
-    (λ c κs. search needs)
-    (λ c κs. search needs)
-    margin-requires
-    margin-requires-2
-    returns
-    returns-2
-    returns-3)
+    tie.close (tie.spec (λ c κs. search needs) (λ c κs. search needs) margin-requires margin-requires-2 returns returns-2 returns-3)

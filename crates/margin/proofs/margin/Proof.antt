@@ -3,16 +3,11 @@ use Prim.Native.Nat.{_*_, _≤_, _<_, _^_}
 use mathlib.Core.Path.{_≡_, ap, _∙_}
 use native.Mathlib.Omega.{arith}
 use lib.IntN.{pos, natAbs, _-ℤ_}
-use mir.Syntax.{w64}
-use mir.Val.{SFits}
-use mir.Facts.{toZ-ofZ, toZ-pos}
+use mir.{Syntax.{w64}, Val.{SFits}, Facts.{toZ-ofZ, toZ-pos}}
 use borrow.Author.Needs.{needs}
-use Rattle.interval.specs.Whole.{ceilDiv}
-use Rattle.interval.proofs.Bits.{read, natural-cast, small-fits}
-use Rattle.interval.proofs.Signed.{size-difference}
+use Rattle.interval.{specs.Whole.{ceilDiv}, proofs.{Bits.{read, natural-cast, small-fits}, Signed.{size-difference}}}
 use Rattle.margin.specs.Margin.{whole, margin}
-use Rattle.margin.proofs.Voltages.{Voltages, voltages, margin-fits, share-small}
-use Rattle.margin.proofs.margin.Statement.{statement}
+use Rattle.margin.proofs.{Voltages.{Voltages, voltages, margin-fits, share-small}, margin.Statement.{statement}}
 use Rattle.margin.proofs.margin.Tie as tie
 
 module _ (s : tie.Start) where

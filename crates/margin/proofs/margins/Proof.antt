@@ -1,12 +1,8 @@
 -- `margins` reads the four ends of a row.
 use mathlib.Core.Path.{_∙_}
-use lib.IntN.{pos}
-use lib.ListN.{getD}
-use mir.Syntax.{w64}
-use mir.Val.{SFits}
-use mir.Facts.{toZ-ofZ}
-use borrow.Author.Needs.{needs}
-use borrow.Author.Tests.{ne-eqb}
+use lib.{IntN.{pos}, ListN.{getD}}
+use mir.{Syntax.{w64}, Val.{SFits}, Facts.{toZ-ofZ}}
+use borrow.Author.{Needs.{needs}, Tests.{ne-eqb}}
 use Rattle.row.specs.Places.{tolerableTouchLowerPlace, tolerableStepLowerPlace, meshUpperPlace, stepUpperPlace}
 use Rattle.margin.specs.Margin.{marginsOf}
 use Rattle.margin.proofs.margins.Statement.{statement}
@@ -32,12 +28,5 @@ returns-2 c = rw (ne-eqb _ _ (c .if1 .left))
 
 pub margins-spec : {M : Type 1} → statement M
 margins-spec =
-    tie.close
-    (tie.spec
-    (λ c. search needs)
-    (λ c. search needs)
-    (λ c. search needs)
-    (λ c. search needs)
-    (λ c κs. search needs)
-    returns
+    tie.close (tie.spec (λ c. search needs) (λ c. search needs) (λ c. search needs) (λ c. search needs) (λ c κs. search needs) returns
     returns-2)

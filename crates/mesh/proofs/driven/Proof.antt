@@ -4,9 +4,8 @@ use lib.Dec.{lit<}
 use Rattle.interval.proofs.SpanFits.{quotient-fits}
 use Rattle.drive.proofs.Spans.{drive-span}
 use Rattle.mesh.specs.Ends.{drivenEnds}
-use Rattle.mesh.proofs.LengthSpans.{mesh-length-span, mesh-length-low}
+use Rattle.mesh.proofs.{LengthSpans.{mesh-length-span, mesh-length-low}, driven.Statement.{statement}}
 use borrow.Author.Needs.{needs}
-use Rattle.mesh.proofs.driven.Statement.{statement}
 use Rattle.mesh.proofs.driven.Tie as tie
 
 quotient-requires : tie.Need-quotient-requires

@@ -2,10 +2,8 @@
 use lib.Dec.{lit<}
 use Rattle.interval.proofs.SpanFits.{product-fits}
 use Rattle.mesh.specs.Ends.{meshEnds}
-use Rattle.mesh.proofs.FactorSpans.{factor-span}
-use Rattle.mesh.proofs.DrivenWidths.{driven-span}
+use Rattle.mesh.proofs.{FactorSpans.{factor-span}, DrivenWidths.{driven-span}, mesh_voltage.Statement.{statement}}
 use borrow.Author.Needs.{needs}
-use Rattle.mesh.proofs.mesh_voltage.Statement.{statement}
 use Rattle.mesh.proofs.mesh_voltage.Tie as tie
 
 product-requires : tie.Need-product-requires
@@ -18,5 +16,4 @@ unfolding meshEnds
 returns c = cc
 
 pub mesh-voltage-spec : {M : Type 1} → statement M
-mesh-voltage-spec =
-    tie.close (tie.spec (λ c κs. search needs) (λ c κs. search needs) product-requires returns)
+mesh-voltage-spec = tie.close (tie.spec (λ c κs. search needs) (λ c κs. search needs) product-requires returns)

@@ -2,8 +2,7 @@
 use mathlib.Core.Path.{_∙_}
 use borrow.Author.Needs.{needs}
 use Rattle.readings.specs.Ends.{endsOf}
-use Rattle.readings.proofs.Spans.{ends-wide}
-use Rattle.readings.proofs.ends.Statement.{statement}
+use Rattle.readings.proofs.{Spans.{ends-wide}, ends.Statement.{statement}}
 use Rattle.readings.proofs.ends.Tie as tie
 
 wide-product-requires : tie.Need-wide-product-requires

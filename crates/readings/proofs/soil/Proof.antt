@@ -1,21 +1,12 @@
 -- `soil` refuses in the order of the checks, and else reports.
-use mathlib.Core.Path.{_≡_, sym, ap, _∙_}
-use mathlib.Core.Bool.{true, false}
-use mathlib.Core.List.{List}
+use mathlib.Core.{Path.{_≡_, sym, ap, _∙_}, Bool.{true, false}, List.{List}}
 use Prim.Native.Nat.{ℕ}
-use borrow.Author.Needs.{needs}
-use borrow.Author.Tests.{not-true, not-false}
+use borrow.Author.{Needs.{needs}, Tests.{not-true, not-false}}
 use lib.ListN.{length}
-use Rattle.readings.specs.declared.outside.Found.{Found}
-use Rattle.readings.specs.declared.outside.Found.the-variants.{Nothing}
-use Rattle.readings.specs.declared.Sounding.the-variants.{Soil}
-use Rattle.readings.specs.Reading.{pairsOf}
-use Rattle.readings.specs.Limits.{distances, resistances}
-use Rattle.readings.specs.Refusal.{soundCount, firstOutside, refusedAt, judged, answerOf}
+use Rattle.readings.specs.{declared.{outside.Found.{Found, the-variants.{Nothing}}, Sounding.the-variants.{Soil}}, Reading.{pairsOf}}
+use Rattle.readings.specs.{Limits.{distances, resistances}, Refusal.{soundCount, firstOutside, refusedAt, judged, answerOf}}
 use Rattle.readings.specs.Answer.{RightAnswer}
-use Rattle.readings.proofs.Bounds.{all-taken}
-use Rattle.readings.proofs.Right.{right-report}
-use Rattle.readings.proofs.soil.Statement.{statement}
+use Rattle.readings.proofs.{Bounds.{all-taken}, Right.{right-report}, soil.Statement.{statement}}
 use Rattle.readings.proofs.soil.Tie as tie
 
 -- what the checks found
@@ -53,18 +44,12 @@ returns-2 c =
     let f = c .before .before .before in
     record { answer = rw (count-right (f .before), distance-found f (c .before .distance .given .1)); right = tt }
 
-enum-told : tie.Need-enum-told
-enum-told c = search needs
-
 returns-3 : tie.Need-returns-3
 unfolding answerOf judged refusedAt RightAnswer
 returns-3 c =
     let f = c .before .before .before in
     let d = distances-right f in
-    record {
-      answer = rw (count-right (d .before), distance-none f, resistance-found f (c .before .resistance .given .1));
-      right = tt;
-    }
+    record { answer = rw (count-right (d .before), distance-none f, resistance-found f (c .before .resistance .given .1)); right = tt }
 
 work-report-requires : tie.Need-work-report-requires
 work-report-requires c κs =
@@ -86,17 +71,5 @@ returns-4 c =
 
 pub soil-spec : {M : Type 1} → statement M
 soil-spec =
-    tie.close
-    (tie.spec
-    (λ c κs. search needs)
-    returns
-    (λ c κs. search needs)
-    (λ c. search needs)
-    returns-2
-    enum-told
-    (λ c κs. search needs)
-    (λ c. search needs)
-    returns-3
-    (λ c. search needs)
-    work-report-requires
-    returns-4)
+    tie.close (tie.spec (λ c κs. search needs) returns (λ c κs. search needs) (λ c. search needs) returns-2 (λ c. search needs)
+    (λ c κs. search needs) (λ c. search needs) returns-3 (λ c. search needs) work-report-requires returns-4)

@@ -2,13 +2,9 @@
 use native.Mathlib.Omega.{arith}
 use borrow.Author.Needs.{needs}
 use mir.Facts.{toZ-ofZ}
-use Rattle.interval.specs.Whole.{ceilDiv}
-use Rattle.interval.specs.Span.{Span}
-use Rattle.interval.proofs.Bits.{Held, natural-cast}
-use Rattle.interval.proofs.SpanFits.{read-upper}
+use Rattle.interval.{specs.{Whole.{ceilDiv}, Span.{Span}}, proofs.{Bits.{Held, natural-cast}, SpanFits.{read-upper}}}
 use Rattle.exact.specs.Reported.{ten}
-use Rattle.readings.specs.Report.{μΩm, soilOf}
-use Rattle.readings.specs.Ends.{mostMean}
+use Rattle.readings.specs.{Report.{μΩm, soilOf}, Ends.{mostMean}}
 use Rattle.readings.proofs.whole.Statement.{statement}
 use Rattle.readings.proofs.whole.Tie as tie
 

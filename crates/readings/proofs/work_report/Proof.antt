@@ -1,18 +1,12 @@
 -- `work_report` works the three pairs of ends and the soil from one gathering of the pairs.
 use Prim.Native.Nat.{ℕ, _*_, _/_, _≤_, _<_}
-use mathlib.Core.Path.{ap}
-use mathlib.Core.List.{List}
+use mathlib.Core.{Path.{ap}, List.{List}}
 use native.Mathlib.Omega.{arith}
 use borrow.Author.Needs.{needs}
-use lib.Dec.{lit≤, lit<}
-use lib.ListN.{length}
-use Rattle.readings.specs.declared.products.Products.{Products}
-use Rattle.readings.specs.Reading.{pairsOf}
-use Rattle.readings.specs.Taken.{mostPairs, mostProduct, Taken}
+use lib.{Dec.{lit≤, lit<}, ListN.{length}}
+use Rattle.readings.specs.{declared.products.Products.{Products}, Reading.{pairsOf}, Taken.{mostPairs, mostProduct, Taken}}
 use Rattle.readings.specs.Ends.{reportOf}
-use Rattle.readings.proofs.Pairs.{pair-count}
-use Rattle.readings.proofs.Bounds.{least-bound, greatest-bound, total-bound}
-use Rattle.readings.proofs.Spans.{ends-span}
+use Rattle.readings.proofs.{Pairs.{pair-count}, Bounds.{least-bound, greatest-bound, total-bound}, Spans.{ends-span}}
 use Rattle.readings.proofs.work_report.Statement.{statement}
 use Rattle.readings.proofs.work_report.Tie as tie
 
@@ -64,6 +58,4 @@ returns c =
     cc (pair-count (numbers g))
 
 pub work-report-spec : {M : Type 1} → statement M
-work-report-spec =
-    tie.close
-    (tie.spec (λ c κs. search needs) ends-requires ends-requires-2 ends-requires-3 whole-requires returns)
+work-report-spec = tie.close (tie.spec (λ c κs. search needs) ends-requires ends-requires-2 ends-requires-3 whole-requires returns)

@@ -4,18 +4,13 @@ use mathlib.Core.Path.{sym, _∙_, _≡_}
 use native.Mathlib.Omega.{arith}
 use lib.ListN.{length}
 use borrow.Author.Needs.{needs}
-use Rattle.case.specs.Columns.{columns, nameCount, name-count}
-use Rattle.case.specs.Parts.{formOf}
+use Rattle.case.specs.{Columns.{columns, nameCount, name-count}, Parts.{formOf}}
 use Rattle.header.specs.Header.{columnsOf}
-use Rattle.judgement.specs.declared.Judgement.the-variants.{Lines}
-use Rattle.judgement.specs.Limits.{mostLines}
+use Rattle.judgement.specs.{declared.Judgement.the-variants.{Lines}, Limits.{mostLines}, Sheet.{names, valueLines, judgement}}
+use Rattle.judgement.{specs.Read.{Stored}, proofs.Accepted.{accepted}}
 use Rattle.judgement.specs.Accepted as judged
-use Rattle.judgement.specs.Sheet.{names, valueLines, judgement}
-use Rattle.judgement.specs.Read.{Stored}
-use Rattle.judgement.proofs.Accepted.{accepted}
 use Rattle.sheet.proofs.StoredCases.{stored-cases, stored-bounds}
-use Rattle.release.proofs.Answers.{sheet-refused, sheet-read}
-use Rattle.release.proofs.release_by.Statement.{statement}
+use Rattle.release.proofs.{Answers.{sheet-refused, sheet-read}, release_by.Statement.{statement}}
 use Rattle.release.proofs.release_by.Tie as tie
 
 -- ---- the sheet as it was read
@@ -65,14 +60,5 @@ returns-2 c = let l = c .before in
 
 pub release-by-spec : {M : Type 1} → statement M
 release-by-spec =
-    tie.close
-    (tie.spec
-    read-requires
-    (λ c. search needs)
-    (λ c. search needs)
-    release-lines-requires
-    (λ c. search needs)
-    returns
-    (λ c. search needs)
-    (λ c. search needs)
-    returns-2)
+    tie.close (tie.spec read-requires (λ c. search needs) (λ c. search needs) release-lines-requires (λ c. search needs) returns
+    (λ c. search needs) (λ c. search needs) returns-2)

@@ -1,13 +1,9 @@
 -- `release_lines` refuses in the order of the checks, and else puts the pairs.
-use mathlib.Core.Path.{sym, _∙_, _≡_}
-use mathlib.Core.Bool.{false}
-use mathlib.Core.List.{[]}
+use mathlib.Core.{Path.{sym, _∙_, _≡_}, Bool.{false}, List.{[]}}
 use lib.ListN.{length}
 use borrow.Author.Needs.{needs}
-use Rattle.release.specs.declared.licence.Wrong.the-variants.{Nothing}
-use Rattle.release.specs.Licence.{pairsOf, badCount, firstWrong}
-use Rattle.release.proofs.Answers.{count-refused, pair-refused, room-refused, pairs-released}
-use Rattle.release.proofs.release_lines.Statement.{statement}
+use Rattle.release.specs.{declared.licence.Wrong.the-variants.{Nothing}, Licence.{pairsOf, badCount, firstWrong}}
+use Rattle.release.proofs.{Answers.{count-refused, pair-refused, room-refused, pairs-released}, release_lines.Statement.{statement}}
 use Rattle.release.proofs.release_lines.Tie as tie
 
 -- what the checks found
@@ -27,9 +23,6 @@ none-wrong e = sym (wrong e .first-wrong .ensures) ∙ e .enum-told .given .1
 returns : tie.Need-returns
 returns c = count-refused _ _ _ (sym (c .before .bad-count .ensures) ∙ c .if1 .taken)
 
-enum-told : tie.Need-enum-told
-enum-told c = search needs
-
 returns-2 : tie.Need-returns-2
 returns-2 c = let e = c .before in room-refused _ _ _ (count-right (wrong e)) (none-wrong e) (c .if2 .taken)
 
@@ -47,16 +40,5 @@ returns-4 c = let p = c .before in
 
 pub release-lines-spec : {M : Type 1} → statement M
 release-lines-spec =
-    tie.close
-    (tie.spec
-    (λ c κs. search needs)
-    returns
-    (λ c κs. search needs)
-    (λ c. search needs)
-    enum-told
-    (λ c. search needs)
-    returns-2
-    put-pairs-requires
-    returns-3
-    (λ c. search needs)
-    returns-4)
+    tie.close (tie.spec (λ c κs. search needs) returns (λ c κs. search needs) (λ c. search needs) (λ c. search needs) (λ c. search needs)
+    returns-2 put-pairs-requires returns-3 (λ c. search needs) returns-4)

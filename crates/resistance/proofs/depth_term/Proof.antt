@@ -1,12 +1,9 @@
 -- `depth_term` keeps within 64 bits by the spans of its parts.
 use lib.Dec.{lit<}
-use Rattle.interval.proofs.SpanFits.{sum-fits, scaled-fits}
-use Rattle.interval.proofs.Rules.{lits}
-use Rattle.interval.proofs.NumeralSpans.{numeral-quotient-fits}
+use Rattle.interval.proofs.{SpanFits.{sum-fits, scaled-fits}, Rules.{lits}, NumeralSpans.{numeral-quotient-fits}}
 use Rattle.resistance.specs.Ends.{depthEnds}
-use Rattle.resistance.proofs.Spans.{one-span, twenty-span, side-span, depth-scaled, share-span}
+use Rattle.resistance.proofs.{Spans.{one-span, twenty-span, side-span, depth-scaled, share-span}, depth_term.Statement.{statement}}
 use borrow.Author.Needs.{needs}
-use Rattle.resistance.proofs.depth_term.Statement.{statement}
 use Rattle.resistance.proofs.depth_term.Tie as tie
 
 scaled-requires : tie.Need-scaled-requires
@@ -35,13 +32,5 @@ returns c = cc
 
 pub depth-term-spec : {M : Type 1} → statement M
 depth-term-spec =
-    tie.close
-    (tie.spec
-    (λ c κs. search needs)
-    (λ c. search needs)
-    scaled-requires
-    (λ c κs. search needs)
-    quotient-requires
-    (λ c κs. search needs)
-    sum-requires
-    returns)
+    tie.close (tie.spec (λ c κs. search needs) (λ c. search needs) scaled-requires (λ c κs. search needs) quotient-requires
+    (λ c κs. search needs) sum-requires returns)

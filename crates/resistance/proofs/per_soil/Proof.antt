@@ -1,14 +1,11 @@
 -- `per_soil` keeps within 64 bits by the spans of its parts.
 use native.Mathlib.Omega.{arith}
 use lib.Dec.{lit<}
-use Rattle.interval.proofs.SpanFits.{sum-fits}
-use Rattle.interval.proofs.Rules.{lits}
-use Rattle.interval.proofs.NumeralSpans.{numeral-point, numeral-quotient-fits}
+use Rattle.interval.proofs.{SpanFits.{sum-fits}, Rules.{lits}, NumeralSpans.{numeral-point, numeral-quotient-fits}}
 use Rattle.lengths.proofs.Lengths.{total-bounds}
 use Rattle.resistance.specs.Ends.{perSoilEnds}
-use Rattle.resistance.proofs.Spans.{total-span, shape-span, width-span, first-span, second-span}
+use Rattle.resistance.proofs.{Spans.{total-span, shape-span, width-span, first-span, second-span}, per_soil.Statement.{statement}}
 use borrow.Author.Needs.{needs}
-use Rattle.resistance.proofs.per_soil.Statement.{statement}
 use Rattle.resistance.proofs.per_soil.Tie as tie
 
 point-requires : tie.Need-point-requires
@@ -48,14 +45,5 @@ returns c = cc
 
 pub per-soil-spec : {M : Type 1} → statement M
 per-soil-spec =
-    tie.close
-    (tie.spec
-    (λ c κs. search needs)
-    point-requires
-    (λ c κs. search needs)
-    quotient-requires
-    (λ c κs. search needs)
-    (λ c κs. search needs)
-    quotient-requires-2
-    sum-requires
-    returns)
+    tie.close (tie.spec (λ c κs. search needs) point-requires (λ c κs. search needs) quotient-requires (λ c κs. search needs)
+    (λ c κs. search needs) quotient-requires-2 sum-requires returns)

@@ -1,7 +1,6 @@
 -- `potential_rise` multiplies the resistance by the current; the product is wide.
 use Rattle.resistance.specs.Ends.{riseEnds}
-use Rattle.resistance.proofs.Rise.{rise-wide}
-use Rattle.resistance.proofs.potential_rise.Statement.{statement}
+use Rattle.resistance.proofs.{Rise.{rise-wide}, potential_rise.Statement.{statement}}
 use Rattle.resistance.proofs.potential_rise.Tie as tie
 
 wide-product-requires : tie.Need-wide-product-requires

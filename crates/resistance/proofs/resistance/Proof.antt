@@ -2,9 +2,8 @@
 use lib.Dec.{lit<}
 use Rattle.interval.proofs.SpanFits.{scaled-fits, outward-fits}
 use Rattle.resistance.specs.Ends.{resistanceEnds}
-use Rattle.resistance.proofs.Spans.{per-soil-span, soil-scaled}
+use Rattle.resistance.proofs.{Spans.{per-soil-span, soil-scaled}, resistance.Statement.{statement}}
 use borrow.Author.Needs.{needs}
-use Rattle.resistance.proofs.resistance.Statement.{statement}
 use Rattle.resistance.proofs.resistance.Tie as tie
 
 scaled-requires : tie.Need-scaled-requires
@@ -22,5 +21,4 @@ unfolding resistanceEnds
 returns c = cc
 
 pub resistance-spec : {M : Type 1} → statement M
-resistance-spec =
-    tie.close (tie.spec (λ c κs. search needs) (λ c. search needs) scaled-requires outward-requires returns)
+resistance-spec = tie.close (tie.spec (λ c κs. search needs) (λ c. search needs) scaled-requires outward-requires returns)

@@ -1,12 +1,9 @@
 -- `shape_term` keeps within 64 bits by the spans of its parts.
 use lib.Dec.{lit<}
-use Rattle.interval.proofs.SpanFits.{sum-fits}
-use Rattle.interval.proofs.Rules.{lits}
-use Rattle.interval.proofs.NumeralSpans.{numeral-quotient-fits}
+use Rattle.interval.proofs.{SpanFits.{sum-fits}, Rules.{lits}, NumeralSpans.{numeral-quotient-fits}}
 use Rattle.resistance.specs.Ends.{shapeEnds}
-use Rattle.resistance.proofs.Spans.{one-span, depth-span, inverse-span}
+use Rattle.resistance.proofs.{Spans.{one-span, depth-span, inverse-span}, shape_term.Statement.{statement}}
 use borrow.Author.Needs.{needs}
-use Rattle.resistance.proofs.shape_term.Statement.{statement}
 use Rattle.resistance.proofs.shape_term.Tie as tie
 
 quotient-requires : tie.Need-quotient-requires
@@ -25,5 +22,4 @@ unfolding shapeEnds
 returns c = cc
 
 pub shape-term-spec : {M : Type 1} → statement M
-shape-term-spec =
-    tie.close (tie.spec (λ c κs. search needs) (λ c κs. search needs) quotient-requires sum-requires returns)
+shape-term-spec = tie.close (tie.spec (λ c κs. search needs) (λ c κs. search needs) quotient-requires sum-requires returns)

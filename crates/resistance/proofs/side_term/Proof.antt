@@ -1,12 +1,11 @@
 -- `side_term` is s by the two counts.
 use native.Mathlib.Omega.{arith}
 use lib.Dec.{lit<}
-use borrow.Author.Tests.{eq-eqb, ne-eqb}
+use borrow.Author.{Tests.{eq-eqb, ne-eqb}, Needs.{needs}}
 use Rattle.interval.proofs.Fits.{fits-product, fits-triple}
 use Rattle.enclosure.proofs.SquareRoot.{root-pair}
 use Rattle.lengths.proofs.Lengths.{x-bounds, y-bounds}
 use Rattle.resistance.specs.Ends.{sideEnds}
-use borrow.Author.Needs.{needs}
 use Rattle.resistance.proofs.side_term.Statement.{statement}
 use Rattle.resistance.proofs.side_term.Tie as tie
 
@@ -44,14 +43,5 @@ returns-2 c = rw (ne-eqb _ _ (c .before .if1 .left)) (cc (root-pair (c .root-end
 
 pub side-term-spec : {M : Type 1} → statement M
 side-term-spec =
-    tie.close
-    (tie.spec
-    (λ c κs. search needs)
-    (λ c κs. search needs)
-    mul-point
-    point-requires
-    returns
-    mul-root-ends
-    mul-root-ends-2
-    (λ c κs. search needs)
-    returns-2)
+    tie.close (tie.spec (λ c κs. search needs) (λ c κs. search needs) mul-point point-requires returns mul-root-ends mul-root-ends-2
+    (λ c κs. search needs) returns-2)

@@ -2,9 +2,8 @@
 use lib.Dec.{lit<}
 use Rattle.interval.proofs.SpanFits.{product-fits}
 use Rattle.resistance.specs.Ends.{widthEnds}
-use Rattle.resistance.proofs.Spans.{twenty-span, side-span}
+use Rattle.resistance.proofs.{Spans.{twenty-span, side-span}, width_term.Statement.{statement}}
 use borrow.Author.Needs.{needs}
-use Rattle.resistance.proofs.width_term.Statement.{statement}
 use Rattle.resistance.proofs.width_term.Tie as tie
 
 product-requires : tie.Need-product-requires
@@ -17,5 +16,4 @@ unfolding widthEnds
 returns c = cc
 
 pub width-term-spec : {M : Type 1} → statement M
-width-term-spec =
-    tie.close (tie.spec (λ c κs. search needs) (λ c κs. search needs) product-requires returns)
+width-term-spec = tie.close (tie.spec (λ c κs. search needs) (λ c κs. search needs) product-requires returns)

@@ -1,18 +1,11 @@
 -- `margin_numbers` puts the margins after three numbers of the row.
 use mathlib.Core.List.{List}
 use borrow.Author.Needs.{needs}
-use lib.IntN.{ℤ, pos}
-use lib.ListN.{getD}
-use mir.Syntax.{w64}
-use mir.Val.{SFits}
-use mir.Facts.{toZ-ofZ}
+use lib.{IntN.{ℤ, pos}, ListN.{getD}}
+use mir.{Syntax.{w64}, Val.{SFits}, Facts.{toZ-ofZ}}
 use Rattle.row.specs.Places.{stationPlace, seasonPlace, verdictPlace}
-use Rattle.row_text.proofs.ShownLines.{with-margins, without-margins}
-use Rattle.row_text.proofs.margin_numbers.Statement.{statement}
+use Rattle.row_text.proofs.{ShownLines.{with-margins, without-margins}, margin_numbers.Statement.{statement}}
 use Rattle.row_text.proofs.margin_numbers.Tie as tie
-
-enum-told : tie.Need-enum-told
-enum-told c = search needs
 
 -- the numbers fit 64 bits
 abbrev row : tie.Start → List ℤ
@@ -68,16 +61,5 @@ returns-2 c =
 
 pub margin-numbers-spec : {M : Type 1} → statement M
 margin-numbers-spec =
-    tie.close
-    (tie.spec
-    (λ c κs. search needs)
-    (λ c. search needs)
-    (λ c. search needs)
-    (λ c. search needs)
-    (λ c. search needs)
-    enum-told
-    (λ c. search needs)
-    (λ c. search needs)
-    (λ c. search needs)
-    returns
-    returns-2)
+    tie.close (tie.spec (λ c κs. search needs) (λ c. search needs) (λ c. search needs) (λ c. search needs) (λ c. search needs)
+    (λ c. search needs) (λ c. search needs) (λ c. search needs) (λ c. search needs) returns returns-2)

@@ -2,16 +2,11 @@
 use mathlib.Core.Path.{_≡_, sym, ap, _∙_}
 use native.Mathlib.Omega.{arith}
 use borrow.Author.Needs.{needs}
-use lib.ListN.{length, take}
-use lib.Seq.{length-take-le}
-use Rattle.row_text.proofs.ShownLines.{verdict-line, numbers-line, margins-line, margins-five}
-use Rattle.row_text.proofs.put_row.Statement.{statement}
+use lib.{ListN.{length, take}, Seq.{length-take-le}}
+use Rattle.row_text.proofs.{ShownLines.{verdict-line, numbers-line, margins-line, margins-five}, put_row.Statement.{statement}}
 use Rattle.row_text.proofs.put_row.Tie as tie
 
 -- ---- station, season, verdict and size
-
-enum-told : tie.Need-enum-told
-enum-told c = search needs
 
 four : (s : tie.Start) → length (take 4 (s .args .row .now)) ≡ 4
 four s = length-take-le 4 (s .args .row .now) (s .pre .0)
@@ -70,20 +65,6 @@ returns-3 c =
 
 pub put-row-spec : {M : Type 1} → statement M
 put-row-spec =
-    tie.close
-    (tie.spec
-    enum-told
-    slice-aggregate-put-fields
-    put-fields-requires
-    (λ c. search needs)
-    put-fields-requires-2
-    (λ c. search needs)
-    (λ c κs. search needs)
-    slice-aggregate-put-fields-2
-    put-fields-requires-3
-    (λ c. search needs)
-    returns
-    (λ c. search needs)
-    returns-2
-    (λ c. search needs)
-    returns-3)
+    tie.close (tie.spec (λ c. search needs) slice-aggregate-put-fields put-fields-requires (λ c. search needs) put-fields-requires-2
+    (λ c. search needs) (λ c κs. search needs) slice-aggregate-put-fields-2 put-fields-requires-3 (λ c. search needs) returns
+    (λ c. search needs) returns-2 (λ c. search needs) returns-3)

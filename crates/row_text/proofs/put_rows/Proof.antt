@@ -1,11 +1,9 @@
 -- `put_rows` writes line after line.
 use Prim.Native.Nat.{_-_, _≤_}
-use mathlib.Core.Path.{_≡_, sym}
-use mathlib.Core.List.{map}
+use mathlib.Core.{Path.{_≡_, sym}, List.{map}}
 use native.Mathlib.Omega.{arith}
 use borrow.Author.Needs.{needs}
-use lib.ListN.{length, take}
-use lib.Seq.{length-take-le}
+use lib.{ListN.{length, take}, Seq.{length-take-le}}
 use Rattle.tables.specs.Parts.{partsOf}
 use Rattle.writing.proofs.LinesWriting.{LinesAt, lines-start, line-room, line-step, lines-end}
 use Rattle.writing.proofs.TableRest.{TableRest, rest-start, rest-step, line-next, line-none, line-within}
@@ -75,19 +73,5 @@ returns c =
 
 pub put-rows-spec : {M : Type 1} → statement M
 put-rows-spec =
-    tie.close
-    (tie.spec
-    Inv-loop
-    μ-loop
-    loop-holds
-    slice-aggregate-put-row
-    put-row-requires
-    mul-rest
-    sub-rest
-    part-rest-start
-    (λ c. search needs)
-    (λ c. search needs)
-    (λ c. search needs)
-    loop-again
-    same-length
-    returns)
+    tie.close (tie.spec Inv-loop μ-loop loop-holds slice-aggregate-put-row put-row-requires mul-rest sub-rest part-rest-start
+    (λ c. search needs) (λ c. search needs) (λ c. search needs) loop-again same-length returns)

@@ -1,12 +1,10 @@
 -- `put_table` writes the names and then the lines.
-use mathlib.Core.Path.{_≡_, refl}
+use mathlib.Core.{Path.{_≡_, refl}, List.{List, _++_, map}}
 use Prim.Native.Nat.{ℕ}
-use mathlib.Core.List.{List, _++_, map}
 use native.Mathlib.Omega.{arith}
 use borrow.Author.Needs.{needs}
 use Rattle.tables.specs.Parts.{partsOf}
-use Rattle.writing.specs.Text.{textOf}
-use Rattle.writing.proofs.Filling.{Filling, filling-start, filling-room, filling-rest, text-room, text-step}
+use Rattle.writing.{specs.Text.{textOf}, proofs.Filling.{Filling, filling-start, filling-room, filling-rest, text-room, text-step}}
 use Rattle.row_text.specs.Shown.{shownLine, linesAfter}
 use Rattle.row_text.proofs.put_table.Statement.{statement}
 use Rattle.row_text.proofs.put_table.Tie as tie

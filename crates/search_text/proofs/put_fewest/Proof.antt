@@ -1,8 +1,7 @@
 -- `put_fewest` reads the side and the case, and writes the answer of the search or the refusal: proofs/SearchTexts.antt.
 use borrow.Author.Needs.{needs}
 use Rattle.text.proofs.FieldTurns.{part-length}
-use Rattle.search_text.proofs.SearchTexts.{long-input, input-refused, input-read}
-use Rattle.search_text.proofs.put_fewest.Statement.{statement}
+use Rattle.search_text.proofs.{SearchTexts.{long-input, input-refused, input-read}, put_fewest.Statement.{statement}}
 use Rattle.search_text.proofs.put_fewest.Tie as tie
 
 returns : tie.Need-returns
@@ -13,9 +12,6 @@ returns c =
 
 slice-aggregate-side-of : tie.Need-slice-aggregate-side-of
 slice-aggregate-side-of c = part-length 10 _ _ (c .before .find .ensures)
-
-enum-told : tie.Need-enum-told
-enum-told c = search needs
 
 abbrev start : tie.Else1 → tie.Start
 start l = l .before .before .before
@@ -49,28 +45,7 @@ returns-3 c =
 
 pub put-fewest-spec : {M : Type 1} → statement M
 put-fewest-spec =
-    tie.close
-    (tie.spec
-    (λ c κs. search needs)
-    (λ c. search needs)
-    returns
-    (λ c κs. search needs)
-    slice-aggregate-side-of
-    (λ c κs. search needs)
-    (λ c κs. search needs)
-    (λ c. search needs)
-    (λ c. search needs)
-    (λ c. search needs)
-    (λ c. search needs)
-    (λ c κs. search needs)
-    enum-told
-    (λ c. search needs)
-    (λ c κs. search needs)
-    (λ c κs. search needs)
-    (λ c κs. search needs)
-    (λ c. search needs)
-    (λ c κs. search needs)
-    (λ c. search needs)
-    returns-2
-    (λ c. search needs)
-    returns-3)
+    tie.close (tie.spec (λ c κs. search needs) (λ c. search needs) returns (λ c κs. search needs) slice-aggregate-side-of
+    (λ c κs. search needs) (λ c κs. search needs) (λ c. search needs) (λ c. search needs) (λ c. search needs) (λ c. search needs)
+    (λ c κs. search needs) (λ c. search needs) (λ c. search needs) (λ c κs. search needs) (λ c κs. search needs) (λ c κs. search needs)
+    (λ c. search needs) (λ c κs. search needs) (λ c. search needs) returns-2 (λ c. search needs) returns-3)

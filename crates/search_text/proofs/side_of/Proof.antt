@@ -1,11 +1,7 @@
 -- `side_of` takes a line that is no value for 0.
 use borrow.Author.Needs.{needs}
-use Rattle.search_text.proofs.SearchTexts.{side-value, side-none}
-use Rattle.search_text.proofs.side_of.Statement.{statement}
+use Rattle.search_text.proofs.{SearchTexts.{side-value, side-none}, side_of.Statement.{statement}}
 use Rattle.search_text.proofs.side_of.Tie as tie
-
-enum-told : tie.Need-enum-told
-enum-told c = search needs
 
 returns : tie.Need-returns
 returns c = let a = c .before in side-value _ (a .before .before .value .ensures) (a .side .given .1)
@@ -14,4 +10,4 @@ returns-2 : tie.Need-returns-2
 returns-2 c = side-none _ (c .before .before .value .ensures) (c .enum-told .given .1)
 
 pub side-of-spec : {M : Type 1} → statement M
-side-of-spec = tie.close (tie.spec (λ c κs. search needs) (λ c. search needs) enum-told returns returns-2)
+side-of-spec = tie.close (tie.spec (λ c κs. search needs) (λ c. search needs) (λ c. search needs) returns returns-2)

@@ -1,10 +1,8 @@
 -- `fill_table` reads, then writes where the table has room.
 use native.Mathlib.Omega.{arith}
 use borrow.Author.Needs.{needs}
-use Rattle.case.specs.Columns.{name-count}
-use Rattle.case.specs.Parts.{formOf}
-use Rattle.sheet.proofs.Answers.{answered-refused, answered-short, answered-rows}
-use Rattle.sheet.proofs.ReadLines.{StoredLines, judged-is, stored-lines}
+use Rattle.case.specs.{Columns.{name-count}, Parts.{formOf}}
+use Rattle.sheet.proofs.{Answers.{answered-refused, answered-short, answered-rows}, ReadLines.{StoredLines, judged-is, stored-lines}}
 use Rattle.sheet.proofs.fill_table.Statement.{statement}
 use Rattle.sheet.proofs.fill_table.Tie as tie
 
@@ -48,17 +46,5 @@ returns-3 c =
 
 pub fill-table-spec : {M : Type 1} → statement M
 fill-table-spec =
-    tie.close
-    (tie.spec
-    read-requires
-    (λ c. search needs)
-    (λ c. search needs)
-    mul-if1
-    (λ c. search needs)
-    returns
-    write-rows-requires
-    (λ c. search needs)
-    returns-2
-    (λ c. search needs)
-    (λ c. search needs)
-    returns-3)
+    tie.close (tie.spec read-requires (λ c. search needs) (λ c. search needs) mul-if1 (λ c. search needs) returns write-rows-requires
+    (λ c. search needs) returns-2 (λ c. search needs) (λ c. search needs) returns-3)

@@ -1,8 +1,7 @@
 -- `put_sheet` writes the lines of the table, or the refusal: proofs/SheetTexts.antt.
 use native.Mathlib.Omega.{arith}
 use borrow.Author.Needs.{needs}
-use Rattle.sheet_text.proofs.SheetTexts.{refusal-is, rows-within, rows-are, rows-room}
-use Rattle.sheet_text.proofs.put_sheet.Statement.{statement}
+use Rattle.sheet_text.proofs.{SheetTexts.{refusal-is, rows-within, rows-are, rows-room}, put_sheet.Statement.{statement}}
 use Rattle.sheet_text.proofs.put_sheet.Tie as tie
 
 slice-aggregate-sheet : tie.Need-slice-aggregate-sheet
@@ -48,16 +47,5 @@ returns-2 c =
 
 pub put-sheet-spec : {M : Type 1} → statement M
 put-sheet-spec =
-    tie.close
-    (tie.spec
-    slice-aggregate-sheet
-    (λ c κs. search needs)
-    (λ c. search needs)
-    (λ c. search needs)
-    put-table-requires
-    (λ c. search needs)
-    (λ c κs. search needs)
-    (λ c. search needs)
-    returns
-    (λ c. search needs)
-    returns-2)
+    tie.close (tie.spec slice-aggregate-sheet (λ c κs. search needs) (λ c. search needs) (λ c. search needs) put-table-requires
+    (λ c. search needs) (λ c κs. search needs) (λ c. search needs) returns (λ c. search needs) returns-2)

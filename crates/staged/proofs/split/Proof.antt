@@ -1,10 +1,8 @@
 -- `split` makes the checks in their order.
-use mathlib.Core.Path.{_≡_, sym, _∙_}
-use mathlib.Core.Bool.{false}
+use mathlib.Core.{Path.{_≡_, sym, _∙_}, Bool.{false}}
 use borrow.Author.Needs.{needs}
 use lib.ListN.{length}
-use Rattle.staged.specs.Check.{badCount, anyOutside, noneInjected}
-use Rattle.staged.specs.Answer.{answer}
+use Rattle.staged.specs.{Check.{badCount, anyOutside, noneInjected}, Answer.{answer}}
 use Rattle.staged.proofs.split.Statement.{statement}
 use Rattle.staged.proofs.split.Tie as tie
 
@@ -48,13 +46,5 @@ returns-4 c =
 
 pub split-spec : {M : Type 1} → statement M
 split-spec =
-    tie.close
-    (tie.spec
-    (λ c κs. search needs)
-    returns
-    (λ c κs. search needs)
-    none-injected-requires
-    returns-2
-    returns-3
-    measured-requires
+    tie.close (tie.spec (λ c κs. search needs) returns (λ c κs. search needs) none-injected-requires returns-2 returns-3 measured-requires
     returns-4)

@@ -5,8 +5,8 @@ use Rattle.judgement.specs.Limits.{mostLines}
 use Rattle.stations.proofs.RowSums.{small-at}
 use Rattle.stations.proofs.Answers.{rows-most, rows-within, short-elsewhere, rows-elsewhere, refused-elsewhere, stations-count}
 use Rattle.stations.proofs.Answers.{copied-answered, summary-is, summary-refused, summary-short, summary-done}
-use borrow.Author.Needs.{needs}
 use Rattle.stations.proofs.summary.Statement.{statement}
+use borrow.Author.Needs.{needs}
 use Rattle.stations.proofs.summary.Tie as tie
 
 -- the count of rows is at most the limit
@@ -92,24 +92,6 @@ returns-4 c =
 
 pub summary-spec : {M : Type 1} → statement M
 summary-spec =
-    tie.close
-    (tie.spec
-    (λ c. search needs)
-    (λ c κs. search needs)
-    (λ c. search needs)
-    (λ c. search needs)
-    (λ c. search needs)
-    find-stations-requires
-    mul-room
-    mul-beside-room
-    returns
-    returns-2
-    (λ c. search needs)
-    copy-numbers-requires
-    (λ c. search needs)
-    sum-rows-requires
-    put-stations-requires
-    returns-3
-    (λ c. search needs)
-    (λ c. search needs)
-    returns-4)
+    tie.close (tie.spec (λ c. search needs) (λ c κs. search needs) (λ c. search needs) (λ c. search needs) (λ c. search needs)
+    find-stations-requires mul-room mul-beside-room returns returns-2 (λ c. search needs) copy-numbers-requires (λ c. search needs)
+    sum-rows-requires put-stations-requires returns-3 (λ c. search needs) (λ c. search needs) returns-4)

@@ -2,14 +2,11 @@
 use Prim.Native.Nat.{_*_}
 use native.Mathlib.Omega.{arith}
 use lib.Dec.{lit<}
-use Rattle.interval.proofs.Fits.{fits-below}
-use Rattle.interval.proofs.Rules.{lits}
-use Rattle.interval.proofs.NumeralSpans.{numeral-quotient-fits}
+use Rattle.interval.proofs.{Fits.{fits-below}, Rules.{lits}, NumeralSpans.{numeral-quotient-fits}}
 use Rattle.drive.proofs.Spans.{drive-span}
 use Rattle.step.specs.Ends.{drivenEnds}
-use Rattle.step.proofs.Spans.{length-bounds, length-span}
+use Rattle.step.proofs.{Spans.{length-bounds, length-span}, driven.Statement.{statement}}
 use borrow.Author.Needs.{needs}
-use Rattle.step.proofs.driven.Statement.{statement}
 use Rattle.step.proofs.driven.Tie as tie
 
 mul-point : tie.Need-mul-point
@@ -30,5 +27,4 @@ unfolding drivenEnds
 returns c = cc
 
 pub driven-spec : {M : Type 1} → statement M
-driven-spec =
-    tie.close (tie.spec (λ c κs. search needs) mul-point point-requires quotient-requires returns)
+driven-spec = tie.close (tie.spec (λ c κs. search needs) mul-point point-requires quotient-requires returns)

@@ -1,8 +1,6 @@
 -- `per_metre` is a quotient of two whole numbers.
 use native.Mathlib.Omega.{arith}
-use Rattle.interval.proofs.Span.{span-point}
-use Rattle.interval.proofs.Rules.{lits}
-use Rattle.interval.proofs.NumeralSpans.{numeral-quotient-fits}
+use Rattle.interval.proofs.{Span.{span-point}, Rules.{lits}, NumeralSpans.{numeral-quotient-fits}}
 use Rattle.step.specs.Ends.{perMetre}
 use borrow.Author.Needs.{needs}
 use Rattle.step.proofs.per_metre.Statement.{statement}

@@ -1,11 +1,9 @@
 -- `spacing_factor` divides by π.
-use Rattle.interval.proofs.Rules.{lits}
-use Rattle.interval.proofs.NumeralSpans.{numeral-quotient-fits}
+use Rattle.interval.proofs.{Rules.{lits}, NumeralSpans.{numeral-quotient-fits}}
 use Rattle.enclosure.proofs.Constants.{π-span}
 use Rattle.step.specs.Ends.{spacingFactor}
-use Rattle.step.proofs.FactorSpans.{sum-span}
+use Rattle.step.proofs.{FactorSpans.{sum-span}, spacing_factor.Statement.{statement}}
 use borrow.Author.Needs.{needs}
-use Rattle.step.proofs.spacing_factor.Statement.{statement}
 use Rattle.step.proofs.spacing_factor.Tie as tie
 
 quotient-requires : tie.Need-quotient-requires
@@ -18,5 +16,4 @@ unfolding spacingFactor
 returns c = cc
 
 pub spacing-factor-spec : {M : Type 1} → statement M
-spacing-factor-spec =
-    tie.close (tie.spec (λ c κs. search needs) (λ c κs. search needs) quotient-requires returns)
+spacing-factor-spec = tie.close (tie.spec (λ c κs. search needs) (λ c κs. search needs) quotient-requires returns)

@@ -1,17 +1,11 @@
 -- `spacing_share` is by the power of two of a square, else by the half-power.
 use native.Mathlib.Omega.{arith}
 use lib.Dec.{lit<}
-use borrow.Author.Tests.{eq-eqb, ne-eqb}
-use Rattle.interval.proofs.Fits.{fits-below}
-use Rattle.interval.proofs.SpanFits.{sum-fits}
-use Rattle.interval.proofs.Rules.{lits}
-use Rattle.interval.proofs.NumeralSpans.{numeral-quotient-fits}
-use Rattle.conductors.proofs.NumberSpans.{n-span}
-use Rattle.conductors.proofs.NumberEnclosed.{counts}
-use Rattle.conductors.proofs.WeightWidths.{half-span}
+use borrow.Author.{Tests.{eq-eqb, ne-eqb}, Needs.{needs}}
+use Rattle.interval.proofs.{Fits.{fits-below}, SpanFits.{sum-fits}, Rules.{lits}, NumeralSpans.{numeral-quotient-fits}}
+use Rattle.conductors.proofs.{NumberSpans.{n-span}, NumberEnclosed.{counts}, WeightWidths.{half-span}}
 use Rattle.step.specs.Ends.{shareEnds}
 use Rattle.step.proofs.FactorSpans.{power-bounds, divisor-bounds, one-span, rest-span, space-span}
-use borrow.Author.Needs.{needs}
 use Rattle.step.proofs.spacing_share.Statement.{statement}
 use Rattle.step.proofs.spacing_share.Tie as tie
 
@@ -19,8 +13,7 @@ sub-per-metre : tie.Need-sub-per-metre
 sub-per-metre c = rw (c .power-of-two .ensures) (power-bounds (c .before .before .before .before .pre .0) .low)
 
 mul-per-metre : tie.Need-mul-per-metre
-mul-per-metre c =
-    rw (c .power-of-two .ensures) (fits-below (divisor-bounds (c .before .before .before .before .pre .0) .high) (lit< tt))
+mul-per-metre c = rw (c .power-of-two .ensures) (fits-below (divisor-bounds (c .before .before .before .before .pre .0) .high) (lit< tt))
 
 per-metre-requires : tie.Need-per-metre-requires
 per-metre-requires c κs =
@@ -61,17 +54,5 @@ returns-2 c = rw (ne-eqb _ _ (c .before .before .before .before .before .if1 .le
 
 pub spacing-share-spec : {M : Type 1} → statement M
 spacing-share-spec =
-    tie.close
-    (tie.spec
-    (λ c. search needs)
-    (λ c κs. search needs)
-    sub-per-metre
-    mul-per-metre
-    per-metre-requires
-    returns
-    (λ c κs. search needs)
-    half-power-requires
-    difference-requires
-    (λ c κs. search needs)
-    quotient-requires
-    returns-2)
+    tie.close (tie.spec (λ c. search needs) (λ c κs. search needs) sub-per-metre mul-per-metre per-metre-requires returns
+    (λ c κs. search needs) half-power-requires difference-requires (λ c κs. search needs) quotient-requires returns-2)

@@ -1,11 +1,9 @@
 -- `spacing_sum` keeps within 64 bits by the spans of its three parts.
 use lib.Dec.{lit<}
-use Rattle.interval.proofs.Span.{span-sum}
-use Rattle.interval.proofs.SpanFits.{sum-fits}
+use Rattle.interval.proofs.{Span.{span-sum}, SpanFits.{sum-fits}}
 use Rattle.step.specs.Ends.{reach, spacingSum}
-use Rattle.step.proofs.FactorSpans.{depth-span, reach-span, share-span}
+use Rattle.step.proofs.{FactorSpans.{depth-span, reach-span, share-span}, spacing_sum.Statement.{statement}}
 use borrow.Author.Needs.{needs}
-use Rattle.step.proofs.spacing_sum.Statement.{statement}
 use Rattle.step.proofs.spacing_sum.Tie as tie
 
 sum-requires : tie.Need-sum-requires
@@ -30,15 +28,5 @@ returns c = cc
 
 pub spacing-sum-spec : {M : Type 1} → statement M
 spacing-sum-spec =
-    tie.close
-    (tie.spec
-    (λ c. search needs)
-    (λ c. search needs)
-    (λ c. search needs)
-    (λ c κs. search needs)
-    (λ c. search needs)
-    (λ c κs. search needs)
-    sum-requires
-    (λ c κs. search needs)
-    sum-requires-2
-    returns)
+    tie.close (tie.spec (λ c. search needs) (λ c. search needs) (λ c. search needs) (λ c κs. search needs) (λ c. search needs)
+    (λ c κs. search needs) sum-requires (λ c κs. search needs) sum-requires-2 returns)

@@ -5,9 +5,8 @@ use lib.Dec.{lit<}
 use Rattle.interval.proofs.Fits.{fits-below}
 use Rattle.lengths.proofs.Lengths.{conductor-bounds, rod-bound}
 use Rattle.step.specs.Ends.{stepLength}
-use Rattle.step.proofs.Spans.{length-bounds}
+use Rattle.step.proofs.{Spans.{length-bounds}, step_length.Statement.{statement}}
 use borrow.Author.Needs.{needs}
-use Rattle.step.proofs.step_length.Statement.{statement}
 use Rattle.step.proofs.step_length.Tie as tie
 
 mul-result : tie.Need-mul-result
@@ -27,12 +26,4 @@ unfolding stepLength
 returns c = rw (c .rod-length .ensures, c .before .conductor-length .ensures)
 
 pub step-length-spec : {M : Type 1} → statement M
-step-length-spec =
-    tie.close
-    (tie.spec
-    (λ c κs. search needs)
-    mul-result
-    (λ c κs. search needs)
-    mul-result-2
-    add-result
-    returns)
+step-length-spec = tie.close (tie.spec (λ c κs. search needs) mul-result (λ c κs. search needs) mul-result-2 add-result returns)

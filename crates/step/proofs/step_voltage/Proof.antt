@@ -2,10 +2,8 @@
 use lib.Dec.{lit<}
 use Rattle.interval.proofs.SpanFits.{product-fits}
 use Rattle.step.specs.Ends.{stepVoltageEnds}
-use Rattle.step.proofs.FactorSpans.{factor-span}
-use Rattle.step.proofs.Spans.{driven-span}
+use Rattle.step.proofs.{FactorSpans.{factor-span}, Spans.{driven-span}, step_voltage.Statement.{statement}}
 use borrow.Author.Needs.{needs}
-use Rattle.step.proofs.step_voltage.Statement.{statement}
 use Rattle.step.proofs.step_voltage.Tie as tie
 
 product-requires : tie.Need-product-requires
@@ -18,5 +16,4 @@ unfolding stepVoltageEnds
 returns c = cc
 
 pub step-voltage-spec : {M : Type 1} → statement M
-step-voltage-spec =
-    tie.close (tie.spec (λ c κs. search needs) (λ c κs. search needs) product-requires returns)
+step-voltage-spec = tie.close (tie.spec (λ c κs. search needs) (λ c κs. search needs) product-requires returns)

@@ -2,10 +2,8 @@
 use mathlib.Core.Path.{sym}
 use native.Mathlib.Omega.{arith}
 use borrow.Author.Needs.{needs}
-use lib.ListN.{length}
-use lib.Seq.{length-take-le}
-use Rattle.text.proofs.FieldTurns.{part-end}
-use Rattle.text.proofs.Counts.{Blocks, blocks-start, blocks-step, blocks-end, block-fits, count-within}
+use lib.{ListN.{length}, Seq.{length-take-le}}
+use Rattle.text.proofs.{FieldTurns.{part-end}, Counts.{Blocks, blocks-start, blocks-step, blocks-end, block-fits, count-within}}
 use Rattle.text.proofs.count.Statement.{statement}
 use Rattle.text.proofs.count.Tie as tie
 
@@ -45,21 +43,6 @@ returns c = blocks-end _ (c .before .before .loop .inv) (c .count-block2 .ensure
 
 pub count-spec : {M : Type 1} → statement M
 count-spec =
-    tie.close
-    (tie.spec
-    Inv-loop
-    μ-loop
-    loop-holds
-    slice-aggregate-count-block
-    count-block-requires
-    (λ c. search needs)
-    add-n
-    (λ c. search needs)
-    (λ c. search needs)
-    (λ c. search needs)
-    (λ c. search needs)
-    loop-again
-    (λ c κs. search needs)
-    (λ c. search needs)
-    add-result
-    returns)
+    tie.close (tie.spec Inv-loop μ-loop loop-holds slice-aggregate-count-block count-block-requires (λ c. search needs) add-n
+    (λ c. search needs) (λ c. search needs) (λ c. search needs) (λ c. search needs) loop-again (λ c κs. search needs) (λ c. search needs)
+    add-result returns)

@@ -3,10 +3,8 @@ use Prim.Native.Nat.{_+_, _-_}
 use mathlib.Core.Path.{sym, ap, _∙_}
 use native.Mathlib.Omega.{arith}
 use borrow.Author.Needs.{needs}
-use lib.ListN.{length, take}
-use lib.Seq.{length-take-le}
-use Rattle.text.proofs.Counts.{count-within, lines-count, lines-of-none}
-use Rattle.text.proofs.count_lines.Statement.{statement}
+use lib.{ListN.{length, take}, Seq.{length-take-le}}
+use Rattle.text.proofs.{Counts.{count-within, lines-count, lines-of-none}, count_lines.Statement.{statement}}
 use Rattle.text.proofs.count_lines.Tie as tie
 
 returns : tie.Need-returns

@@ -1,7 +1,6 @@
 -- `text::first_field` meets its contract: a value that is read in one pass, or else where the first comma is, and what stands before it.
 use borrow.Author.Needs.{needs}
-use Rattle.text.proofs.FieldTurns.{part-length}
-use Rattle.text.proofs.first_field.Statement.{statement}
+use Rattle.text.proofs.{FieldTurns.{part-length}, first_field.Statement.{statement}}
 use Rattle.text.proofs.first_field.Tie as tie
 
 returns : tie.Need-returns

@@ -54,22 +54,5 @@ returns-5 c = front-value (c .before .loop .inv) (λ h. absurd (omega arith))
 
 pub front-value-spec : {M : Type 1} → statement M
 front-value-spec =
-    tie.close
-    (tie.spec
-    Inv-loop
-    μ-loop
-    loop-holds
-    (λ c. search needs)
-    cast-wrapping-sub-u32
-    (λ c κs. search needs)
-    returns
-    returns-2
-    returns-3
-    (λ c. search needs)
-    returns-4
-    mul-n
-    add-n
-    (λ c. search needs)
-    (λ c. search needs)
-    loop-again
-    returns-5)
+    tie.close (tie.spec Inv-loop μ-loop loop-holds (λ c. search needs) cast-wrapping-sub-u32 (λ c κs. search needs) returns returns-2
+    returns-3 (λ c. search needs) returns-4 mul-n add-n (λ c. search needs) (λ c. search needs) loop-again returns-5)

@@ -3,8 +3,7 @@ use Prim.Native.Nat.{_-_}
 use mathlib.Core.Path.{_≡_}
 use native.Mathlib.Omega.{arith}
 use borrow.Author.Needs.{needs}
-use Rattle.text.proofs.Searching.{Holding, holding-start, holding-step}
-use Rattle.text.proofs.holds.Statement.{statement}
+use Rattle.text.proofs.{Searching.{Holding, holding-start, holding-step}, holds.Statement.{statement}}
 use Rattle.text.proofs.holds.Tie as tie
 
 abbrev Inv-loop : tie.InvT-loop

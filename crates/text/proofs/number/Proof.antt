@@ -40,18 +40,5 @@ returns-3 c = reading-end (c .before .loop .inv) (c .loop-test .left)
 
 pub number-spec : {M : Type 1} → statement M
 number-spec =
-    tie.close
-    (tie.spec
-    Inv-loop
-    μ-loop
-    loop-holds
-    (λ c. search needs)
-    returns
-    returns-2
-    mul-n
-    (λ c. search needs)
-    add-n
-    (λ c. search needs)
-    (λ c. search needs)
-    loop-again
-    returns-3)
+    tie.close (tie.spec Inv-loop μ-loop loop-holds (λ c. search needs) returns returns-2 mul-n (λ c. search needs) add-n (λ c. search needs)
+    (λ c. search needs) loop-again returns-3)

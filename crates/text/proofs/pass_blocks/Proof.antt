@@ -4,8 +4,7 @@ use mathlib.Core.Path.{_≡_}
 use native.Mathlib.Omega.{arith}
 use borrow.Author.Needs.{needs}
 use Rattle.text.specs.Parts.{Passed}
-use Rattle.text.proofs.Searching.{searching-start, part-passed}
-use Rattle.text.proofs.pass_blocks.Statement.{statement}
+use Rattle.text.proofs.{Searching.{searching-start, part-passed}, pass_blocks.Statement.{statement}}
 use Rattle.text.proofs.pass_blocks.Tie as tie
 
 abbrev Inv-loop : tie.InvT-loop
@@ -25,18 +24,5 @@ loop-again c =
 
 pub pass-blocks-spec : {M : Type 1} → statement M
 pass-blocks-spec =
-    tie.close
-    (tie.spec
-    Inv-loop
-    μ-loop
-    loop-holds
-    (λ c. search needs)
-    (λ c. search needs)
-    (λ c. search needs)
-    (λ c. search needs)
-    (λ c. search needs)
-    (λ c κs. search needs)
-    (λ c. search needs)
-    (λ c. search needs)
-    loop-again
-    (λ c. search needs))
+    tie.close (tie.spec Inv-loop μ-loop loop-holds (λ c. search needs) (λ c. search needs) (λ c. search needs) (λ c. search needs)
+    (λ c. search needs) (λ c κs. search needs) (λ c. search needs) (λ c. search needs) loop-again (λ c. search needs))

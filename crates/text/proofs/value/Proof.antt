@@ -1,9 +1,7 @@
 -- `text::value` meets its contract: a field of one to six bytes that does not start with 0, or is one byte, is read as digits.
-use mathlib.Core.Path.{_∙_}
-use mathlib.Core.Logic.{⊎-elim}
+use mathlib.Core.{Path.{_∙_}, Logic.{⊎-elim}}
 use borrow.Author.Needs.{needs}
-use Rattle.text.proofs.Form.{form-empty, form-long, form-zero, form-one, form-more}
-use Rattle.text.proofs.value.Statement.{statement}
+use Rattle.text.proofs.{Form.{form-empty, form-long, form-zero, form-one, form-more}, value.Statement.{statement}}
 use Rattle.text.proofs.value.Tie as tie
 
 returns : tie.Need-returns
@@ -22,6 +20,4 @@ returns-4 c =
     (c .before .if3 .came)
 
 pub value-spec : {M : Type 1} → statement M
-value-spec =
-    tie.close
-    (tie.spec returns returns-2 (λ c. search needs) returns-3 (λ c κs. search needs) returns-4)
+value-spec = tie.close (tie.spec returns returns-2 (λ c. search needs) returns-3 (λ c κs. search needs) returns-4)

@@ -1,7 +1,6 @@
 -- `layer_effect` is Q for bare soil or with a layer.
-use borrow.Author.Tests.{eq-eqb, ne-eqb}
+use borrow.Author.{Tests.{eq-eqb, ne-eqb}, Needs.{needs}}
 use Rattle.tolerable.specs.Ends.{layerEnds}
-use borrow.Author.Needs.{needs}
 use Rattle.tolerable.proofs.layer_effect.Statement.{statement}
 use Rattle.tolerable.proofs.layer_effect.Tie as tie
 

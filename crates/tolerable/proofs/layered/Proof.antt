@@ -2,12 +2,10 @@
 use Prim.Native.Nat.{_*_, _+_}
 use native.Mathlib.Omega.{arith}
 use lib.IntN.{pos}
-use Rattle.interval.specs.Operations.{point, differenceOf}
-use Rattle.interval.proofs.Sizes.{size-point, size-outward}
+use Rattle.interval.{specs.Operations.{point, differenceOf}, proofs.Sizes.{size-point, size-outward}}
 use Rattle.tolerable.specs.Ends.{layered}
-use Rattle.tolerable.proofs.Layer.{layer-high, gap-size}
+use Rattle.tolerable.proofs.{Layer.{layer-high, gap-size}, layered.Statement.{statement}}
 use borrow.Author.Needs.{needs}
-use Rattle.tolerable.proofs.layered.Statement.{statement}
 use Rattle.tolerable.proofs.layered.Tie as tie
 
 difference-requires : tie.Need-difference-requires
@@ -44,20 +42,6 @@ returns c = cc
 
 pub layered-spec : {M : Type 1} → statement M
 layered-spec =
-    tie.close
-    (tie.spec
-    (λ c. search needs)
-    (λ c. search needs)
-    (λ c. search needs)
-    (λ c. search needs)
-    (λ c κs. search needs)
-    (λ c. search needs)
-    (λ c κs. search needs)
-    difference-requires
-    (λ c. search needs)
-    (λ c κs. search needs)
-    (λ c. search needs)
-    (λ c. search needs)
-    outward-requires
-    difference-requires-2
-    returns)
+    tie.close (tie.spec (λ c. search needs) (λ c. search needs) (λ c. search needs) (λ c. search needs) (λ c κs. search needs)
+    (λ c. search needs) (λ c κs. search needs) difference-requires (λ c. search needs) (λ c κs. search needs) (λ c. search needs)
+    (λ c. search needs) outward-requires difference-requires-2 returns)

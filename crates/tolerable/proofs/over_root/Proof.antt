@@ -3,9 +3,8 @@ use native.Mathlib.Omega.{arith}
 use lib.Dec.{lit≤, lit<}
 use Rattle.interval.proofs.Span.{span-size, span-divisor}
 use Rattle.tolerable.specs.Ends.{tolerableEnds}
-use Rattle.tolerable.proofs.Spans.{top-span, time-span}
+use Rattle.tolerable.proofs.{Spans.{top-span, time-span}, over_root.Statement.{statement}}
 use borrow.Author.Needs.{needs}
-use Rattle.tolerable.proofs.over_root.Statement.{statement}
 use Rattle.tolerable.proofs.over_root.Tie as tie
 
 quotient-requires : tie.Need-quotient-requires

@@ -1,17 +1,11 @@
 -- `top` keeps within 64 bits by the spans of its parts.
 use Prim.Native.Nat.{_≤_}
-use native.Mathlib.Omega.{arith}
-use native.Mathlib.Nat.{le-trans}
-use native.Mathlib.Nat.{mul-le-mul}
+use native.Mathlib.{Omega.{arith}, Nat.{le-trans, mul-le-mul}}
 use lib.IntN.{pos}
-use Rattle.interval.specs.Operations.{point, size, sumOf, scaledOf}
-use Rattle.interval.proofs.Sizes.{size-point, size-sum, size-scaled}
-use Rattle.interval.proofs.Span.{span-size}
+use Rattle.interval.{specs.Operations.{point, size, sumOf, scaledOf}, proofs.{Sizes.{size-point, size-sum, size-scaled}, Span.{span-size}}}
 use Rattle.tolerable.specs.Ends.{layerEnds, topEnds}
-use Rattle.tolerable.proofs.Layer.{layer-span}
-use Rattle.tolerable.proofs.Spans.{body-bounds}
+use Rattle.tolerable.proofs.{Layer.{layer-span}, Spans.{body-bounds}, top.Statement.{statement}}
 use borrow.Author.Needs.{needs}
-use Rattle.tolerable.proofs.top.Statement.{statement}
 use Rattle.tolerable.proofs.top.Tie as tie
 
 -- the sizes after each step
@@ -48,12 +42,5 @@ returns c = cc
 
 pub top-spec : {M : Type 1} → statement M
 top-spec =
-    tie.close
-    (tie.spec
-    (λ c κs. search needs)
-    scaled-requires
-    (λ c κs. search needs)
-    sum-requires
-    (λ c κs. search needs)
-    scaled-requires-2
+    tie.close (tie.spec (λ c κs. search needs) scaled-requires (λ c κs. search needs) sum-requires (λ c κs. search needs) scaled-requires-2
     returns)

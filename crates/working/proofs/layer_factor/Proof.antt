@@ -1,16 +1,11 @@
 -- `layer_factor` is Cs for bare soil or with a layer; the bounds of layer, thickness and soil keep it within 64 bits.
 use native.Mathlib.Omega.{arith}
-use borrow.Author.Tests.{eq-eqb, ne-eqb}
+use borrow.Author.{Tests.{eq-eqb, ne-eqb}, Needs.{needs}}
 use lib.Dec.{lit<}
-use Rattle.interval.proofs.Fits.{fits-below, fits-product}
-use Rattle.interval.proofs.Span.{span-point}
-use Rattle.interval.proofs.Rules.{lits}
-use Rattle.interval.proofs.NumeralSpans.{numeral-quotient-fits}
+use Rattle.interval.proofs.{Fits.{fits-below, fits-product}, Span.{span-point}, Rules.{lits}, NumeralSpans.{numeral-quotient-fits}}
 use Rattle.case.specs.Bounds.{Layered}
 use Rattle.working.specs.Ends.{derated, full, layerFactor}
-use Rattle.working.proofs.Layer.{not-bare, derated-most, full-bounds}
-use borrow.Author.Needs.{needs}
-use Rattle.working.proofs.layer_factor.Statement.{statement}
+use Rattle.working.proofs.{Layer.{not-bare, derated-most, full-bounds}, layer_factor.Statement.{statement}}
 use Rattle.working.proofs.layer_factor.Tie as tie
 
 -- past the test there is a layer
@@ -73,21 +68,6 @@ returns-2 c =
 
 pub layer-factor-spec : {M : Type 1} → statement M
 layer-factor-spec =
-    tie.close
-    (tie.spec
-    (λ c κs. search needs)
-    returns
-    (λ c. search needs)
-    (λ c. search needs)
-    mul-derated
-    mul-derated-2
-    (λ c. search needs)
-    (λ c. search needs)
-    add-derated
-    point-requires-2
-    (λ c. search needs)
-    (λ c. search needs)
-    mul-point-2
-    point-requires-3
-    quotient-requires
+    tie.close (tie.spec (λ c κs. search needs) returns (λ c. search needs) (λ c. search needs) mul-derated mul-derated-2 (λ c. search needs)
+    (λ c. search needs) add-derated point-requires-2 (λ c. search needs) (λ c. search needs) mul-point-2 point-requires-3 quotient-requires
     returns-2)

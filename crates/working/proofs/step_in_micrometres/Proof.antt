@@ -1,6 +1,5 @@
 -- `step_in_micrometres` scales the twentieths of a millimetre that LS is counted in.
-use native.Mathlib.Omega.{arith}
-use native.Mathlib.Nat.{mul-le-mul-left}
+use native.Mathlib.{Omega.{arith}, Nat.{mul-le-mul-left}}
 use lib.Dec.{lit<}
 use Rattle.interval.proofs.Fits.{fits-below}
 use Rattle.step.proofs.Spans.{length-bounds}

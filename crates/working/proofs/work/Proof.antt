@@ -1,8 +1,7 @@
 -- `work` puts the parts together.
 use native.Mathlib.Omega.{arith}
 use Rattle.lengths.proofs.Lengths.{conductor-bounds, rod-bound, total-bounds}
-use Rattle.conductors.proofs.NumberSpans.{n-span}
-use Rattle.conductors.proofs.NumberEnclosed.{counts}
+use Rattle.conductors.proofs.{NumberSpans.{n-span}, NumberEnclosed.{counts}}
 use Rattle.working.specs.Ends.{workingOf}
 use borrow.Author.Needs.{needs}
 use Rattle.working.proofs.work.Statement.{statement}
@@ -100,27 +99,8 @@ returns c =
 
 pub work-spec : {M : Type 1} → statement M
 work-spec =
-    tie.close
-    (tie.spec
-    (λ c κs. search needs)
-    (λ c κs. search needs)
-    effective-number-requires
-    (λ c κs. search needs)
-    (λ c κs. search needs)
-    (λ c κs. search needs)
-    (λ c κs. search needs)
-    (λ c κs. search needs)
-    in-micrometres-requires
-    (λ c κs. search needs)
-    in-micrometres-requires-2
-    (λ c κs. search needs)
-    in-micrometres-requires-3
-    (λ c κs. search needs)
-    step-in-micrometres-requires
-    irregularity-requires
-    inner-factor-requires
-    depth-factor-requires
-    geometric-factor-requires
-    spacing-factor-requires
-    driven-requires
-    returns)
+    tie.close (tie.spec (λ c κs. search needs) (λ c κs. search needs) effective-number-requires (λ c κs. search needs)
+    (λ c κs. search needs) (λ c κs. search needs) (λ c κs. search needs) (λ c κs. search needs) in-micrometres-requires
+    (λ c κs. search needs) in-micrometres-requires-2 (λ c κs. search needs) in-micrometres-requires-3 (λ c κs. search needs)
+    step-in-micrometres-requires irregularity-requires inner-factor-requires depth-factor-requires geometric-factor-requires
+    spacing-factor-requires driven-requires returns)

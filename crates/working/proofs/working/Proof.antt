@@ -1,11 +1,7 @@
 -- `working` answers the working of a sound record.
-use Rattle.working.proofs.Right.{sound-bounds, working-told, working-refused}
+use Rattle.working.proofs.{Right.{sound-bounds, working-told, working-refused}, working.Statement.{statement}}
 use borrow.Author.Needs.{needs}
-use Rattle.working.proofs.working.Statement.{statement}
 use Rattle.working.proofs.working.Tie as tie
-
-enum-told : tie.Need-enum-told
-enum-told c = search needs
 
 work-requires : tie.Need-work-requires
 work-requires c κs = sound-bounds _ (c .before .before .judge .ensures) (c .enum-told .given .1)
@@ -17,4 +13,4 @@ returns-2 : tie.Need-returns-2
 returns-2 c = working-refused _ (c .before .before .before .judge .ensures) (c .before .number .given .1)
 
 pub working-spec : {M : Type 1} → statement M
-working-spec = tie.close (tie.spec (λ c κs. search needs) enum-told work-requires (λ c. search needs) returns returns-2)
+working-spec = tie.close (tie.spec (λ c κs. search needs) (λ c. search needs) work-requires (λ c. search needs) returns returns-2)

@@ -1,7 +1,6 @@
 -- `lines_length` adds up the lengths of the lines: proofs/LinesWriting.antt.
 use Prim.Native.Nat.{_-_}
-use mathlib.Core.Path.{sym}
-use mathlib.Core.List.{map}
+use mathlib.Core.{Path.{sym}, List.{map}}
 use native.Mathlib.Omega.{arith}
 use borrow.Author.Needs.{needs}
 use Rattle.tables.specs.Parts.{partsOf}
@@ -66,19 +65,5 @@ returns c = let a = c .before .loop .inv in count-end (a .1) (line-none (a .0) v
 
 pub lines-length-spec : {M : Type 1} → statement M
 lines-length-spec =
-    tie.close
-    (tie.spec
-    Inv-loop
-    μ-loop
-    loop-holds
-    slice-aggregate-line-length
-    line-length-requires
-    add-n
-    mul-rest
-    sub-rest
-    part-rest-start
-    (λ c. search needs)
-    (λ c. search needs)
-    (λ c. search needs)
-    loop-again
-    returns)
+    tie.close (tie.spec Inv-loop μ-loop loop-holds slice-aggregate-line-length line-length-requires add-n mul-rest sub-rest part-rest-start
+    (λ c. search needs) (λ c. search needs) (λ c. search needs) loop-again returns)

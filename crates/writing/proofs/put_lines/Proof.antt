@@ -1,7 +1,6 @@
 -- `put_lines` writes line after line: proofs/LinesWriting.antt, with the lines of a table of proofs/TableRest.antt.
 use Prim.Native.Nat.{_-_}
-use mathlib.Core.Path.{sym}
-use mathlib.Core.List.{map}
+use mathlib.Core.{Path.{sym}, List.{map}}
 use native.Mathlib.Omega.{arith}
 use borrow.Author.Needs.{needs}
 use Rattle.tables.specs.Parts.{partsOf}
@@ -59,19 +58,5 @@ returns c = let a = c .before .loop .inv in lines-end (a .1) (line-none (a .0) v
 
 pub put-lines-spec : {M : Type 1} → statement M
 put-lines-spec =
-    tie.close
-    (tie.spec
-    Inv-loop
-    μ-loop
-    loop-holds
-    slice-aggregate-put-line
-    put-line-requires
-    mul-rest
-    sub-rest
-    part-rest-start
-    (λ c. search needs)
-    (λ c. search needs)
-    (λ c. search needs)
-    loop-again
-    same-length
-    returns)
+    tie.close (tie.spec Inv-loop μ-loop loop-holds slice-aggregate-put-line put-line-requires mul-rest sub-rest part-rest-start
+    (λ c. search needs) (λ c. search needs) (λ c. search needs) loop-again same-length returns)

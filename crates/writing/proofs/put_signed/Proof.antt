@@ -2,10 +2,8 @@
 use mathlib.Core.Path.{_∙_}
 use native.Mathlib.Omega.{arith}
 use borrow.Author.Needs.{needs}
-use lib.ListN.{length-set}
-use lib.Signed.{mag}
-use mir.Syntax.{w64}
-use mir.Val.{Fits}
+use lib.{ListN.{length-set}, Signed.{mag}}
+use mir.{Syntax.{w64}, Val.{Fits}}
 use Rattle.writing.specs.Decimal.{signed}
 use Rattle.writing.proofs.Signed.{turned, turned-text, straight, straight-text}
 use Rattle.writing.proofs.Filling.{Filling, filling-start, filling-room, filling-rest, byte-room, byte-step, put-size}
@@ -63,16 +61,5 @@ returns-2 c =
 
 pub put-signed-spec : {M : Type 1} → statement M
 put-signed-spec =
-    tie.close
-    (tie.spec
-    slice-write-buf
-    (λ c. search needs)
-    cast-put-wide
-    add-put-wide-2
-    put-wide-requires
-    same-length
-    returns
-    cast-put-wide-2
-    put-wide-requires-2
-    (λ c. search needs)
-    returns-2)
+    tie.close (tie.spec slice-write-buf (λ c. search needs) cast-put-wide add-put-wide-2 put-wide-requires same-length returns
+    cast-put-wide-2 put-wide-requires-2 (λ c. search needs) returns-2)

@@ -1,8 +1,7 @@
 -- `put_wide` writes from the last digit on: the numbering of proofs/Digits.antt.
 use native.Mathlib.Omega.{arith}
 use borrow.Author.Needs.{needs}
-use Rattle.writing.proofs.Decimal.{decimal-length}
-use Rattle.writing.proofs.Digits.{Numbering, numbering-start, numbering-step, numbering-end}
+use Rattle.writing.proofs.{Decimal.{decimal-length}, Digits.{Numbering, numbering-start, numbering-step, numbering-end}}
 use Rattle.writing.proofs.put_wide.Statement.{statement}
 use Rattle.writing.proofs.put_wide.Tie as tie
 
@@ -34,18 +33,5 @@ returns c = numbering-end (c .before .loop .inv) (c .loop-test .left) (omega (ar
 
 pub put-wide-spec : {M : Type 1} → statement M
 put-wide-spec =
-    tie.close
-    (tie.spec
-    Inv-loop
-    μ-loop
-    (λ c κs. search needs)
-    add-end
-    loop-holds
-    (λ c. search needs)
-    (λ c. search needs)
-    (λ c. search needs)
-    slice-write-buf
-    (λ c. search needs)
-    loop-again
-    same-length
-    returns)
+    tie.close (tie.spec Inv-loop μ-loop (λ c κs. search needs) add-end loop-holds (λ c. search needs) (λ c. search needs)
+    (λ c. search needs) slice-write-buf (λ c. search needs) loop-again same-length returns)

@@ -1,7 +1,6 @@
 -- `wide_count` divides by ten as long as two digits are left: the counting of proofs/Counting.antt.
 use native.Mathlib.Omega.{arith}
-use Rattle.writing.proofs.Counting.{Counting, counting-start, counting-step, counting-end}
-use Rattle.writing.proofs.wide_count.Statement.{statement}
+use Rattle.writing.proofs.{Counting.{Counting, counting-start, counting-step, counting-end}, wide_count.Statement.{statement}}
 use Rattle.writing.proofs.wide_count.Tie as tie
 
 abbrev Inv-loop : tie.InvT-loop

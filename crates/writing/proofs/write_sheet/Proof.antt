@@ -4,8 +4,7 @@ use native.Mathlib.Omega.{arith}
 use lib.ListN.{length}
 use borrow.Author.Needs.{needs}
 use Rattle.tables.specs.Parts.{partsOf}
-use Rattle.writing.proofs.LinesWriting.{linesText}
-use Rattle.writing.proofs.Whole.{table-most, too-short, second-room, both-parts}
+use Rattle.writing.proofs.{LinesWriting.{linesText}, Whole.{table-most, too-short, second-room, both-parts}}
 use Rattle.writing.proofs.write_sheet.Statement.{statement}
 use Rattle.writing.proofs.write_sheet.Tie as tie
 
@@ -58,13 +57,5 @@ returns-3 c =
 
 pub write-sheet-spec : {M : Type 1} → statement M
 write-sheet-spec =
-    tie.close
-    (tie.spec
-    returns
-    (λ c. search needs)
-    lines-length-requires
-    returns-2
-    (λ c κs. search needs)
-    put-lines-requires
-    (λ c. search needs)
-    returns-3)
+    tie.close (tie.spec returns (λ c. search needs) lines-length-requires returns-2 (λ c κs. search needs) put-lines-requires
+    (λ c. search needs) returns-3)

@@ -1,8 +1,7 @@
 -- `side_answer` refuses a side out of range, then a rod length of 0.
 use mathlib.Core.Path.{_∙_}
 use Rattle.case.proofs.Bounds.{record-bounds}
-use Rattle.yards.specs.Yards.{trial}
-use Rattle.yards.specs.Fewest.{sideAnswer}
+use Rattle.yards.specs.{Yards.{trial}, Fewest.{sideAnswer}}
 use borrow.Author.Tests.{eq-eqb, ne-eqb, le-leb, lt-leb}
 use Rattle.yards.proofs.side_answer.Statement.{statement}
 use Rattle.yards.proofs.side_answer.Tie as tie

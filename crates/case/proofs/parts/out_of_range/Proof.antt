@@ -4,13 +4,10 @@ use Prim.Native.Nat.{_-_}
 use mathlib.Core.Path.{ap, _∙_}
 use native.Mathlib.Omega.{arith}
 use lib.ListN.{getD}
-use Rattle.case.specs.Columns.{Column, columns, allColumns, inRange}
-use Rattle.case.specs.Parts.{formOf, rangeAt, lowOf, highOf, otherOf}
-use Rattle.case.proofs.RangeNumbers.{table-entry}
-use Rattle.case.proofs.Findings.{form-most}
-use Rattle.case.proofs.Leftmost.{Leftmost, leftmost-start, leftmost-by, leftmost-end}
+use Rattle.case.specs.{Columns.{Column, columns, allColumns, inRange}, Parts.{formOf, rangeAt, lowOf, highOf, otherOf}}
+use Rattle.case.proofs.{RangeNumbers.{table-entry}, Findings.{form-most}}
+use Rattle.case.proofs.{Leftmost.{Leftmost, leftmost-start, leftmost-by, leftmost-end}, parts.out_of_range.Statement.{statement}}
 use borrow.Author.Needs.{needs}
-use Rattle.case.proofs.parts.out_of_range.Statement.{statement}
 use Rattle.case.proofs.parts.out_of_range.Tie as tie
 
 abbrev Inv-loop : tie.InvT-loop
@@ -71,24 +68,6 @@ returns c = leftmost-end (c .before .loop .inv) (c .loop-test .left)
 
 pub out-of-range-spec : {M : Type 1} → statement M
 out-of-range-spec =
-    tie.close
-    (tie.spec
-    Inv-loop
-    μ-loop
-    loop-holds
-    (λ c. search needs)
-    place-requires
-    mul-worse
-    array-read-worse
-    mul-worse-2
-    array-read-worse-2
-    mul-worse-3
-    array-read-worse-3
-    mul-worse-4
-    shared-slice-read-worse
-    mul-worse-5
-    shared-slice-read-worse-2
-    (λ c κs. search needs)
-    (λ c. search needs)
-    loop-again
-    returns)
+    tie.close (tie.spec Inv-loop μ-loop loop-holds (λ c. search needs) place-requires mul-worse array-read-worse mul-worse-2
+    array-read-worse-2 mul-worse-3 array-read-worse-3 mul-worse-4 shared-slice-read-worse mul-worse-5 shared-slice-read-worse-2
+    (λ c κs. search needs) (λ c. search needs) loop-again returns)

@@ -2,13 +2,9 @@
 use mathlib.Core.Path.{_∙_}
 use borrow.Author.Needs.{needs}
 use Rattle.text.proofs.Clash.{clash}
-use Rattle.case.specs.Columns.{name-count}
-use Rattle.case.specs.Parts.{formOf}
+use Rattle.case.specs.{Columns.{name-count}, Parts.{formOf}}
 use Rattle.case.proofs.range.all_in_range.Statement.{statement}
 use Rattle.case.proofs.range.all_in_range.Tie as tie
-
-enum-told : tie.Need-enum-told
-enum-told c = search needs
 
 present-in-range-requires : tie.Need-present-in-range-requires
 unfolding formOf
@@ -22,4 +18,4 @@ returns-2 : tie.Need-returns-2
 returns-2 c e = clash cc
 
 pub all-in-range-spec : {M : Type 1} → statement M
-all-in-range-spec = tie.close (tie.spec enum-told present-in-range-requires (λ c. search needs) returns returns-2)
+all-in-range-spec = tie.close (tie.spec (λ c. search needs) present-in-range-requires (λ c. search needs) returns returns-2)

@@ -3,10 +3,8 @@ use Prim.Native.Nat.{_<_}
 use native.Mathlib.Omega.{arith}
 use lib.ListN.{length}
 use borrow.Author.Needs.{needs}
-use Rattle.case.specs.Columns.{formerColumns, former-name-count}
-use Rattle.case.specs.Parts.{formOf}
-use Rattle.case.proofs.Places.{formerPlaces, former-place, present-place}
-use Rattle.case.proofs.range.place.Statement.{statement}
+use Rattle.case.specs.{Columns.{formerColumns, former-name-count}, Parts.{formOf}}
+use Rattle.case.proofs.{Places.{formerPlaces, former-place, present-place}, range.place.Statement.{statement}}
 use Rattle.case.proofs.range.place.Tie as tie
 
 -- the index of a name of the former form
@@ -29,5 +27,4 @@ unfolding formerPlaces
 returns-2 c = rw (c .enum-told2 .given .1) (former-place _ (former-index c))
 
 pub place-spec : {M : Type 1} → statement M
-place-spec =
-    tie.close (tie.spec (λ c. search needs) (λ c. search needs) mul-result array-read-result returns returns-2)
+place-spec = tie.close (tie.spec (λ c. search needs) (λ c. search needs) mul-result array-read-result returns returns-2)

@@ -1,11 +1,9 @@
 -- `case::range::present_in_range` meets its contract: the pass of proofs/RangeNumbers.antt, with the code's tables those of the names by
 -- one computed test.
 use Prim.Native.Nat.{_-_}
-use Rattle.case.specs.Columns.{columns, allColumns}
-use Rattle.case.specs.Parts.{lowOf, highOf, otherOf}
-use Rattle.case.proofs.RangeNumbers.{Tested, tested-start, tested-step, tested-end}
+use Rattle.case.specs.{Columns.{columns, allColumns}, Parts.{lowOf, highOf, otherOf}}
+use Rattle.case.proofs.{RangeNumbers.{Tested, tested-start, tested-step, tested-end}, range.present_in_range.Statement.{statement}}
 use borrow.Author.Needs.{needs}
-use Rattle.case.proofs.range.present_in_range.Statement.{statement}
 use Rattle.case.proofs.range.present_in_range.Tie as tie
 
 abbrev Inv-loop : tie.InvT-loop
@@ -26,21 +24,6 @@ returns c all = tested-end (c .before .loop .inv) (c .loop-test .left) all
 
 pub present-in-range-spec : {M : Type 1} → statement M
 present-in-range-spec =
-    tie.close
-    (tie.spec
-    Inv-loop
-    μ-loop
-    loop-holds
-    (λ c. search needs)
-    (λ c. search needs)
-    (λ c. search needs)
-    (λ c. search needs)
-    (λ c. search needs)
-    (λ c. search needs)
-    (λ c. search needs)
-    (λ c. search needs)
-    (λ c κs. search needs)
-    (λ c. search needs)
-    (λ c. search needs)
-    loop-again
-    returns)
+    tie.close (tie.spec Inv-loop μ-loop loop-holds (λ c. search needs) (λ c. search needs) (λ c. search needs) (λ c. search needs)
+    (λ c. search needs) (λ c. search needs) (λ c. search needs) (λ c. search needs) (λ c κs. search needs) (λ c. search needs)
+    (λ c. search needs) loop-again returns)

@@ -1,12 +1,10 @@
 -- `exponent` keeps within 64 bits by the spans of its parts; 2n is inside the range of the logarithm.
 use lib.Dec.{lit≤, lit<}
-use Rattle.interval.proofs.SpanFits.{scaled-fits, product-fits}
-use Rattle.interval.proofs.Rules.{lits}
+use Rattle.interval.proofs.{SpanFits.{scaled-fits, product-fits}, Rules.{lits}}
 use Rattle.interval.proofs.NumeralSpans.{numeral-point, numeral-quotient-fits, numeral-wider}
 use Rattle.conductors.specs.Weights.{innerExponent}
-use Rattle.conductors.proofs.WeightSpans.{twice-span, share-span, twice-log-span}
+use Rattle.conductors.proofs.{WeightSpans.{twice-span, share-span, twice-log-span}, inner.exponent.Statement.{statement}}
 use borrow.Author.Needs.{needs}
-use Rattle.conductors.proofs.inner.exponent.Statement.{statement}
 use Rattle.conductors.proofs.inner.exponent.Tie as tie
 
 quotient-requires : tie.Need-quotient-requires
@@ -34,12 +32,4 @@ unfolding innerExponent
 returns c = cc
 
 pub exponent-spec : {M : Type 1} → statement M
-exponent-spec =
-    tie.close
-    (tie.spec
-    (λ c κs. search needs)
-    quotient-requires
-    scaled-requires
-    ln-pair-requires
-    product-requires
-    returns)
+exponent-spec = tie.close (tie.spec (λ c κs. search needs) quotient-requires scaled-requires ln-pair-requires product-requires returns)

@@ -1,12 +1,9 @@
 -- `inner_weight` is one over the root of a square, else the exponential of an exponent inside its range.
 use native.Mathlib.Omega.{arith}
-use borrow.Author.Tests.{eq-eqb, ne-eqb}
-use Rattle.interval.proofs.Rules.{lits}
-use Rattle.interval.proofs.NumeralSpans.{numeral-point, numeral-quotient-fits, numeral-wider}
+use borrow.Author.{Tests.{eq-eqb, ne-eqb}, Needs.{needs}}
+use Rattle.interval.proofs.{Rules.{lits}, NumeralSpans.{numeral-point, numeral-quotient-fits, numeral-wider}}
 use Rattle.conductors.specs.Weights.{innerEnds}
-use Rattle.conductors.proofs.WeightSpans.{exponent-span}
-use Rattle.conductors.proofs.LineRoots.{root-known, line-root-span}
-use borrow.Author.Needs.{needs}
+use Rattle.conductors.proofs.{WeightSpans.{exponent-span}, LineRoots.{root-known, line-root-span}}
 use Rattle.conductors.proofs.inner.inner_weight.Statement.{statement}
 use Rattle.conductors.proofs.inner.inner_weight.Tie as tie
 
@@ -37,8 +34,7 @@ unfolding innerEnds
 returns c = rw (eq-eqb _ _ (c .before .before .before .before .if1 .taken)) (cc)
 
 exp-pair-requires : tie.Need-exp-pair-requires
-exp-pair-requires c κs =
-    rw (c .exponent .ensures) (numeral-wider (exponent-span (c .before .before .pre .1)) (lits tt))
+exp-pair-requires c κs = rw (c .exponent .ensures) (numeral-wider (exponent-span (c .before .before .pre .1)) (lits tt))
 
 returns-2 : tie.Need-returns-2
 unfolding innerEnds
@@ -46,14 +42,5 @@ returns-2 c = rw (ne-eqb _ _ (c .before .before .if1 .left)) (cc)
 
 pub inner-weight-spec : {M : Type 1} → statement M
 inner-weight-spec =
-    tie.close
-    (tie.spec
-    lines-root-requires
-    (λ c κs. search needs)
-    add-natural
-    natural-requires
-    quotient-requires
-    returns
-    (λ c κs. search needs)
-    exp-pair-requires
-    returns-2)
+    tie.close (tie.spec lines-root-requires (λ c κs. search needs) add-natural natural-requires quotient-requires returns
+    (λ c κs. search needs) exp-pair-requires returns-2)

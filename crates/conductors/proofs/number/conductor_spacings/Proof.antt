@@ -2,9 +2,8 @@
 use mathlib.Core.Path.{refl}
 use native.Mathlib.Omega.{arith}
 use Rattle.conductors.specs.Counts.{spacings}
-use Rattle.conductors.proofs.NumberSpans.{spacings-bounds}
+use Rattle.conductors.proofs.{NumberSpans.{spacings-bounds}, number.conductor_spacings.Statement.{statement}}
 use borrow.Author.Needs.{needs}
-use Rattle.conductors.proofs.number.conductor_spacings.Statement.{statement}
 use Rattle.conductors.proofs.number.conductor_spacings.Tie as tie
 
 mul-result : tie.Need-mul-result
@@ -29,5 +28,4 @@ returns c = refl
 
 pub conductor-spacings-spec : {M : Type 1} → statement M
 conductor-spacings-spec =
-    tie.close
-    (tie.spec (λ c. search needs) mul-result (λ c. search needs) mul-result-2 add-result cast-result returns)
+    tie.close (tie.spec (λ c. search needs) mul-result (λ c. search needs) mul-result-2 add-result cast-result returns)

@@ -1,7 +1,6 @@
 -- `effective_number` is the count of a square, else the product.
-use borrow.Author.Tests.{eq-eqb, ne-eqb}
+use borrow.Author.{Tests.{eq-eqb, ne-eqb}, Needs.{needs}}
 use Rattle.conductors.specs.Number.{nEnds}
-use borrow.Author.Needs.{needs}
 use Rattle.conductors.proofs.number.effective_number.Statement.{statement}
 use Rattle.conductors.proofs.number.effective_number.Tie as tie
 
@@ -14,5 +13,4 @@ unfolding nEnds
 returns-2 c = rw (ne-eqb _ _ (c .before .if1 .left)) (c .product .ensures)
 
 pub effective-number-spec : {M : Type 1} → statement M
-effective-number-spec =
-    tie.close (tie.spec (λ c. search needs) (λ c κs. search needs) returns (λ c κs. search needs) returns-2)
+effective-number-spec = tie.close (tie.spec (λ c. search needs) (λ c κs. search needs) returns (λ c κs. search needs) returns-2)

@@ -1,9 +1,6 @@
 -- `irregularity` keeps within 64 bits by the span of n.
 use lib.Dec.{lit≤, lit<}
-use Rattle.interval.proofs.Span.{span-scaled}
-use Rattle.interval.proofs.SpanFits.{sum-fits, scaled-fits}
-use Rattle.interval.proofs.Rules.{lits}
-use Rattle.interval.proofs.NumeralSpans.{numeral-point}
+use Rattle.interval.proofs.{Span.{span-scaled}, SpanFits.{sum-fits, scaled-fits}, Rules.{lits}, NumeralSpans.{numeral-point}}
 use Rattle.conductors.specs.Number.{KiEnds}
 use borrow.Author.Needs.{needs}
 use Rattle.conductors.proofs.number.irregularity.Statement.{statement}

@@ -2,11 +2,9 @@
 use mathlib.Core.Path.{sym}
 use native.Mathlib.Omega.{arith}
 use Rattle.enclosure.proofs.SquareRoot.{square-root-is}
-use Rattle.conductors.specs.Counts.{meshes}
-use Rattle.conductors.specs.Number.{meshRoot}
-use Rattle.conductors.proofs.NumberSpans.{meshes-bounds}
+use Rattle.conductors.specs.{Counts.{meshes}, Number.{meshRoot}}
+use Rattle.conductors.proofs.{NumberSpans.{meshes-bounds}, number.mesh_root.Statement.{statement}}
 use borrow.Author.Needs.{needs}
-use Rattle.conductors.proofs.number.mesh_root.Statement.{statement}
 use Rattle.conductors.proofs.number.mesh_root.Tie as tie
 
 mul-meshes : tie.Need-mul-meshes
@@ -27,5 +25,4 @@ returns c = sym (square-root-is (c .isqrt .ensures))
 
 pub mesh-root-spec : {M : Type 1} → statement M
 mesh-root-spec =
-    tie.close
-    (tie.spec (λ c. search needs) (λ c. search needs) mul-meshes cast-meshes mul-isqrt (λ c κs. search needs) returns)
+    tie.close (tie.spec (λ c. search needs) (λ c. search needs) mul-meshes cast-meshes mul-isqrt (λ c κs. search needs) returns)

@@ -3,9 +3,8 @@ use native.Mathlib.Omega.{arith}
 use lib.Dec.{lit<}
 use Rattle.interval.proofs.SpanFits.{scaled-fits, outward-fits}
 use Rattle.conductors.specs.Number.{productEnds}
-use Rattle.conductors.proofs.NumberSpans.{spacings-bounds, half-bounds, nb-span, scaled-span}
+use Rattle.conductors.proofs.{NumberSpans.{spacings-bounds, half-bounds, nb-span, scaled-span}, number.product.Statement.{statement}}
 use borrow.Author.Needs.{needs}
-use Rattle.conductors.proofs.number.product.Statement.{statement}
 use Rattle.conductors.proofs.number.product.Tie as tie
 
 scaled-requires : tie.Need-scaled-requires
@@ -34,12 +33,5 @@ returns c = cc
 
 pub product-spec : {M : Type 1} → statement M
 product-spec =
-    tie.close
-    (tie.spec
-    (λ c κs. search needs)
-    (λ c κs. search needs)
-    (λ c κs. search needs)
-    scaled-requires
-    mul-outward
-    outward-requires
+    tie.close (tie.spec (λ c κs. search needs) (λ c κs. search needs) (λ c κs. search needs) scaled-requires mul-outward outward-requires
     returns)

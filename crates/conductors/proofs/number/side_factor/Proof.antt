@@ -5,8 +5,8 @@ use Rattle.case.specs.Bounds.{Between}
 use Rattle.enclosure.proofs.SquareRoot.{square-root-is}
 use Rattle.conductors.specs.Number.{nbEnds}
 use Rattle.conductors.proofs.CodeBounds.{root-below, mesh-root-bounds, ratio-fits, low-below, high-below}
-use borrow.Author.Needs.{needs}
 use Rattle.conductors.proofs.number.side_factor.Statement.{statement}
+use borrow.Author.Needs.{needs}
 use Rattle.conductors.proofs.number.side_factor.Tie as tie
 
 bounds : (c : tie.After-mesh-root) → Between 1 (c .mesh-root .result) 2400000000
@@ -63,19 +63,5 @@ returns c = let y = c .before in cc (square-root-is (y .before .isqrt .ensures),
 
 pub side-factor-spec : {M : Type 1} → statement M
 side-factor-spec =
-    tie.close
-    (tie.spec
-    (λ c κs. search needs)
-    (λ c κs. search needs)
-    add-floor
-    mul-floor
-    floor-requires
-    mul-ceil
-    ceil-requires
-    mul-isqrt
-    (λ c κs. search needs)
-    mul-isqrt-2
-    (λ c κs. search needs)
-    add-natural
-    natural-requires
-    returns)
+    tie.close (tie.spec (λ c κs. search needs) (λ c κs. search needs) add-floor mul-floor floor-requires mul-ceil ceil-requires mul-isqrt
+    (λ c κs. search needs) mul-isqrt-2 (λ c κs. search needs) add-natural natural-requires returns)

@@ -1,12 +1,9 @@
 -- `half_exponent` keeps within 64 bits by the spans of its parts.
 use lib.Dec.{lit<}
-use Rattle.interval.proofs.SpanFits.{sum-fits, product-fits}
-use Rattle.interval.proofs.Rules.{lits}
-use Rattle.interval.proofs.NumeralSpans.{numeral-point}
+use Rattle.interval.proofs.{SpanFits.{sum-fits, product-fits}, Rules.{lits}, NumeralSpans.{numeral-point}}
 use Rattle.conductors.specs.Weights.{ln2Ends, halfExponent}
-use Rattle.conductors.proofs.WeightSpans.{ln2-span, above-span}
+use Rattle.conductors.proofs.{WeightSpans.{ln2-span, above-span}, weights.half_exponent.Statement.{statement}}
 use borrow.Author.Needs.{needs}
-use Rattle.conductors.proofs.weights.half_exponent.Statement.{statement}
 use Rattle.conductors.proofs.weights.half_exponent.Tie as tie
 
 difference-requires : tie.Need-difference-requires
@@ -26,6 +23,4 @@ unfolding ln2Ends halfExponent
 returns c = cc
 
 pub half-exponent-spec : {M : Type 1} → statement M
-half-exponent-spec =
-    tie.close
-    (tie.spec (λ c κs. search needs) difference-requires (λ c κs. search needs) product-requires returns)
+half-exponent-spec = tie.close (tie.spec (λ c κs. search needs) difference-requires (λ c κs. search needs) product-requires returns)

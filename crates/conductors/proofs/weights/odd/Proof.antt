@@ -1,13 +1,10 @@
 -- `odd` keeps within 64 bits by the spans of its parts.
 use lib.Dec.{lit≤, lit<}
-use Rattle.interval.proofs.SpanFits.{sum-fits, scaled-fits, product-fits}
-use Rattle.interval.proofs.Rules.{lits}
-use Rattle.interval.proofs.NumeralSpans.{numeral-point}
+use Rattle.interval.proofs.{SpanFits.{sum-fits, scaled-fits, product-fits}, Rules.{lits}, NumeralSpans.{numeral-point}}
 use Rattle.enclosure.proofs.Constants.{π-span}
 use Rattle.conductors.specs.Weights.{oddEnds}
-use Rattle.conductors.proofs.WeightSpans.{twice-span, less-span}
+use Rattle.conductors.proofs.{WeightSpans.{twice-span, less-span}, weights.odd.Statement.{statement}}
 use borrow.Author.Needs.{needs}
-use Rattle.conductors.proofs.weights.odd.Statement.{statement}
 use Rattle.conductors.proofs.weights.odd.Tie as tie
 
 scaled-requires : tie.Need-scaled-requires
@@ -31,12 +28,4 @@ unfolding oddEnds
 returns c = cc
 
 pub odd-spec : {M : Type 1} → statement M
-odd-spec =
-    tie.close
-    (tie.spec
-    scaled-requires
-    (λ c κs. search needs)
-    (λ c κs. search needs)
-    difference-requires
-    product-requires
-    returns)
+odd-spec = tie.close (tie.spec scaled-requires (λ c κs. search needs) (λ c κs. search needs) difference-requires product-requires returns)

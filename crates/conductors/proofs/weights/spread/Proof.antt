@@ -1,13 +1,10 @@
 -- `spread` is minus a logarithm: π(2n−1) is above 8, and both are inside its range.
 use native.Mathlib.Omega.{arith}
 use lib.Dec.{lit≤}
-use Rattle.interval.proofs.Span.{span-size}
-use Rattle.interval.proofs.Rules.{lits}
-use Rattle.interval.proofs.NumeralSpans.{numeral-wider}
+use Rattle.interval.proofs.{Span.{span-size}, Rules.{lits}, NumeralSpans.{numeral-wider}}
 use Rattle.conductors.specs.Weights.{spreadEnds}
-use Rattle.conductors.proofs.WeightSpans.{odd-span, odd-log-span}
+use Rattle.conductors.proofs.{WeightSpans.{odd-span, odd-log-span}, weights.spread.Statement.{statement}}
 use borrow.Author.Needs.{needs}
-use Rattle.conductors.proofs.weights.spread.Statement.{statement}
 use Rattle.conductors.proofs.weights.spread.Tie as tie
 
 ln-pair-requires : tie.Need-ln-pair-requires

@@ -1,13 +1,11 @@
 -- `changes_of` goes line by line: the search of proofs/LineChanges.antt.
 use Prim.Native.Nat.{_+_, _*_, _-_, _≤_, _<_}
-use mathlib.Core.Path.{_≡_, sym, ap, _∙_}
-use mathlib.Core.List.{[]}
+use mathlib.Core.{Path.{_≡_, sym, ap, _∙_}, List.{[]}}
 use native.Mathlib.Omega.{arith}
 use borrow.Author.Needs.{needs}
 use borrow.Rule.Slice.PartMut.{mid-len}
 use lib.ListN.{length, take, drop, getD}
-use Rattle.tables.specs.Parts.{partsOf}
-use Rattle.tables.proofs.Parts.{parts-length, parts-at}
+use Rattle.tables.{specs.Parts.{partsOf}, proofs.Parts.{parts-length, parts-at}}
 use Rattle.case.specs.Columns.{nameCount}
 use Rattle.judgement.specs.declared.Judgement.the-variants.{Lines}
 use Rattle.conversion.specs.Answer.{lineChange}
@@ -68,9 +66,6 @@ returns c =
     let i = l .before .before in
     changing-refused (i .before .loop .inv .0) (line-there i) (change-is l) (c .before .r .given .1)
 
-enum-told : tie.Need-enum-told Inv-loop μ-loop
-enum-told c = search needs
-
 loop-again : tie.Need-loop-again Inv-loop μ-loop
 loop-again c =
     let l = c .before .before in
@@ -84,23 +79,6 @@ returns-2 c =
 
 pub changes-of-spec : {M : Type 1} → statement M
 changes-of-spec =
-    tie.close
-    (tie.spec
-    Inv-loop
-    μ-loop
-    loop-holds
-    mul-a
-    add-b
-    (λ c. search needs)
-    mul-line-change
-    (λ c. search needs)
-    (λ c. search needs)
-    part-line-change-end
-    line-change-requires
-    (λ c. search needs)
-    returns
-    enum-told
-    (λ c. search needs)
-    (λ c. search needs)
-    loop-again
-    returns-2)
+    tie.close (tie.spec Inv-loop μ-loop loop-holds mul-a add-b (λ c. search needs) mul-line-change (λ c. search needs) (λ c. search needs)
+    part-line-change-end line-change-requires (λ c. search needs) returns (λ c. search needs) (λ c. search needs) (λ c. search needs)
+    loop-again returns-2)

@@ -1,14 +1,9 @@
 -- `first_change` meets its contract: nothing is left out on the way to today's form.
 use borrow.Author.Needs.{needs}
-use Rattle.case.specs.Columns.{name-count}
-use Rattle.case.specs.Parts.{formOf}
-use Rattle.conversion.specs.Values.{other}
-use Rattle.conversion.specs.Answer.{changes}
+use Rattle.case.specs.{Columns.{name-count}, Parts.{formOf}}
+use Rattle.conversion.specs.{Values.{other}, Answer.{changes}}
 use Rattle.conversion.proofs.changes.first_change.Statement.{statement}
 use Rattle.conversion.proofs.changes.first_change.Tie as tie
-
-enum-told : tie.Need-enum-told
-enum-told c = search needs
 
 changes-of-requires : tie.Need-changes-of-requires
 unfolding formOf other
@@ -23,5 +18,4 @@ unfolding changes formOf other
 returns-2 c = rw (c .before .enum-told2 .given .1, name-count) (c .changes-of .ensures)
 
 pub first-change-spec : {M : Type 1} → statement M
-first-change-spec =
-    tie.close (tie.spec enum-told (λ c. search needs) changes-of-requires returns returns-2)
+first-change-spec = tie.close (tie.spec (λ c. search needs) (λ c. search needs) changes-of-requires returns returns-2)

@@ -15,11 +15,4 @@ returns : tie.Need-returns
 returns c = c .before .before .put-bytes .ensures
 
 pub put-name-spec : {M : Type 1} → statement M
-put-name-spec =
-    tie.close
-    (tie.spec
-    (λ c. search needs)
-    slice-aggregate-put-bytes
-    put-bytes-requires
-    (λ c. search needs)
-    returns)
+put-name-spec = tie.close (tie.spec (λ c. search needs) slice-aggregate-put-bytes put-bytes-requires (λ c. search needs) returns)

@@ -4,8 +4,7 @@ use native.Mathlib.Omega.{arith}
 use borrow.Author.Needs.{needs}
 use lib.ListN.{length}
 use Rattle.case.specs.Parts.{formOf}
-use Rattle.header.specs.Parts.{nameAt}
-use Rattle.header.proofs.NameTable.{place-spells}
+use Rattle.header.{specs.Parts.{nameAt}, proofs.NameTable.{place-spells}}
 use Rattle.writing.specs.Put.{Put}
 use Rattle.conversion.proofs.NamesLine.{NamesAt, names-start, name-room, parting-room, named-size, name-step, names-end}
 use Rattle.conversion.proofs.names.put_names.Statement.{statement}
@@ -24,8 +23,7 @@ loop-holds c = names-start _ _ (c .before .before .before .pre)
 abbrev turn : tie.After-put-name Inv-loop μ-loop → tie.In-loop Inv-loop μ-loop
 turn p = p .before .before .before .before
 
-within : (i : tie.In-loop Inv-loop μ-loop)
-    → i .before .loop .k < length (formOf (i .before .before .before .before .before .args .form))
+within : (i : tie.In-loop Inv-loop μ-loop) → i .before .loop .k < length (formOf (i .before .before .before .before .before .args .form))
 within i = omega (arith, i .loop-test .taken, i .before .before .name-count .ensures)
 
 place-requires : tie.Need-place-requires Inv-loop μ-loop
@@ -71,22 +69,6 @@ returns c = names-end (c .before .loop .inv) (omega (arith, c .loop-test .left, 
 
 pub put-names-spec : {M : Type 1} → statement M
 put-names-spec =
-    tie.close
-    (tie.spec
-    Inv-loop
-    μ-loop
-    (λ c κs. search needs)
-    (λ c κs. search needs)
-    loop-holds
-    place-requires
-    (λ c. omega (arith, c .place .ensures .within))
-    (λ c. omega (arith, c .place .ensures .within))
-    put-name-requires
-    (λ c. search needs)
-    (λ c κs. search needs)
-    slice-write-line
-    add-p
-    (λ c. search needs)
-    loop-again
-    same-length
-    returns)
+    tie.close (tie.spec Inv-loop μ-loop (λ c κs. search needs) (λ c κs. search needs) loop-holds place-requires
+    (λ c. omega (arith, c .place .ensures .within)) (λ c. omega (arith, c .place .ensures .within)) put-name-requires (λ c. search needs)
+    (λ c κs. search needs) slice-write-line add-p (λ c. search needs) loop-again same-length returns)

@@ -9,8 +9,7 @@ use Rattle.tables.proofs.Writing.{put-written-as}
 use Rattle.case.specs.Parts.{formOf}
 use Rattle.conversion.specs.Values.{other, carried}
 use Rattle.conversion.proofs.Converting.{carried-count, part-room, part-is, Converting, converting-start, converting-step}
-use Rattle.conversion.proofs.Converting.{converting-end}
-use Rattle.conversion.proofs.values.convert.Statement.{statement}
+use Rattle.conversion.proofs.{Converting.{converting-end}, values.convert.Statement.{statement}}
 use Rattle.conversion.proofs.values.convert.Tie as tie
 
 abbrev Inv-loop : tie.InvT-loop
@@ -93,29 +92,7 @@ returns c = converting-end (c .before .loop .inv) (c .loop-test .left)
 
 pub convert-spec : {M : Type 1} → statement M
 convert-spec =
-    tie.close
-    (tie.spec
-    Inv-loop
-    μ-loop
-    (λ c κs. search needs)
-    (λ c κs. search needs)
-    (λ c κs. search needs)
-    loop-holds
-    mul-a
-    add-b
-    mul-c
-    add-d
-    mul-convert-line
-    (λ c. search needs)
-    (λ c. search needs)
-    part-convert-line-end
-    mul-convert-line-2
-    (λ c. search needs)
-    (λ c. search needs)
-    part-convert-line-end-2
-    convert-line-requires
-    (λ c. search needs)
-    (λ c. search needs)
-    loop-again
-    same-length
+    tie.close (tie.spec Inv-loop μ-loop (λ c κs. search needs) (λ c κs. search needs) (λ c κs. search needs) loop-holds mul-a add-b mul-c
+    add-d mul-convert-line (λ c. search needs) (λ c. search needs) part-convert-line-end mul-convert-line-2 (λ c. search needs)
+    (λ c. search needs) part-convert-line-end-2 convert-line-requires (λ c. search needs) (λ c. search needs) loop-again same-length
     returns)

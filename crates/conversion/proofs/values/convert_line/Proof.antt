@@ -2,15 +2,10 @@
 use mathlib.Core.Path.{_≡_, sym, ap, _∙_}
 use lib.ListN.{length}
 use borrow.Author.Needs.{needs}
-use Rattle.case.specs.Columns.{name-count, former-name-count}
-use Rattle.case.specs.Parts.{formOf}
+use Rattle.case.specs.{Columns.{name-count, former-name-count}, Parts.{formOf}}
 use Rattle.conversion.specs.Values.{other}
-use Rattle.conversion.proofs.Converting.{carried-count}
-use Rattle.conversion.proofs.values.convert_line.Statement.{statement}
+use Rattle.conversion.proofs.{Converting.{carried-count}, values.convert_line.Statement.{statement}}
 use Rattle.conversion.proofs.values.convert_line.Tie as tie
-
-enum-told : tie.Need-enum-told
-enum-told c = search needs
 
 present-values-requires : tie.Need-present-values-requires
 unfolding formOf other
@@ -58,17 +53,5 @@ returns-2 c =
 
 pub convert-line-spec : {M : Type 1} → statement M
 convert-line-spec =
-    tie.close
-    (tie.spec
-    enum-told
-    present-values-requires
-    (λ c. search needs)
-    copy-requires
-    (λ c. search needs)
-    former-values-requires
-    (λ c. search needs)
-    copy-requires-2
-    same-length
-    returns
-    same-length-2
-    returns-2)
+    tie.close (tie.spec (λ c. search needs) present-values-requires (λ c. search needs) copy-requires (λ c. search needs)
+    former-values-requires (λ c. search needs) copy-requires-2 same-length returns same-length-2 returns-2)

@@ -4,9 +4,6 @@ use Rattle.conversion.specs.Values.{other}
 use Rattle.conversion.proofs.values.other_form.Statement.{statement}
 use Rattle.conversion.proofs.values.other_form.Tie as tie
 
-enum-told : tie.Need-enum-told
-enum-told c = search needs
-
 returns : tie.Need-returns
 unfolding other
 returns c = rw (c .enum-told .given .1)
@@ -16,4 +13,4 @@ unfolding other
 returns-2 c = rw (c .enum-told2 .given .1)
 
 pub other-form-spec : {M : Type 1} → statement M
-other-form-spec = tie.close (tie.spec enum-told (λ c. search needs) returns returns-2)
+other-form-spec = tie.close (tie.spec (λ c. search needs) (λ c. search needs) returns returns-2)

@@ -4,8 +4,7 @@ use lib.Dec.{lit<}
 use Rattle.interval.proofs.SpanFits.{scaled-fits, outward-fits}
 use Rattle.decrement.proofs.Widths.{factor-span}
 use Rattle.current.specs.Ends.{currentEnds}
-use Rattle.current.proofs.GridCurrent.{entering-bounds, entering-span}
-use Rattle.current.proofs.grid.grid_current.Statement.{statement}
+use Rattle.current.proofs.{GridCurrent.{entering-bounds, entering-span}, grid.grid_current.Statement.{statement}}
 use Rattle.current.proofs.grid.grid_current.Tie as tie
 
 mul-scaled : tie.Need-mul-scaled

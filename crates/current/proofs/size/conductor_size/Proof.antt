@@ -2,9 +2,7 @@
 use native.Mathlib.Omega.{arith}
 use borrow.Author.Needs.{needs}
 use Rattle.formulas.proofs.Size.{duty-bound}
-use Rattle.current.proofs.GridCurrent.{upper-bounds}
-use Rattle.current.proofs.SquareLoad.{load-bound}
-use Rattle.current.proofs.Smallest.{size-is}
+use Rattle.current.proofs.{GridCurrent.{upper-bounds}, SquareLoad.{load-bound}, Smallest.{size-is}}
 use Rattle.current.proofs.size.conductor_size.Statement.{statement}
 use Rattle.current.proofs.size.conductor_size.Tie as tie
 

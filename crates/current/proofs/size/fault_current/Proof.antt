@@ -1,10 +1,7 @@
 -- `fault_current` is the product of fault and the factor's upper end.
 use lib.Dec.{lit<}
 use mir.Facts.{toZ-ofZ}
-use Rattle.interval.specs.Span.{Span}
-use Rattle.interval.proofs.Bits.{Held, natural-cast}
-use Rattle.interval.proofs.Fits.{fits-product}
-use Rattle.interval.proofs.SpanFits.{read-upper}
+use Rattle.interval.{specs.Span.{Span}, proofs.{Bits.{Held, natural-cast}, Fits.{fits-product}, SpanFits.{read-upper}}}
 use Rattle.exponential.specs.Ends.{billion}
 use Rattle.decrement.proofs.Widths.{factor-span}
 use borrow.Author.Needs.{needs}
@@ -25,8 +22,7 @@ cast-result-2 : tie.Need-cast-result-2
 cast-result-2 c = natural-cast (span c .b) (held c .1) (read-upper (held c) (span c))
 
 mul-result : tie.Need-mul-result
-mul-result c =
-    rw (read-upper (held c) (span c)) (fits-product (start c .pre .0 .fault .high) (span c .to) (lit< tt))
+mul-result c = rw (read-upper (held c) (span c)) (fits-product (start c .pre .0 .fault .high) (span c .to) (lit< tt))
 
 returns : tie.Need-returns
 returns c = rw (toZ-ofZ (held c .1), start c .pre .1)

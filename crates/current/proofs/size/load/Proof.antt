@@ -2,16 +2,10 @@
 use mathlib.Core.Path.{_≡_}
 use borrow.Author.Needs.{needs}
 use lib.Dec.{lit<}
-use Rattle.formulas.specs.Size.{duty, Kf}
-use Rattle.current.proofs.GridCurrent.{upper-bounds}
-use Rattle.formulas.proofs.Size.{kf-bounds}
+use Rattle.formulas.{specs.Size.{duty, Kf}, proofs.Size.{kf-bounds}}
+use Rattle.current.proofs.{GridCurrent.{upper-bounds}, Metals.{kf-found, kf-missing}, size.load.Statement.{statement}}
 use Rattle.interval.proofs.Fits.{fits-triple}
-use Rattle.current.proofs.Metals.{kf-found, kf-missing}
-use Rattle.current.proofs.size.load.Statement.{statement}
 use Rattle.current.proofs.size.load.Tie as tie
-
-enum-told : tie.Need-enum-told
-enum-told c = search needs
 
 returns : tie.Need-returns
 returns c =
@@ -37,5 +31,5 @@ returns-2 c = rw (c .before .before .before .before .fault-current .ensures, kf-
 
 pub load-spec : {M : Type 1} → statement M
 load-spec =
-    tie.close (tie.spec (λ c κs. search needs) (λ c κs. search needs) (λ c. search needs) enum-told returns (λ c. search needs) mul-result
-    returns-2)
+    tie.close (tie.spec (λ c κs. search needs) (λ c κs. search needs) (λ c. search needs) (λ c. search needs) returns (λ c. search needs)
+    mul-result returns-2)

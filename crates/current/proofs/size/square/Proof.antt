@@ -5,8 +5,8 @@ use native.Mathlib.Omega.{arith}
 use lib.Dec.{lit<}
 use Rattle.current.specs.Size.{squareOf}
 use Rattle.current.proofs.SquareLoad.{part-small, lowest, low, middle, high, lowest-small, low-small, middle-small, high-small}
-use borrow.Author.Needs.{needs}
 use Rattle.current.proofs.size.square.Statement.{statement}
+use borrow.Author.Needs.{needs}
 use Rattle.current.proofs.size.square.Tie as tie
 
 -- what is carried is as named
@@ -111,21 +111,6 @@ returns c = rw (high-is c, c .before .before .part5 .ensures)
 
 pub square-spec : {M : Type 1} → statement M
 square-spec =
-    tie.close
-    (tie.spec
-    (λ c κs. search needs)
-    carried-requires
-    (λ c. search needs)
-    (λ c κs. search needs)
-    carried-requires-2
-    (λ c. search needs)
-    (λ c κs. search needs)
-    (λ c κs. search needs)
-    add-carried
-    carried-requires-3
-    (λ c κs. search needs)
-    (λ c. search needs)
-    (λ c κs. search needs)
-    carried-requires-4
-    add-result
-    returns)
+    tie.close (tie.spec (λ c κs. search needs) carried-requires (λ c. search needs) (λ c κs. search needs) carried-requires-2
+    (λ c. search needs) (λ c κs. search needs) (λ c κs. search needs) add-carried carried-requires-3 (λ c κs. search needs)
+    (λ c. search needs) (λ c κs. search needs) carried-requires-4 add-result returns)

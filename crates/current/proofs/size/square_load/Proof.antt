@@ -1,7 +1,6 @@
 -- `square_load` parts x by a million.
 use Rattle.current.specs.Size.{squareLoad}
-use Rattle.current.proofs.SquareLoad.{within}
-use Rattle.current.proofs.size.square_load.Statement.{statement}
+use Rattle.current.proofs.{SquareLoad.{within}, size.square_load.Statement.{statement}}
 use Rattle.current.proofs.size.square_load.Tie as tie
 
 square-requires : tie.Need-square-requires

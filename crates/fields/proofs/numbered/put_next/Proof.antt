@@ -1,11 +1,9 @@
 -- `put_next` writes a byte and a text.
-use mathlib.Core.Path.{refl, _∙_}
-use mathlib.Core.List.{_∷_}
+use mathlib.Core.{Path.{refl, _∙_}, List.{_∷_}}
 use native.Mathlib.Omega.{arith}
 use borrow.Author.Needs.{needs}
 use lib.ListN.{length-set}
-use Rattle.writing.specs.Decimal.{decimal}
-use Rattle.writing.proofs.Filling.{Filling, filling-start, filling-rest, byte-step, put-size}
+use Rattle.writing.{specs.Decimal.{decimal}, proofs.Filling.{Filling, filling-start, filling-rest, byte-step, put-size}}
 use Rattle.fields.proofs.numbered.put_next.Statement.{statement}
 use Rattle.fields.proofs.numbered.put_next.Tie as tie
 
@@ -29,5 +27,4 @@ returns c =
     filling-rest (byte-step (whole s) 44 (decimal (s .args .n)) refl) (k .put-wide .ensures)
 
 pub put-next-spec : {M : Type 1} → statement M
-put-next-spec =
-    tie.close (tie.spec (λ c. search needs) (λ c. search needs) put-wide-requires same-length returns)
+put-next-spec = tie.close (tie.spec (λ c. search needs) (λ c. search needs) put-wide-requires same-length returns)

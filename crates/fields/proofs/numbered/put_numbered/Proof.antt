@@ -1,13 +1,12 @@
 -- `put_numbered` writes the word, then a comma and a number for each, then the byte 10: proofs/Refusals.antt.
 use Prim.Native.Nat.{ℕ, _+_, _-_}
-use mathlib.Core.Path.{_≡_, refl, _∙_}
-use mathlib.Core.List.{List, [], _∷_, _++_}
+use mathlib.Core.{Path.{_≡_, refl, _∙_}, List.{List, [], _∷_, _++_}}
 use native.Mathlib.Omega.{arith}
 use borrow.Author.Needs.{needs}
 use lib.ListN.{length, getD, length-set}
 use Rattle.writing.specs.Decimal.{decimal}
-use Rattle.writing.proofs.Filling.{Filling, filling-start, filling-room, filling-rest, filling-end}
-use Rattle.writing.proofs.Filling.{text-room, text-step, byte-room, byte-step}
+use Rattle.writing.proofs.Filling.{Filling, filling-start, filling-room, filling-rest, filling-end, text-room, text-step, byte-room}
+use Rattle.writing.proofs.Filling.{byte-step}
 use Rattle.fields.specs.Refusal.{numbered}
 use Rattle.fields.proofs.Refusals.{numbersFrom, numbered-parts, number-next, numbers-end, numbered-most}
 use Rattle.fields.proofs.numbered.put_numbered.Statement.{statement}
@@ -100,19 +99,5 @@ returns c =
 
 pub put-numbered-spec : {M : Type 1} → statement M
 put-numbered-spec =
-    tie.close
-    (tie.spec
-    Inv-loop
-    μ-loop
-    put-bytes-requires
-    loop-holds
-    (λ c. search needs)
-    (λ c. search needs)
-    put-next-requires
-    (λ c. search needs)
-    (λ c. search needs)
-    loop-again
-    slice-write-buf
-    add-result
-    same-length
-    returns)
+    tie.close (tie.spec Inv-loop μ-loop put-bytes-requires loop-holds (λ c. search needs) (λ c. search needs) put-next-requires
+    (λ c. search needs) (λ c. search needs) loop-again slice-write-buf add-result same-length returns)

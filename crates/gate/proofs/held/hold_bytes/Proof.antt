@@ -24,15 +24,5 @@ same-length c = c .before .loop .inv
 
 pub hold-bytes-spec : {M : Type 1} → statement M
 hold-bytes-spec =
-    tie.close
-    (tie.spec
-    Inv-loop
-    μ-loop
-    loop-holds
-    (λ c κs. search needs)
-    (λ c. search needs)
-    (λ c. search needs)
-    (λ c. search needs)
-    loop-again
-    same-length
-    (λ c. search needs))
+    tie.close (tie.spec Inv-loop μ-loop loop-holds (λ c κs. search needs) (λ c. search needs) (λ c. search needs) (λ c. search needs)
+    loop-again same-length (λ c. search needs))

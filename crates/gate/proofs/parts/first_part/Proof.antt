@@ -2,9 +2,7 @@
 use native.Mathlib.Omega.{arith}
 use lib.ListN.{length-drop}
 use borrow.Author.Needs.{needs}
-use Rattle.text.proofs.Searching.{index-within}
-use Rattle.text.proofs.FieldTurns.{part-end}
-use Rattle.text.proofs.LineTurns.{skipped-shorter}
+use Rattle.text.proofs.{Searching.{index-within}, FieldTurns.{part-end}, LineTurns.{skipped-shorter}}
 use Rattle.gate.proofs.parts.first_part.Statement.{statement}
 use Rattle.gate.proofs.parts.first_part.Tie as tie
 

@@ -1,15 +1,11 @@
 -- `gate::print::signed` is safe: the bits of a number below 0, turned round, read as its magnitude less one.
 use Prim.Native.Nat.{_-_}
-use mathlib.Core.Path.{_≡_, _∙_, ap}
-use mathlib.Core.Bool.{true}
+use mathlib.Core.{Path.{_≡_, _∙_, ap}, Bool.{true}}
 use native.Mathlib.Omega.{arith}
 use borrow.Author.Needs.{needs}
-use lib.IntN.{pos}
-use lib.Signed.{mag, ltZ}
-use mir.Syntax.{w64}
-use mir.Val.{toZ, ofZ}
-use Rattle.interval.specs.Whole.{flipZ}
-use Rattle.interval.proofs.Bits.{read, flipped, below-zero}
+use lib.{IntN.{pos}, Signed.{mag, ltZ}}
+use mir.{Syntax.{w64}, Val.{toZ, ofZ}}
+use Rattle.interval.{specs.Whole.{flipZ}, proofs.Bits.{read, flipped, below-zero}}
 use Rattle.gate.proofs.print.signed.Statement.{statement}
 use Rattle.gate.proofs.print.signed.Tie as tie
 
@@ -29,14 +25,5 @@ add-number c =
 
 pub signed-spec : {M : Type 1} → statement M
 signed-spec =
-    tie.close
-    (tie.spec
-    (λ c. search needs)
-    (λ c κs. search needs)
-    cast-number
-    add-number
-    (λ c κs. search needs)
-    (λ c κs. search needs)
-    (λ c κs. search needs)
-    (λ c. search needs)
-    (λ c. search needs))
+    tie.close (tie.spec (λ c. search needs) (λ c κs. search needs) cast-number add-number (λ c κs. search needs) (λ c κs. search needs)
+    (λ c κs. search needs) (λ c. search needs) (λ c. search needs))

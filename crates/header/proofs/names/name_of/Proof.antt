@@ -7,8 +7,7 @@ use lib.ListN.{length}
 use Rattle.text.specs.Text.{same}
 use Rattle.case.specs.Parts.{formOf}
 use Rattle.header.specs.Parts.{nameAt}
-use Rattle.header.proofs.NameTable.{place-spells}
-use Rattle.header.proofs.Naming.{Naming, naming-start, naming-found, naming-step, naming-end}
+use Rattle.header.proofs.{NameTable.{place-spells}, Naming.{Naming, naming-start, naming-found, naming-step, naming-end}}
 use Rattle.header.proofs.names.name_of.Statement.{statement}
 use Rattle.header.proofs.names.name_of.Tie as tie
 
@@ -22,8 +21,7 @@ loop-holds : tie.Need-loop-holds Inv-loop μ-loop
 loop-holds c = naming-start _ _
 
 -- a turn of the loop has a name left, which it asks for
-within : (i : tie.In-loop Inv-loop μ-loop)
-    → i .before .loop .k < length (formOf (i .before .before .before .before .before .args .form))
+within : (i : tie.In-loop Inv-loop μ-loop) → i .before .loop .k < length (formOf (i .before .before .before .before .before .args .form))
 within i = omega (arith, i .loop-test .taken, i .before .before .name-count .ensures)
 
 place-requires : tie.Need-place-requires Inv-loop μ-loop
@@ -58,19 +56,6 @@ returns-2 c = naming-end (c .before .loop .inv) (search needs)
 
 pub name-of-spec : {M : Type 1} → statement M
 name-of-spec =
-    tie.close
-    (tie.spec
-    Inv-loop
-    μ-loop
-    (λ c κs. search needs)
-    (λ c κs. search needs)
-    loop-holds
-    place-requires
-    (λ c. omega (arith, c .place .ensures .within))
-    (λ c. omega (arith, c .place .ensures .within))
-    is-name-requires
-    returns
-    (λ c. search needs)
-    (λ c. search needs)
-    loop-again
-    returns-2)
+    tie.close (tie.spec Inv-loop μ-loop (λ c κs. search needs) (λ c κs. search needs) loop-holds place-requires
+    (λ c. omega (arith, c .place .ensures .within)) (λ c. omega (arith, c .place .ensures .within)) is-name-requires returns
+    (λ c. search needs) (λ c. search needs) loop-again returns-2)

@@ -7,8 +7,7 @@ use Rattle.case.proofs.Bounds.{record-bounds}
 use Rattle.yards.specs.Yards.{isSafe}
 use Rattle.headroom.specs.Headroom.{RightRoom, checked}
 use Rattle.headroom.proofs.Halving.{Halving, halving-start, halving-safe, halving-over, halving-none, halving-found, fault-bounds}
-use Rattle.headroom.proofs.Rows.{rowsLeft, halved}
-use Rattle.headroom.proofs.search.greatest_fault.Statement.{statement}
+use Rattle.headroom.proofs.{Rows.{rowsLeft, halved}, search.greatest_fault.Statement.{statement}}
 use Rattle.headroom.proofs.search.greatest_fault.Tie as tie
 
 abbrev Inv-loop : tie.InvT-loop
@@ -68,21 +67,5 @@ returns-2 c =
 
 pub greatest-fault-spec : {M : Type 1} → statement M
 greatest-fault-spec =
-    tie.close
-    (tie.spec
-    Inv-loop
-    μ-loop
-    (λ c. search needs)
-    (λ c. search needs)
-    loop-holds
-    sub-loop
-    sub-middle
-    add-middle
-    (λ c κs. search needs)
-    is-safe-requires
-    loop-less
-    loop-again
-    loop-less-2
-    loop-again-2
-    returns
-    returns-2)
+    tie.close (tie.spec Inv-loop μ-loop (λ c. search needs) (λ c. search needs) loop-holds sub-loop sub-middle add-middle
+    (λ c κs. search needs) is-safe-requires loop-less loop-again loop-less-2 loop-again-2 returns returns-2)

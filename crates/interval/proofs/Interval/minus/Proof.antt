@@ -3,14 +3,10 @@ use Prim.Native.Nat.{_≤_, _<_, _^_}
 use mathlib.Core.Path.{_≡_}
 use native.Mathlib.Omega.{arith}
 use borrow.Author.Needs.{needs}
-use lib.IntN.{ℤ, pos, negsuc, natAbs, negℤ, _-ℤ_, +ℤ-idl}
-use lib.Signed.{mag}
-use mir.Facts.{toZ-ofZ}
-use mir.Syntax.{w64}
-use mir.Val.{SFits, toZ, ofZ}
+use lib.{IntN.{ℤ, pos, negsuc, natAbs, negℤ, _-ℤ_, +ℤ-idl}, Signed.{mag}}
+use mir.{Facts.{toZ-ofZ}, Syntax.{w64}, Val.{SFits, toZ, ofZ}}
 use Rattle.interval.specs.Operations.{size, minusOf}
-use Rattle.interval.proofs.Signed.{size-neg}
-use Rattle.interval.proofs.Interval.minus.Statement.{statement}
+use Rattle.interval.proofs.{Signed.{size-neg}, Interval.minus.Statement.{statement}}
 use Rattle.interval.proofs.Interval.minus.Tie as tie
 
 magnitude≤ : (z : ℤ) → mag z ≤ natAbs z

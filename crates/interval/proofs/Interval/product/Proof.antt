@@ -2,8 +2,7 @@
 use native.Mathlib.Nat.{lt-of-le-of-lt}
 use borrow.Author.Needs.{needs}
 use Rattle.interval.specs.Operations.{productOf}
-use Rattle.interval.proofs.Sizes.{size-corners}
-use Rattle.interval.proofs.Interval.product.Statement.{statement}
+use Rattle.interval.proofs.{Sizes.{size-corners}, Interval.product.Statement.{statement}}
 use Rattle.interval.proofs.Interval.product.Tie as tie
 
 outward-requires : tie.Need-outward-requires

@@ -2,13 +2,10 @@
 use Prim.Native.Nat.{_<_, _^_}
 use native.Mathlib.Nat.{lt-of-le-of-lt}
 use borrow.Author.Needs.{needs}
-use lib.IntN.{pos}
-use lib.Signed.{_≤ℤ_}
+use lib.{IntN.{pos}, Signed.{_≤ℤ_}}
 use mir.Facts.{toZ-ofZ, fits-natAbs}
 use Rattle.interval.specs.Operations.{size, quotientOf}
-use Rattle.interval.proofs.Choice.{≤ℤ-trans}
-use Rattle.interval.proofs.Sizes.{size-scaled, size-positive, positive-natural}
-use Rattle.interval.proofs.Bits.{Held}
+use Rattle.interval.proofs.{Choice.{≤ℤ-trans}, Sizes.{size-scaled, size-positive, positive-natural}, Bits.{Held}}
 use Rattle.interval.proofs.Interval.quotient.Statement.{statement}
 use Rattle.interval.proofs.Interval.quotient.Tie as tie
 
@@ -56,5 +53,5 @@ returns c =
 
 pub quotient-spec : {M : Type 1} → statement M
 quotient-spec =
-    tie.close
-    (tie.spec (λ c κs. search needs) cast-outward outward-requires cast-outward-2 outward-requires-2 (λ c κs. search needs) returns)
+    tie.close (tie.spec (λ c κs. search needs) cast-outward outward-requires cast-outward-2 outward-requires-2 (λ c κs. search needs)
+    returns)

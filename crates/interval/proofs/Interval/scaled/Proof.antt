@@ -3,11 +3,9 @@ use Prim.Native.Nat.{_<_, _^_}
 use native.Mathlib.Nat.{lt-of-le-of-lt}
 use borrow.Author.Needs.{needs}
 use lib.IntN.{pos, natAbs, _*ℤ_}
-use mir.Syntax.{w64}
-use mir.Val.{SFits}
+use mir.{Syntax.{w64}, Val.{SFits}}
 use Rattle.interval.specs.Operations.{size, scaledOf}
-use Rattle.interval.proofs.Sizes.{size-scaled, lower-below, upper-below}
-use Rattle.interval.proofs.Bits.{Held, result-fits, result-is}
+use Rattle.interval.proofs.{Sizes.{size-scaled, lower-below, upper-below}, Bits.{Held, result-fits, result-is}}
 use Rattle.interval.proofs.Interval.scaled.Statement.{statement}
 use Rattle.interval.proofs.Interval.scaled.Tie as tie
 

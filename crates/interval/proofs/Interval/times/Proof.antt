@@ -4,8 +4,7 @@ use native.Mathlib.Nat.{lt-of-le-of-lt, le-refl}
 use borrow.Author.Needs.{needs}
 use lib.IntN.{ℤ, natAbs, _*ℤ_}
 use Rattle.interval.specs.Operations.{size, timesOf}
-use Rattle.interval.proofs.Sizes.{size-lower, size-upper, size-factors}
-use Rattle.interval.proofs.Bits.{Held, back, result-fits, result-is}
+use Rattle.interval.proofs.{Sizes.{size-lower, size-upper, size-factors}, Bits.{Held, back, result-fits, result-is}}
 use Rattle.interval.proofs.Interval.times.Statement.{statement}
 use Rattle.interval.proofs.Interval.times.Tie as tie
 

@@ -3,11 +3,8 @@ use mathlib.Core.Path.{_≡_, sym, ap, _∙_}
 use borrow.Author.Needs.{needs}
 use lib.IntN.{pos}
 use mir.Facts.{toZ-ofZ}
-use Rattle.interval.specs.declared.Interval.{Interval}
-use Rattle.interval.specs.Operations.{natural}
-use Rattle.interval.specs.Wide.{Wide, WideFits}
-use Rattle.interval.proofs.Bits.{read, Held, natural-cast}
-use Rattle.interval.proofs.WideProduct.{floor-size, ceil-size, wide-less, wide-is}
+use Rattle.interval.specs.{declared.Interval.{Interval}, Operations.{natural}, Wide.{Wide, WideFits}}
+use Rattle.interval.proofs.{Bits.{read, Held, natural-cast}, WideProduct.{floor-size, ceil-size, wide-less, wide-is}}
 use Rattle.interval.proofs.Interval.wide_product.Statement.{statement}
 use Rattle.interval.proofs.Interval.wide_product.Tie as tie
 
@@ -79,6 +76,4 @@ returns c =
     ∙ rw (f .floor .ensures, g .ceil .ensures, self-lower s, self-upper s, other-lower s, other-upper s) (sym (wide-is (wide s)))
 
 pub wide-product-spec : {M : Type 1} → statement M
-wide-product-spec =
-    tie.close
-    (tie.spec cast-floor cast-floor-2 floor-requires cast-ceil cast-ceil-2 ceil-requires natural-requires returns)
+wide-product-spec = tie.close (tie.spec cast-floor cast-floor-2 floor-requires cast-ceil cast-ceil-2 ceil-requires natural-requires returns)

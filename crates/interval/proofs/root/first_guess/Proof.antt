@@ -2,8 +2,7 @@
 use native.Mathlib.Omega.{arith}
 use borrow.Author.Needs.{needs}
 use lib.Count.{leading-le, leading-length}
-use Rattle.interval.proofs.FirstGuess.{shift-positive, shift-not-below}
-use Rattle.interval.proofs.root.first_guess.Statement.{statement}
+use Rattle.interval.proofs.{FirstGuess.{shift-positive, shift-not-below}, root.first_guess.Statement.{statement}}
 use Rattle.interval.proofs.root.first_guess.Tie as tie
 
 sub-result : tie.Need-sub-result

@@ -4,8 +4,7 @@ use native.Mathlib.Omega.{arith}
 use borrow.Author.Needs.{needs}
 use lib.Dec.{lit<}
 use Rattle.interval.specs.Root.{NotBelow}
-use Rattle.interval.proofs.Fits.{fits-product}
-use Rattle.interval.proofs.Newton.{guess-positive, quotient-below, newton-above, newton-below}
+use Rattle.interval.proofs.{Fits.{fits-product}, Newton.{guess-positive, quotient-below, newton-above, newton-below}}
 use Rattle.interval.proofs.root.isqrt.Statement.{statement}
 use Rattle.interval.proofs.root.isqrt.Tie as tie
 
@@ -39,5 +38,4 @@ returns : tie.Need-returns Inv-loop μ-loop
 returns c = record { low = c .loop-test .left; high = c .before .loop .inv .high }
 
 pub isqrt-spec : {M : Type 1} → statement M
-isqrt-spec =
-    tie.close (tie.spec Inv-loop μ-loop (λ c κs. search needs) loop-holds mul-loop div-r add-r loop-less loop-again returns)
+isqrt-spec = tie.close (tie.spec Inv-loop μ-loop (λ c κs. search needs) loop-holds mul-loop div-r add-r loop-less loop-again returns)

@@ -1,11 +1,9 @@
 -- `root_ends` gives the root and the next number.
 use Prim.Native.Nat.{_<_}
-use native.Mathlib.Nat.{lt-of-lt-of-le}
-use native.Mathlib.Omega.{arith}
+use native.Mathlib.{Nat.{lt-of-lt-of-le}, Omega.{arith}}
 use borrow.Author.Needs.{needs}
 use lib.Dec.{lit≤}
-use Rattle.interval.proofs.Roots.{root-below}
-use Rattle.interval.proofs.root.root_ends.Statement.{statement}
+use Rattle.interval.proofs.{Roots.{root-below}, root.root_ends.Statement.{statement}}
 use Rattle.interval.proofs.root.root_ends.Tie as tie
 
 small : (c : tie.After-isqrt) → c .isqrt .result < 4294967296

@@ -5,9 +5,7 @@ use native.Mathlib.Omega.{arith}
 use borrow.Author.Needs.{needs, sfits-of}
 use lib.IntN.{natAbs, negℤ}
 use Rattle.interval.specs.Whole.{floorZ, ceilZ}
-use Rattle.interval.proofs.Signed.{size-neg, size-floor}
-use Rattle.interval.proofs.Bits.{negated-fits, negated-is}
-use Rattle.interval.proofs.whole.ceil_div.Statement.{statement}
+use Rattle.interval.proofs.{Signed.{size-neg, size-floor}, Bits.{negated-fits, negated-is}, whole.ceil_div.Statement.{statement}}
 use Rattle.interval.proofs.whole.ceil_div.Tie as tie
 
 sub-floor-div : tie.Need-sub-floor-div

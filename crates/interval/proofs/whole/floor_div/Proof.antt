@@ -1,18 +1,12 @@
 -- `floor_div`: a number below 0 is turned round, divided, and turned round again.
 use Prim.Native.Nat.{_-_, _/_, _<_, _^_}
-use mathlib.Core.Path.{_≡_, sym, ap, _∙_}
-use mathlib.Core.Bool.{true, false}
-use native.Mathlib.Nat.{lt-of-le-of-lt, div-le-self}
-use native.Mathlib.Omega.{arith}
+use mathlib.Core.{Path.{_≡_, sym, ap, _∙_}, Bool.{true, false}}
+use native.Mathlib.{Nat.{lt-of-le-of-lt, div-le-self}, Omega.{arith}}
 use borrow.Author.Needs.{needs}
-use lib.IntN.{pos}
-use lib.Signed.{mag, ltZ}
-use mir.Syntax.{w64}
-use mir.Val.{Fits, toZ, ofZ}
-use mir.Facts.{toZ-ofZ, toZ-pos}
+use lib.{IntN.{pos}, Signed.{mag, ltZ}}
+use mir.{Syntax.{w64}, Val.{Fits, toZ, ofZ}, Facts.{toZ-ofZ, toZ-pos}}
 use Rattle.interval.specs.Whole.{flipZ, floorZ}
-use Rattle.interval.proofs.Bits.{read, flipped, below-zero, not-below-zero}
-use Rattle.interval.proofs.whole.floor_div.Statement.{statement}
+use Rattle.interval.proofs.{Bits.{read, flipped, below-zero, not-below-zero}, whole.floor_div.Statement.{statement}}
 use Rattle.interval.proofs.whole.floor_div.Tie as tie
 
 module _ (s : tie.Start) where

@@ -1,11 +1,9 @@
 -- `least` gives the lesser of two.
-use mathlib.Core.Path.{_≡_}
-use mathlib.Core.Bool.{true, false}
+use mathlib.Core.{Path.{_≡_}, Bool.{true, false}}
 use lib.Signed.{leZ}
 use mir.Facts.{toZ-ofZ}
 use Rattle.interval.specs.Whole.{minZ}
-use Rattle.interval.proofs.Bits.{read}
-use Rattle.interval.proofs.whole.least.Statement.{statement}
+use Rattle.interval.proofs.{Bits.{read}, whole.least.Statement.{statement}}
 use Rattle.interval.proofs.whole.least.Tie as tie
 
 returns : tie.Need-returns

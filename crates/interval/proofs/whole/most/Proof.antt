@@ -1,11 +1,9 @@
 -- `most` gives the greater of two.
-use mathlib.Core.Path.{_≡_}
-use mathlib.Core.Bool.{true, false}
+use mathlib.Core.{Path.{_≡_}, Bool.{true, false}}
 use lib.Signed.{leZ}
 use mir.Facts.{toZ-ofZ}
 use Rattle.interval.specs.Whole.{maxZ}
-use Rattle.interval.proofs.Bits.{read}
-use Rattle.interval.proofs.whole.most.Statement.{statement}
+use Rattle.interval.proofs.{Bits.{read}, whole.most.Statement.{statement}}
 use Rattle.interval.proofs.whole.most.Tie as tie
 
 returns : tie.Need-returns

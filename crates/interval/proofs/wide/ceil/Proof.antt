@@ -1,10 +1,8 @@
 -- `ceil` adds the quotient's and the rest's parts, the rest's rounded up.
-use native.Mathlib.Nat.{lt-of-lt-of-le}
-use native.Mathlib.Omega.{arith}
+use native.Mathlib.{Nat.{lt-of-lt-of-le}, Omega.{arith}}
 use lib.Dec.{lit≤}
 use borrow.Author.Needs.{needs}
-use Rattle.interval.proofs.WideProduct.{wide-ceil, rest-high, rounded-parts}
-use Rattle.interval.proofs.wide.ceil.Statement.{statement}
+use Rattle.interval.proofs.{WideProduct.{wide-ceil, rest-high, rounded-parts}, wide.ceil.Statement.{statement}}
 use Rattle.interval.proofs.wide.ceil.Tie as tie
 
 mul-result-2 : tie.Need-mul-result-2

@@ -1,8 +1,7 @@
 -- `floor` adds the quotient's and the rest's parts.
 use native.Mathlib.Omega.{arith}
 use borrow.Author.Needs.{needs}
-use Rattle.interval.proofs.WideProduct.{wide-floor, rest-high, floor-parts}
-use Rattle.interval.proofs.wide.floor.Statement.{statement}
+use Rattle.interval.proofs.{WideProduct.{wide-floor, rest-high, floor-parts}, wide.floor.Statement.{statement}}
 use Rattle.interval.proofs.wide.floor.Tie as tie
 
 mul-result-2 : tie.Need-mul-result-2

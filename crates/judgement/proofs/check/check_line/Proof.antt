@@ -1,11 +1,8 @@
 -- `judgement::check::check_line` meets its contract, by the laws of proofs/LineJudged.antt.
 use lib.ListN.{length}
-use Rattle.case.specs.Parts.{formOf}
-use Rattle.case.proofs.Order.{distinct}
-use Rattle.line.specs.Parts.{LineValues}
-use Rattle.line.proofs.Arranging.{arranged}
-use Rattle.judgement.proofs.Keys.{form-keyed, key-fits}
-use Rattle.judgement.proofs.LineJudged.{judged-form, judged-values}
+use Rattle.case.{specs.Parts.{formOf}, proofs.Order.{distinct}}
+use Rattle.line.{specs.Parts.{LineValues}, proofs.Arranging.{arranged}}
+use Rattle.judgement.proofs.{Keys.{form-keyed, key-fits}, LineJudged.{judged-form, judged-values}}
 use Rattle.judgement.proofs.check.check_line.Statement.{statement}
 use Rattle.judgement.proofs.check.check_line.Tie as tie
 
@@ -43,5 +40,4 @@ returns-2 c =
     (arranged (start v .pre .0) (start v .pre .1 .0) (line-values v) (e .if1 .left)) (c .values-finding .ensures)
 
 pub check-line-spec : {M : Type 1} → statement M
-check-line-spec =
-    tie.close (tie.spec read-values-requires same-length returns values-finding-requires same-length-2 returns-2)
+check-line-spec = tie.close (tie.spec read-values-requires same-length returns values-finding-requires same-length-2 returns-2)

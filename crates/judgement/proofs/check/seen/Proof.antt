@@ -2,8 +2,7 @@
 use Prim.Native.Nat.{_-_}
 use native.Mathlib.Omega.{arith}
 use borrow.Author.Needs.{needs}
-use Rattle.judgement.proofs.Keys.{Seeking, seeking-start, seeking-step, seeking-end}
-use Rattle.judgement.proofs.check.seen.Statement.{statement}
+use Rattle.judgement.proofs.{Keys.{Seeking, seeking-start, seeking-step, seeking-end}, check.seen.Statement.{statement}}
 use Rattle.judgement.proofs.check.seen.Tie as tie
 
 abbrev Inv-loop : tie.InvT-loop

@@ -4,12 +4,8 @@ use native.Mathlib.Omega.{arith}
 use borrow.Author.Needs.{needs}
 use Rattle.case.proofs.Findings.{rods-place}
 use Rattle.judgement.specs.Findings.{orFinding}
-use Rattle.judgement.proofs.Keys.{key-fits}
-use Rattle.judgement.proofs.check.values_finding.Statement.{statement}
+use Rattle.judgement.proofs.{Keys.{key-fits}, check.values_finding.Statement.{statement}}
 use Rattle.judgement.proofs.check.values_finding.Tie as tie
-
-enum-told : tie.Need-enum-told
-enum-told c = search needs
 
 shared-slice-read-key : tie.Need-shared-slice-read-key
 shared-slice-read-key c =
@@ -57,17 +53,5 @@ returns-4 c =
 
 pub values-finding-spec : {M : Type 1} → statement M
 values-finding-spec =
-    tie.close
-    (tie.spec
-    (λ c κs. search needs)
-    (λ c. search needs)
-    (λ c. search needs)
-    enum-told
-    shared-slice-read-key
-    shared-slice-read-key-2
-    key-requires
-    (λ c κs. search needs)
-    returns
-    returns-2
-    returns-3
-    returns-4)
+    tie.close (tie.spec (λ c κs. search needs) (λ c. search needs) (λ c. search needs) (λ c. search needs) shared-slice-read-key
+    shared-slice-read-key-2 key-requires (λ c κs. search needs) returns returns-2 returns-3 returns-4)

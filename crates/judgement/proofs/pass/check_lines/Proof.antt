@@ -4,17 +4,12 @@ use mathlib.Core.Path.{refl, _∙_}
 use native.Mathlib.Omega.{arith}
 use borrow.Author.Needs.{needs}
 use lib.ListN.{length}
-use Rattle.text.proofs.FieldTurns.{part-length}
-use Rattle.text.proofs.LineTurns.{line-shorter}
-use Rattle.case.specs.Parts.{formOf}
-use Rattle.case.proofs.Findings.{rods-place}
-use Rattle.judgement.specs.declared.Judgement.the-variants.{Lines}
-use Rattle.judgement.specs.Limits.{mostLines}
-use Rattle.judgement.proofs.Keys.{form-keyed}
-use Rattle.judgement.proofs.LineJudged.{sound-line}
+use Rattle.text.proofs.{FieldTurns.{part-length}, LineTurns.{line-shorter}}
+use Rattle.case.{specs.Parts.{formOf}, proofs.Findings.{rods-place}}
+use Rattle.judgement.specs.{declared.Judgement.the-variants.{Lines}, Limits.{mostLines}}
+use Rattle.judgement.proofs.{Keys.{form-keyed}, LineJudged.{sound-line}}
 use Rattle.judgement.proofs.Passing.{Passing, passing-start, passing-room, passing-store, stored-value, stored-first}
-use Rattle.judgement.proofs.Passing.{passing-refused, passing-step, passing-end}
-use Rattle.judgement.proofs.pass.check_lines.Statement.{statement}
+use Rattle.judgement.proofs.{Passing.{passing-refused, passing-step, passing-end}, pass.check_lines.Statement.{statement}}
 use Rattle.judgement.proofs.pass.check_lines.Tie as tie
 
 abbrev Inv-loop : tie.InvT-loop
@@ -60,9 +55,6 @@ returns c =
     passing-refused _ (form-keyed (start i .args .form)) (i .before .loop .inv) (i .loop-test .taken)
     (l .before .before .before .before .find .ensures) (l .store-line .ensures)
     (r .refusal .ensures) (c .before .j .given .1)
-
-enum-told : tie.Need-enum-told Inv-loop μ-loop
-enum-told c = search needs
 
 -- the turn of a sound line
 abbrev turn : tie.After-enum-told Inv-loop μ-loop → tie.In-loop Inv-loop μ-loop
@@ -149,36 +141,7 @@ returns-2 c = passing-end (c .before .loop .inv) (c .loop-test .left)
 
 pub check-lines-spec : {M : Type 1} → statement M
 check-lines-spec =
-    tie.close
-    (tie.spec
-    Inv-loop
-    μ-loop
-    loop-holds
-    (λ c κs. search needs)
-    slice-aggregate-store-line
-    (λ c. search needs)
-    store-line-requires
-    add-refusal
-    (λ c κs. search needs)
-    (λ c. search needs)
-    same-length
-    returns
-    enum-told
-    mul-a
-    mul-key
-    slice-read-key
-    add-key
-    mul-key-2
-    slice-read-key-2
-    key-requires
-    mul-keys
-    array-write-keys
-    add-n
-    (λ c κs. search needs)
-    (λ c. search needs)
-    (λ c. search needs)
-    (λ c. search needs)
-    loop-less
-    loop-again
-    same-length-2
-    returns-2)
+    tie.close (tie.spec Inv-loop μ-loop loop-holds (λ c κs. search needs) slice-aggregate-store-line (λ c. search needs) store-line-requires
+    add-refusal (λ c κs. search needs) (λ c. search needs) same-length returns (λ c. search needs) mul-a mul-key slice-read-key add-key
+    mul-key-2 slice-read-key-2 key-requires mul-keys array-write-keys add-n (λ c κs. search needs) (λ c. search needs) (λ c. search needs)
+    (λ c. search needs) loop-less loop-again same-length-2 returns-2)

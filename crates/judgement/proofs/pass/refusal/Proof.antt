@@ -4,9 +4,6 @@ use Rattle.judgement.specs.Refusal.{lineJudgement}
 use Rattle.judgement.proofs.pass.refusal.Statement.{statement}
 use Rattle.judgement.proofs.pass.refusal.Tie as tie
 
-enum-told : tie.Need-enum-told
-enum-told c = search needs
-
 returns : tie.Need-returns
 unfolding lineJudgement
 returns c = rw (c .enum-told .given .1)
@@ -29,15 +26,5 @@ returns-5 c = rw (c .enum-told2 .given .1)
 
 pub refusal-spec : {M : Type 1} → statement M
 refusal-spec =
-    tie.close
-    (tie.spec
-    enum-told
-    (λ c. search needs)
-    (λ c. search needs)
-    (λ c. search needs)
-    (λ c. search needs)
-    returns
-    returns-2
-    returns-3
-    returns-4
-    returns-5)
+    tie.close (tie.spec (λ c. search needs) (λ c. search needs) (λ c. search needs) (λ c. search needs) (λ c. search needs) returns
+    returns-2 returns-3 returns-4 returns-5)

@@ -1,7 +1,6 @@
 -- `judgement::pass::store_line` meets its contract: the line's values are a part of the store.
 use Prim.Native.Nat.{ℕ, _+_, _*_, _-_, _≤_}
-use mathlib.Core.Path.{_∙_}
-use mathlib.Core.List.{List}
+use mathlib.Core.{Path.{_∙_}, List.{List}}
 use native.Mathlib.Omega.{arith}
 use borrow.Author.Needs.{needs}
 use borrow.Rule.Slice.PartMut.{putMid, mid-len}
@@ -72,14 +71,5 @@ returns c = stored (c .before .before)
 
 pub store-line-spec : {M : Type 1} → statement M
 store-line-spec =
-    tie.close
-    (tie.spec
-    mul-a
-    add-b
-    mul-check-line
-    (λ c. search needs)
-    (λ c. search needs)
-    part-check-line-end
-    check-line-requires
-    same-length
-    returns)
+    tie.close (tie.spec mul-a add-b mul-check-line (λ c. search needs) (λ c. search needs) part-check-line-end check-line-requires
+    same-length returns)

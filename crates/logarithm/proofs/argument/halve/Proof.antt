@@ -36,6 +36,4 @@ returns c =
     rw (doubled-times hq d (c .loop-test .left), doubled-base hq d (c .loop-test .left))
 
 pub halve-spec : {M : Type 1} → statement M
-halve-spec =
-    tie.close
-    (tie.spec Inv-loop μ-loop loop-holds mul-loop mul-base add-times loop-less loop-again returns)
+halve-spec = tie.close (tie.spec Inv-loop μ-loop loop-holds mul-loop mul-base add-times loop-less loop-again returns)

@@ -47,18 +47,4 @@ returns c =
     digits-end (rw e at (c .before .loop .inv .0))
 
 pub quotient-spec : {M : Type 1} → statement M
-quotient-spec =
-    tie.close
-    (tie.spec
-    Inv-loop
-    μ-loop
-    loop-holds
-    mul-next
-    mul-z
-    div-z
-    add-z
-    rem-rest
-    add-i
-    loop-less
-    loop-again
-    returns)
+quotient-spec = tie.close (tie.spec Inv-loop μ-loop loop-holds mul-next mul-z div-z add-z rem-rest add-i loop-less loop-again returns)

@@ -4,8 +4,7 @@ use mathlib.Core.Path.{_≡_, ap, _∙_}
 use native.Mathlib.Omega.{arith}
 use borrow.Author.Needs.{needs}
 use Rattle.logarithm.specs.Ends.{halvingsOf, baseOf, argumentOf}
-use Rattle.logarithm.proofs.Ratio.{base-below, base-pos}
-use Rattle.logarithm.proofs.argument.reduce.Statement.{statement}
+use Rattle.logarithm.proofs.{Ratio.{base-below, base-pos}, argument.reduce.Statement.{statement}}
 use Rattle.logarithm.proofs.argument.reduce.Tie as tie
 
 base-is : (c : tie.After-halve) → c .halve .result .base ≡ baseOf (c .before .args .p) (c .before .args .q)

@@ -2,8 +2,7 @@
 use Prim.Native.Nat.{_+_, _*_, _≤_}
 use native.Mathlib.Omega.{arith}
 use Rattle.logarithm.specs.Ends.{doublings, nearOf, endOf}
-use Rattle.logarithm.proofs.Sizes.{near-size, doublings-size}
-use Rattle.logarithm.proofs.terms.end.Statement.{statement}
+use Rattle.logarithm.proofs.{Sizes.{near-size, doublings-size}, terms.end.Statement.{statement}}
 use Rattle.logarithm.proofs.terms.end.Tie as tie
 
 sum-size : (c : tie.After-series) → c .series .result + c .before .args .up ≤ 9000000037
@@ -43,15 +42,4 @@ unfolding endOf doublings nearOf
 returns c = rw (c .series .ensures)
 
 pub end-spec : {M : Type 1} → statement M
-end-spec =
-    tie.close
-    (tie.spec
-    add-doublings
-    mul-doublings
-    add-doublings-2
-    series-requires
-    add-near
-    mul-near
-    add-near-2
-    add-result
-    returns)
+end-spec = tie.close (tie.spec add-doublings mul-doublings add-doublings-2 series-requires add-near mul-near add-near-2 add-result returns)

@@ -1,11 +1,9 @@
 -- `logarithm::terms::series` meets its contract: after i terms the power and the sum are those of the definition.
 use Prim.Native.Nat.{_+_, _-_, _*_, _/_, _≤_}
 use mathlib.Core.Path.{_≡_}
-use native.Mathlib.Omega.{arith}
-use native.Mathlib.Nat.{mul-le-mul, div-le-self}
+use native.Mathlib.{Omega.{arith}, Nat.{mul-le-mul, div-le-self}}
 use Rattle.logarithm.specs.Series.{unit, squareOf}
-use Rattle.logarithm.proofs.Sizes.{square-size}
-use Rattle.logarithm.proofs.Sums.{Summed, Fitting, summed-start, summed-again, fitting}
+use Rattle.logarithm.proofs.{Sizes.{square-size}, Sums.{Summed, Fitting, summed-start, summed-again, fitting}}
 use Rattle.logarithm.proofs.terms.series.Statement.{statement}
 use Rattle.logarithm.proofs.terms.series.Tie as tie
 
@@ -71,22 +69,5 @@ returns c =
 
 pub series-spec : {M : Type 1} → statement M
 series-spec =
-    tie.close
-    (tie.spec
-    Inv-loop
-    μ-loop
-    mul-square
-    add-square
-    loop-holds
-    mul-sum
-    mul-sum-2
-    add-sum
-    div-sum
-    add-sum-2
-    add-sum-3
-    mul-power
-    add-power
-    add-i
-    loop-less
-    loop-again
-    returns)
+    tie.close (tie.spec Inv-loop μ-loop mul-square add-square loop-holds mul-sum mul-sum-2 add-sum div-sum add-sum-2 add-sum-3 mul-power
+    add-power add-i loop-less loop-again returns)

@@ -4,9 +4,8 @@ use native.Mathlib.Nat.{mul-le-mul-left}
 use lib.Dec.{lit<}
 use Rattle.interval.proofs.Fits.{fits-below, fits-product}
 use Rattle.mesh.specs.Factor.{argumentBottom}
-use Rattle.mesh.proofs.Argument.{bottom-inside}
+use Rattle.mesh.proofs.{Argument.{bottom-inside}, factor.argument_bottom.Statement.{statement}}
 use borrow.Author.Needs.{needs}
-use Rattle.mesh.proofs.factor.argument_bottom.Statement.{statement}
 use Rattle.mesh.proofs.factor.argument_bottom.Tie as tie
 
 mul-result-2 : tie.Need-mul-result-2
@@ -24,5 +23,4 @@ returns c = refl
 
 pub argument-bottom-spec : {M : Type 1} → statement M
 argument-bottom-spec =
-    tie.close
-    (tie.spec (λ c. search needs) (λ c. search needs) (λ c. search needs) mul-result-2 (λ c. search needs) mul-result-3 returns)
+    tie.close (tie.spec (λ c. search needs) (λ c. search needs) (λ c. search needs) mul-result-2 (λ c. search needs) mul-result-3 returns)

@@ -1,8 +1,7 @@
 -- `argument_log` asks the logarithm of G: both numbers are inside its range.
 use Rattle.mesh.specs.Factor.{argumentLog}
-use Rattle.mesh.proofs.Argument.{top-inside, bottom-inside}
+use Rattle.mesh.proofs.{Argument.{top-inside, bottom-inside}, factor.argument_log.Statement.{statement}}
 use borrow.Author.Needs.{needs}
-use Rattle.mesh.proofs.factor.argument_log.Statement.{statement}
 use Rattle.mesh.proofs.factor.argument_log.Tie as tie
 
 ln-ends-requires : tie.Need-ln-ends-requires
@@ -15,5 +14,4 @@ unfolding argumentLog
 returns c = cc
 
 pub argument-log-spec : {M : Type 1} → statement M
-argument-log-spec =
-    tie.close (tie.spec (λ c κs. search needs) (λ c κs. search needs) ln-ends-requires returns)
+argument-log-spec = tie.close (tie.spec (λ c κs. search needs) (λ c κs. search needs) ln-ends-requires returns)

@@ -4,9 +4,8 @@ use native.Mathlib.Nat.{mul-le-mul, mul-le-mul-left}
 use lib.Dec.{lit<}
 use Rattle.interval.proofs.Fits.{fits-below, fits-product}
 use Rattle.mesh.specs.Factor.{argumentTop}
-use Rattle.mesh.proofs.Argument.{squares-high, top-inside}
+use Rattle.mesh.proofs.{Argument.{squares-high, top-inside}, factor.argument_top.Statement.{statement}}
 use borrow.Author.Needs.{needs}
-use Rattle.mesh.proofs.factor.argument_top.Statement.{statement}
 use Rattle.mesh.proofs.factor.argument_top.Tie as tie
 
 mul-result-3 : tie.Need-mul-result-3
@@ -32,16 +31,5 @@ returns c = refl
 
 pub argument-top-spec : {M : Type 1} → statement M
 argument-top-spec =
-    tie.close
-    (tie.spec
-    (λ c. search needs)
-    (λ c. search needs)
-    (λ c. search needs)
-    (λ c. search needs)
-    (λ c. search needs)
-    mul-result-3
-    mul-result-4
-    mul-result-5
-    add-result-2
-    mul-result-6
-    returns)
+    tie.close (tie.spec (λ c. search needs) (λ c. search needs) (λ c. search needs) (λ c. search needs) (λ c. search needs) mul-result-3
+    mul-result-4 mul-result-5 add-result-2 mul-result-6 returns)

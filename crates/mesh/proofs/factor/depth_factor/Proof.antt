@@ -10,5 +10,4 @@ unfolding depthFactor
 returns c = root-pair (c .root-ends .ensures)
 
 pub depth-factor-spec : {M : Type 1} → statement M
-depth-factor-spec =
-    tie.close (tie.spec (λ c. search needs) (λ c. search needs) (λ c. search needs) (λ c κs. search needs) returns)
+depth-factor-spec = tie.close (tie.spec (λ c. search needs) (λ c. search needs) (λ c. search needs) (λ c κs. search needs) returns)

@@ -4,10 +4,9 @@ use lib.Dec.{lit≤, lit<}
 use Rattle.interval.proofs.Span.{span-size, span-divisor}
 use Rattle.enclosure.proofs.Constants.{π-span}
 use Rattle.mesh.specs.Factor.{geometricFactor}
-use Rattle.mesh.proofs.Logarithms.{argument-span}
-use Rattle.mesh.proofs.FactorSpans.{turn-span, term-size, total-span}
-use borrow.Author.Needs.{needs}
+use Rattle.mesh.proofs.{Logarithms.{argument-span}, FactorSpans.{turn-span, term-size, total-span}}
 use Rattle.mesh.proofs.factor.geometric_factor.Statement.{statement}
+use borrow.Author.Needs.{needs}
 use Rattle.mesh.proofs.factor.geometric_factor.Tie as tie
 
 scaled-requires : tie.Need-scaled-requires
@@ -38,12 +37,5 @@ returns c = cc
 
 pub geometric-factor-spec : {M : Type 1} → statement M
 geometric-factor-spec =
-    tie.close
-    (tie.spec
-    (λ c κs. search needs)
-    scaled-requires
-    (λ c κs. search needs)
-    (λ c κs. search needs)
-    sum-requires
-    quotient-requires
+    tie.close (tie.spec (λ c κs. search needs) scaled-requires (λ c κs. search needs) (λ c κs. search needs) sum-requires quotient-requires
     returns)

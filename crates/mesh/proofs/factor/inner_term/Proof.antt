@@ -1,16 +1,12 @@
 -- `inner_term` keeps within 64 bits by the spans of its parts.
-use native.Mathlib.Omega.{arith}
-use native.Mathlib.Nat.{mul-le-mul}
+use native.Mathlib.{Omega.{arith}, Nat.{mul-le-mul}}
 use lib.Dec.{lit<}
-use Rattle.interval.proofs.Span.{span-size}
-use Rattle.interval.proofs.Rules.{lits}
-use Rattle.interval.proofs.NumeralSpans.{numeral-quotient-fits}
-use Rattle.conductors.proofs.NumberSpans.{n-span}
-use Rattle.conductors.proofs.NumberEnclosed.{counts}
+use Rattle.interval.proofs.{Span.{span-size}, Rules.{lits}, NumeralSpans.{numeral-quotient-fits}}
+use Rattle.conductors.proofs.{NumberSpans.{n-span}, NumberEnclosed.{counts}}
 use Rattle.mesh.specs.Factor.{innerTerm}
 use Rattle.mesh.proofs.FactorSpans.{depth-span, inner-factor-span, ratio-span, spread-size}
-use borrow.Author.Needs.{needs}
 use Rattle.mesh.proofs.factor.inner_term.Statement.{statement}
+use borrow.Author.Needs.{needs}
 use Rattle.mesh.proofs.factor.inner_term.Tie as tie
 
 quotient-requires : tie.Need-quotient-requires
@@ -37,11 +33,4 @@ returns c = let s = c .before .before .before .before .before in cc (s .pre .1)
 
 pub inner-term-spec : {M : Type 1} → statement M
 inner-term-spec =
-    tie.close
-    (tie.spec
-    (λ c κs. search needs)
-    (λ c κs. search needs)
-    quotient-requires
-    spread-requires
-    product-requires
-    returns)
+    tie.close (tie.spec (λ c κs. search needs) (λ c κs. search needs) quotient-requires spread-requires product-requires returns)

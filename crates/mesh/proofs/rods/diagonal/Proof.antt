@@ -5,9 +5,8 @@ use Rattle.interval.proofs.Fits.{fits-below, fits-product}
 use Rattle.enclosure.proofs.SquareRoot.{root-pair}
 use Rattle.lengths.proofs.Lengths.{x-bounds, y-bounds}
 use Rattle.mesh.specs.Ends.{diagonalEnds}
-use Rattle.mesh.proofs.LengthSpans.{squares-bounds}
+use Rattle.mesh.proofs.{LengthSpans.{squares-bounds}, rods.diagonal.Statement.{statement}}
 use borrow.Author.Needs.{needs}
-use Rattle.mesh.proofs.rods.diagonal.Statement.{statement}
 use Rattle.mesh.proofs.rods.diagonal.Tie as tie
 
 mul-root-ends : tie.Need-mul-root-ends
@@ -34,13 +33,5 @@ returns c = rw (c .before .before .side-x .ensures, c .before .side-y .ensures) 
 
 pub diagonal-spec : {M : Type 1} → statement M
 diagonal-spec =
-    tie.close
-    (tie.spec
-    (λ c κs. search needs)
-    (λ c κs. search needs)
-    mul-root-ends
-    mul-root-ends-2
-    add-root-ends
-    mul-root-ends-3
-    (λ c κs. search needs)
-    returns)
+    tie.close (tie.spec (λ c κs. search needs) (λ c κs. search needs) mul-root-ends mul-root-ends-2 add-root-ends mul-root-ends-3
+    (λ c κs. search needs) returns)

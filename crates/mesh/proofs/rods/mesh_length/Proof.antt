@@ -1,12 +1,10 @@
 -- `mesh_length` is LM by the place of the rods.
-use native.Mathlib.Omega.{arith}
-use native.Mathlib.Nat.{mul-le-mul-left}
+use native.Mathlib.{Omega.{arith}, Nat.{mul-le-mul-left}}
 use lib.Dec.{lit<}
-use borrow.Author.Tests.{eq-eqb, ne-eqb}
+use borrow.Author.{Tests.{eq-eqb, ne-eqb}, Needs.{needs}}
 use Rattle.interval.proofs.Fits.{fits-below}
 use Rattle.lengths.proofs.Lengths.{total-bounds}
 use Rattle.mesh.specs.Ends.{meshLength}
-use borrow.Author.Needs.{needs}
 use Rattle.mesh.proofs.rods.mesh_length.Statement.{statement}
 use Rattle.mesh.proofs.rods.mesh_length.Tie as tie
 
@@ -31,12 +29,4 @@ returns-2 c =
     rw (ne-eqb (e .before .before .args .c .place) 1 (e .if1 .left)) (cc)
 
 pub mesh-length-spec : {M : Type 1} → statement M
-mesh-length-spec =
-    tie.close
-    (tie.spec
-    (λ c κs. search needs)
-    returns
-    (λ c κs. search needs)
-    mul-point
-    point-requires
-    returns-2)
+mesh-length-spec = tie.close (tie.spec (λ c κs. search needs) returns (λ c κs. search needs) mul-point point-requires returns-2)

@@ -1,12 +1,10 @@
 -- `rod_weight` keeps within 64 bits by the spans of its parts.
 use native.Mathlib.Omega.{arith}
 use lib.Dec.{lit≤, lit<}
-use Rattle.interval.proofs.Sizes.{size-point}
-use Rattle.interval.proofs.Span.{span-size, span-divisor}
+use Rattle.interval.proofs.{Sizes.{size-point}, Span.{span-size, span-divisor}}
 use Rattle.mesh.specs.Ends.{rodWeight}
-use Rattle.mesh.proofs.LengthSpans.{diagonal-span, rodlen-span, share-span}
+use Rattle.mesh.proofs.{LengthSpans.{diagonal-span, rodlen-span, share-span}, rods.rod_weight.Statement.{statement}}
 use borrow.Author.Needs.{needs}
-use Rattle.mesh.proofs.rods.rod_weight.Statement.{statement}
 use Rattle.mesh.proofs.rods.rod_weight.Tie as tie
 
 quotient-requires : tie.Need-quotient-requires
@@ -28,13 +26,5 @@ returns c = cc
 
 pub rod-weight-spec : {M : Type 1} → statement M
 rod-weight-spec =
-    tie.close
-    (tie.spec
-    (λ c. search needs)
-    (λ c. search needs)
-    (λ c κs. search needs)
-    (λ c κs. search needs)
-    quotient-requires
-    (λ c κs. search needs)
-    sum-requires
-    returns)
+    tie.close (tie.spec (λ c. search needs) (λ c. search needs) (λ c κs. search needs) (λ c κs. search needs) quotient-requires
+    (λ c κs. search needs) sum-requires returns)

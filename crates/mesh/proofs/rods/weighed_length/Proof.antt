@@ -1,14 +1,11 @@
 -- `weighed_length` keeps within 64 bits by the spans of its parts.
-use native.Mathlib.Omega.{arith}
-use native.Mathlib.Nat.{mul-le-mul, mul-le-mul-left}
+use native.Mathlib.{Omega.{arith}, Nat.{mul-le-mul, mul-le-mul-left}}
 use lib.Dec.{lit<}
-use Rattle.interval.proofs.Fits.{fits-below}
-use Rattle.interval.proofs.Span.{span-size}
+use Rattle.interval.proofs.{Fits.{fits-below}, Span.{span-size}}
 use Rattle.lengths.proofs.Lengths.{conductor-bounds, rod-bound}
 use Rattle.mesh.specs.Ends.{weighedLength}
-use Rattle.mesh.proofs.LengthSpans.{weight-span, rods-point, rods-span, conductors-span}
+use Rattle.mesh.proofs.{LengthSpans.{weight-span, rods-point, rods-span, conductors-span}, rods.weighed_length.Statement.{statement}}
 use borrow.Author.Needs.{needs}
-use Rattle.mesh.proofs.rods.weighed_length.Statement.{statement}
 use Rattle.mesh.proofs.rods.weighed_length.Tie as tie
 
 point-requires : tie.Need-point-requires
@@ -50,14 +47,5 @@ returns c = cc
 
 pub weighed-length-spec : {M : Type 1} → statement M
 weighed-length-spec =
-    tie.close
-    (tie.spec
-    (λ c κs. search needs)
-    (λ c κs. search needs)
-    point-requires
-    product-requires
-    (λ c κs. search needs)
-    mul-point
-    point-requires-2
-    sum-requires
-    returns)
+    tie.close (tie.spec (λ c κs. search needs) (λ c κs. search needs) point-requires product-requires (λ c κs. search needs) mul-point
+    point-requires-2 sum-requires returns)

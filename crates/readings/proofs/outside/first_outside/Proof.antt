@@ -2,10 +2,8 @@
 use Prim.Native.Nat.{_-_}
 use mathlib.Core.Path.{_≡_, sym, ap, _∙_}
 use native.Mathlib.Omega.{arith}
-use borrow.Author.Needs.{needs}
-use borrow.Author.Tests.{not-true, not-false}
-use Rattle.readings.specs.Limits.{inRange}
-use Rattle.readings.specs.Refusal.{numberIn}
+use borrow.Author.{Needs.{needs}, Tests.{not-true, not-false}}
+use Rattle.readings.specs.{Limits.{inRange}, Refusal.{numberIn}}
 use Rattle.readings.proofs.Pairs.{pairAt}
 use Rattle.readings.proofs.Searching.{number-is, Searching, searching-start, searching-found, searching-step, searching-end}
 use Rattle.readings.proofs.outside.first_outside.Statement.{statement}
@@ -50,20 +48,5 @@ returns-2 c = searching-end (c .before .loop .inv) (omega arith)
 
 pub first-outside-spec : {M : Type 1} → statement M
 first-outside-spec =
-    tie.close
-    (tie.spec
-    Inv-loop
-    μ-loop
-    loop-holds
-    (λ c. search needs)
-    (λ c. search needs)
-    (λ c. search needs)
-    (λ c. search needs)
-    (λ c. search needs)
-    (λ c κs. search needs)
-    (λ c. search needs)
-    returns
-    (λ c. search needs)
-    (λ c. search needs)
-    loop-again
-    returns-2)
+    tie.close (tie.spec Inv-loop μ-loop loop-holds (λ c. search needs) (λ c. search needs) (λ c. search needs) (λ c. search needs)
+    (λ c. search needs) (λ c κs. search needs) (λ c. search needs) returns (λ c. search needs) (λ c. search needs) loop-again returns-2)

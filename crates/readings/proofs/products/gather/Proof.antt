@@ -75,23 +75,5 @@ returns c = gathered-end (c .before .loop .inv) (omega arith)
 
 pub gather-spec : {M : Type 1} → statement M
 gather-spec =
-    tie.close
-    (tie.spec
-    Inv-loop
-    μ-loop
-    loop-holds
-    (λ c. search needs)
-    mul-a
-    mul-a-2
-    shared-slice-read-a
-    cast-a
-    mul-r
-    add-r
-    mul-r-2
-    shared-slice-read-r
-    cast-r
-    mul-with
-    with-requires
-    (λ c. search needs)
-    loop-again
-    returns)
+    tie.close (tie.spec Inv-loop μ-loop loop-holds (λ c. search needs) mul-a mul-a-2 shared-slice-read-a cast-a mul-r add-r mul-r-2
+    shared-slice-read-r cast-r mul-with with-requires (λ c. search needs) loop-again returns)

@@ -3,10 +3,8 @@ use Prim.Native.Nat.{_-_, _≤_}
 use mathlib.Core.Path.{_≡_}
 use native.Mathlib.Omega.{arith}
 use borrow.Author.Needs.{needs}
-use Rattle.release.specs.Licence.{among}
-use Rattle.release.specs.Earlier.{earlier}
-use Rattle.release.proofs.Pairs.{among-none, among-step}
-use Rattle.release.proofs.licence.stands_before.Statement.{statement}
+use Rattle.release.specs.{Licence.{among}, Earlier.{earlier}}
+use Rattle.release.proofs.{Pairs.{among-none, among-step}, licence.stands_before.Statement.{statement}}
 use Rattle.release.proofs.licence.stands_before.Tie as tie
 
 abbrev Inv-loop : tie.InvT-loop
@@ -26,15 +24,5 @@ returns c = let l = c .before in let e : l .loop .i ≡ l .before .args .count =
 
 pub stands-before-spec : {M : Type 1} → statement M
 stands-before-spec =
-    tie.close
-    (tie.spec
-    Inv-loop
-    μ-loop
-    loop-holds
-    (λ c. search needs)
-    (λ c. search needs)
-    (λ c. search needs)
-    (λ c. search needs)
-    (λ c. search needs)
-    loop-again
-    returns)
+    tie.close (tie.spec Inv-loop μ-loop loop-holds (λ c. search needs) (λ c. search needs) (λ c. search needs) (λ c. search needs)
+    (λ c. search needs) loop-again returns)

@@ -1,12 +1,9 @@
 -- `wrong_column` tests the station, then the seasons.
 use Prim.Native.Nat.{ℕ, _*_}
-use mathlib.Core.Path.{sym, _∙_, _≡_}
-use mathlib.Core.List.{List}
+use mathlib.Core.{Path.{sym, _∙_, _≡_}, List.{List}}
 use lib.ListN.{getD}
-use borrow.Author.Tests.{le-leb, lt-leb}
-use borrow.Author.Needs.{needs}
-use Rattle.release.specs.Licence.{wrongStation, wrongSeasons}
-use Rattle.release.specs.Earlier.{earlier, wrongAt}
+use borrow.Author.{Tests.{le-leb, lt-leb}, Needs.{needs}}
+use Rattle.release.specs.{Licence.{wrongStation, wrongSeasons}, Earlier.{earlier, wrongAt}}
 use Rattle.release.proofs.licence.wrong_column.Statement.{statement}
 use Rattle.release.proofs.licence.wrong_column.Tie as tie
 
@@ -55,19 +52,5 @@ returns-6 c =
 
 pub wrong-column-spec : {M : Type 1} → statement M
 wrong-column-spec =
-    tie.close
-    (tie.spec
-    (λ c. search needs)
-    (λ c. search needs)
-    (λ c. search needs)
-    (λ c. search needs)
-    (λ c. search needs)
-    (λ c. search needs)
-    (λ c. search needs)
-    returns
-    returns-2
-    (λ c κs. search needs)
-    returns-3
-    returns-4
-    returns-5
-    returns-6)
+    tie.close (tie.spec (λ c. search needs) (λ c. search needs) (λ c. search needs) (λ c. search needs) (λ c. search needs)
+    (λ c. search needs) (λ c. search needs) returns returns-2 (λ c κs. search needs) returns-3 returns-4 returns-5 returns-6)

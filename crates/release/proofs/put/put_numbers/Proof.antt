@@ -3,11 +3,9 @@ use mathlib.Core.Path.{_∙_}
 use native.Mathlib.Omega.{arith}
 use lib.ListN.{length-set}
 use borrow.Author.Needs.{needs}
-use mir.Syntax.{w64}
-use mir.Facts.{toZ-pos}
+use mir.{Syntax.{w64}, Facts.{toZ-pos}}
 use Rattle.release.specs.Pair.{eight}
-use Rattle.release.proofs.Tables.{eight-set}
-use Rattle.release.proofs.put.put_numbers.Statement.{statement}
+use Rattle.release.proofs.{Tables.{eight-set}, put.put_numbers.Statement.{statement}}
 use Rattle.release.proofs.put.put_numbers.Tie as tie
 
 abbrev start : tie.After-reported-fault → tie.Start
@@ -54,25 +52,7 @@ returns c =
 
 pub put-numbers-spec : {M : Type 1} → statement M
 put-numbers-spec =
-    tie.close
-    (tie.spec
-    (λ c. search needs)
-    (λ c κs. search needs)
-    cast-told
-    (λ c. search needs)
-    (λ c. search needs)
-    (λ c. search needs)
-    (λ c. search needs)
-    (λ c. search needs)
-    (λ c κs. search needs)
-    (λ c. search needs)
-    (λ c. search needs)
-    (λ c. search needs)
-    (λ c. search needs)
-    (λ c. search needs)
-    slice-set-from-undecided
-    slice-set-from-other
-    slice-set-from-small
-    slice-set-from-fault
-    same-length
-    returns)
+    tie.close (tie.spec (λ c. search needs) (λ c κs. search needs) cast-told (λ c. search needs) (λ c. search needs) (λ c. search needs)
+    (λ c. search needs) (λ c. search needs) (λ c κs. search needs) (λ c. search needs) (λ c. search needs) (λ c. search needs)
+    (λ c. search needs) (λ c. search needs) slice-set-from-undecided slice-set-from-other slice-set-from-small slice-set-from-fault
+    same-length returns)

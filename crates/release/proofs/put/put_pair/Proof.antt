@@ -1,18 +1,13 @@
 -- `put_pair` counts the lines of its station and puts the eight numbers in their own part of the table.
 use Prim.Native.Nat.{ℕ, _≤_}
-use mathlib.Core.Path.{ap, _∙_, _≡_}
-use mathlib.Core.List.{List}
+use mathlib.Core.{Path.{ap, _∙_, _≡_}, List.{List}}
 use borrow.Author.Needs.{needs}
 use Rattle.case.specs.declared.Case.{Case}
 use Rattle.sheet.specs.Rows.{storedCases}
-use Rattle.tally.specs.Lines.{linesOf, firstLine}
+use Rattle.tally.specs.{Lines.{linesOf, firstLine}, declared.Tally.{Tally}, Tally.{tallyOf, Small, missingBy}}
+use Rattle.tally.proofs.{Counts.{tally-small, missing-most}, StationLines.{lines-most}}
 use Rattle.release.specs.Pair.{eight, stationNumbers}
-use Rattle.tally.specs.declared.Tally.{Tally}
-use Rattle.tally.specs.Tally.{tallyOf, Small, missingBy}
-use Rattle.tally.proofs.Counts.{tally-small, missing-most}
-use Rattle.tally.proofs.StationLines.{lines-most}
-use Rattle.release.proofs.Tables.{eight-is, pair-written}
-use Rattle.release.proofs.put.put_pair.Statement.{statement}
+use Rattle.release.proofs.{Tables.{eight-is, pair-written}, put.put_pair.Statement.{statement}}
 use Rattle.release.proofs.put.put_pair.Tie as tie
 
 -- what is counted of the station
@@ -51,17 +46,5 @@ returns c = let p = c .before in
 
 pub put-pair-spec : {M : Type 1} → statement M
 put-pair-spec =
-    tie.close
-    (tie.spec
-    (λ c κs. search needs)
-    (λ c κs. search needs)
-    (λ c κs. search needs)
-    (λ c. search needs)
-    (λ c. search needs)
-    (λ c. search needs)
-    (λ c. search needs)
-    (λ c. search needs)
-    (λ c. search needs)
-    put-numbers-requires
-    (λ c. search needs)
-    returns)
+    tie.close (tie.spec (λ c κs. search needs) (λ c κs. search needs) (λ c κs. search needs) (λ c. search needs) (λ c. search needs)
+    (λ c. search needs) (λ c. search needs) (λ c. search needs) (λ c. search needs) put-numbers-requires (λ c. search needs) returns)

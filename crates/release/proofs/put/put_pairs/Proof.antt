@@ -1,17 +1,13 @@
 -- `put_pairs` puts pair after pair.
 use Prim.Native.Nat.{_-_, _≤_}
-use mathlib.Core.Path.{_≡_, sym}
-use mathlib.Core.List.{[]}
+use mathlib.Core.{Path.{_≡_, sym}, List.{[]}}
 use native.Mathlib.Omega.{arith}
 use lib.ListN.{getD}
 use borrow.Author.Needs.{needs}
-use Rattle.tables.specs.Parts.{Filled}
-use Rattle.tables.proofs.Filling.{filled-start, filled-step, filled-end}
+use Rattle.tables.{specs.Parts.{Filled}, proofs.Filling.{filled-start, filled-step, filled-end}}
 use Rattle.sheet.specs.Rows.{storedCases}
-use Rattle.release.specs.Licence.{pairsOf}
-use Rattle.release.specs.Pair.{pairLength, releaseOf}
-use Rattle.release.proofs.Tables.{release-count, release-at}
-use Rattle.release.proofs.put.put_pairs.Statement.{statement}
+use Rattle.release.specs.{Licence.{pairsOf}, Pair.{pairLength, releaseOf}}
+use Rattle.release.proofs.{Tables.{release-count, release-at}, put.put_pairs.Statement.{statement}}
 use Rattle.release.proofs.put.put_pairs.Tie as tie
 
 abbrev Inv-loop : tie.InvT-loop
@@ -54,21 +50,6 @@ returns c = let l = c .before in
 
 pub put-pairs-spec : {M : Type 1} → statement M
 put-pairs-spec =
-    tie.close
-    (tie.spec
-    Inv-loop
-    μ-loop
-    loop-holds
-    (λ c. search needs)
-    (λ c. search needs)
-    (λ c. search needs)
-    (λ c. search needs)
-    (λ c. search needs)
-    (λ c. search needs)
-    (λ c. search needs)
-    put-pair-requires
-    (λ c. search needs)
-    (λ c. search needs)
-    loop-again
-    same-length
-    returns)
+    tie.close (tie.spec Inv-loop μ-loop loop-holds (λ c. search needs) (λ c. search needs) (λ c. search needs) (λ c. search needs)
+    (λ c. search needs) (λ c. search needs) (λ c. search needs) put-pair-requires (λ c. search needs) (λ c. search needs) loop-again
+    same-length returns)

@@ -1,13 +1,10 @@
 -- `is_safe` tests mesh, then step.
 use mathlib.Core.Path.{sym, _∙_}
-use borrow.Author.Needs.{needs}
-use borrow.Author.Tests.{not-true, not-false}
+use borrow.Author.{Needs.{needs}, Tests.{not-true, not-false}}
 use lib.Signed.{leZ}
-use mir.Syntax.{w64}
-use mir.Val.{SFits}
+use mir.{Syntax.{w64}, Val.{SFits}}
 use Rattle.row.specs.Verdict.{safe}
-use Rattle.row.proofs.Compared.{compared}
-use Rattle.row.proofs.decide.is_safe.Statement.{statement}
+use Rattle.row.proofs.{Compared.{compared}, decide.is_safe.Statement.{statement}}
 use Rattle.row.proofs.decide.is_safe.Tie as tie
 
 -- the ends that are compared fit

@@ -2,11 +2,9 @@
 use mathlib.Core.Path.{sym, _∙_}
 use borrow.Author.Needs.{needs}
 use lib.Signed.{ltZ}
-use mir.Syntax.{w64}
-use mir.Val.{SFits}
+use mir.{Syntax.{w64}, Val.{SFits}}
 use Rattle.row.specs.Verdict.{unsafe}
-use Rattle.row.proofs.Compared.{compared}
-use Rattle.row.proofs.decide.is_unsafe.Statement.{statement}
+use Rattle.row.proofs.{Compared.{compared}, decide.is_unsafe.Statement.{statement}}
 use Rattle.row.proofs.decide.is_unsafe.Tie as tie
 
 -- the ends that are compared fit

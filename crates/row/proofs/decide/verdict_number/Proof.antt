@@ -4,9 +4,6 @@ use borrow.Author.Needs.{needs}
 use Rattle.row.proofs.decide.verdict_number.Statement.{statement}
 use Rattle.row.proofs.decide.verdict_number.Tie as tie
 
-enum-told : tie.Need-enum-told
-enum-told c = search needs
-
 returns : tie.Need-returns
 unfolding verdictNumber
 returns c = rw (c .enum-told .given .1)
@@ -20,5 +17,4 @@ unfolding verdictNumber
 returns-3 c = rw (c .enum-told3 .given .1)
 
 pub verdict-number-spec : {M : Type 1} → statement M
-verdict-number-spec =
-    tie.close (tie.spec enum-told (λ c. search needs) (λ c. search needs) returns returns-2 returns-3)
+verdict-number-spec = tie.close (tie.spec (λ c. search needs) (λ c. search needs) (λ c. search needs) returns returns-2 returns-3)

@@ -1,17 +1,9 @@
 -- `copy_row` copies number by number.
-use mir.Syntax.{w64}
-use mir.Val.{SFits}
-use mir.Facts.{toZ-ofZ}
+use mir.{Syntax.{w64}, Val.{SFits}, Facts.{toZ-ofZ}}
 use Prim.Native.Nat.{ℕ, _+_, _-_, _≤_, _<_}
-use mathlib.Core.List.{List}
-use native.Mathlib.Numerals.{add-one}
-use lib.IntN.{ℤ, pos}
-use lib.ListN.{length, getD, take, set, length-set}
-use lib.Seq.{take-suc, take-suc-set, take-all}
-use Prim.Native.Nat.{ℕ, _+_, _-_, _≤_}
-use mathlib.Core.Path.{_≡_, refl, sym, _∙_}
-use native.Mathlib.Omega.{arith}
-use lib.ListN.{length, take, set}
+use mathlib.Core.{List.{List}, Path.{_≡_, refl, sym, _∙_}}
+use native.Mathlib.{Numerals.{add-one}, Omega.{arith}}
+use lib.{IntN.{ℤ, pos}, ListN.{length, getD, take, set, length-set}, Seq.{take-suc, take-suc-set, take-all}}
 use borrow.Author.Needs.{needs}
 use Rattle.row.specs.Row.{rowLength}
 use Rattle.row.proofs.put.copy_row.Statement.{statement}
@@ -20,8 +12,7 @@ use Rattle.row.proofs.put.copy_row.Tie as tie
 -- after the last number
 copied : (row a : List ℤ) (i : ℕ) → length a ≡ rowLength → (i ≤ rowLength) × ((length row ≡ rowLength) × (take i row ≡ take i a))
     → rowLength ≤ i → row ≡ a
-copied row a i n h l =
-    sym (take-all i row (omega (arith, h .1 .0))) ∙ h .1 .1 ∙ take-all i a (omega arith)
+copied row a i n h l = sym (take-all i row (omega (arith, h .1 .0))) ∙ h .1 .1 ∙ take-all i a (omega arith)
 
 -- one number more
 next : (row a : List ℤ) (i : ℕ) → i < rowLength → length row ≡ rowLength → length a ≡ rowLength → take i row ≡ take i a
@@ -66,17 +57,5 @@ returns c =
 
 pub copy-row-spec : {M : Type 1} → statement M
 copy-row-spec =
-    tie.close
-    (tie.spec
-    Inv-loop
-    μ-loop
-    loop-holds
-    (λ c. search needs)
-    (λ c. search needs)
-    (λ c. search needs)
-    slice-set-from-z
-    (λ c. search needs)
-    loop-less
-    loop-again
-    same-length
-    returns)
+    tie.close (tie.spec Inv-loop μ-loop loop-holds (λ c. search needs) (λ c. search needs) (λ c. search needs) slice-set-from-z
+    (λ c. search needs) loop-less loop-again same-length returns)

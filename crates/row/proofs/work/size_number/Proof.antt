@@ -4,9 +4,7 @@ use Rattle.current.proofs.GridCurrent.{upper-bounds}
 use mathlib.Core.Path.{ap}
 use native.Mathlib.Omega.{arith}
 use lib.IntN.{pos}
-use mir.Syntax.{w64}
-use mir.Val.{SFits}
-use mir.Facts.{toZ-pos}
+use mir.{Syntax.{w64}, Val.{SFits}, Facts.{toZ-pos}}
 use borrow.Author.Needs.{needs}
 use Rattle.row.proofs.work.size_number.Statement.{statement}
 use Rattle.row.proofs.work.size_number.Tie as tie

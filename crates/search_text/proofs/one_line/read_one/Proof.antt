@@ -2,12 +2,9 @@
 use mathlib.Core.Path.{sym, _∙_}
 use borrow.Author.Needs.{needs}
 use Rattle.text.proofs.FieldTurns.{part-length}
-use Rattle.case.specs.Columns.{name-count}
-use Rattle.case.specs.Parts.{formOf}
-use Rattle.case.proofs.Order.{distinct}
+use Rattle.case.{specs.{Columns.{name-count}, Parts.{formOf}}, proofs.Order.{distinct}}
 use Rattle.header.specs.Header.{noColumns}
-use Rattle.search_text.proofs.OneLines.{wrong-names, right-names}
-use Rattle.search_text.proofs.one_line.read_one.Statement.{statement}
+use Rattle.search_text.proofs.{OneLines.{wrong-names, right-names}, one_line.read_one.Statement.{statement}}
 use Rattle.search_text.proofs.one_line.read_one.Tie as tie
 
 slice-aggregate-read-header : tie.Need-slice-aggregate-read-header
@@ -50,19 +47,6 @@ returns-2 c =
 
 pub read-one-spec : {M : Type 1} → statement M
 read-one-spec =
-    tie.close
-    (tie.spec
-    (λ c κs. search needs)
-    slice-aggregate-read-header
-    (λ c. search needs)
-    (λ c. search needs)
-    read-header-requires
-    returns
-    (λ c κs. search needs)
-    (λ c. search needs)
-    (λ c. search needs)
-    (λ c. search needs)
-    slice-aggregate-read-value-line
-    read-value-line-requires
-    (λ c. search needs)
-    returns-2)
+    tie.close (tie.spec (λ c κs. search needs) slice-aggregate-read-header (λ c. search needs) (λ c. search needs) read-header-requires
+    returns (λ c κs. search needs) (λ c. search needs) (λ c. search needs) (λ c. search needs) slice-aggregate-read-value-line
+    read-value-line-requires (λ c. search needs) returns-2)

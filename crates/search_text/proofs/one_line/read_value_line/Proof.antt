@@ -64,15 +64,5 @@ returns-4 c =
 
 pub read-value-line-spec : {M : Type 1} → statement M
 read-value-line-spec =
-    tie.close
-    (tie.spec
-    returns
-    (λ c κs. search needs)
-    (λ c κs. search needs)
-    returns-2
-    slice-aggregate-read-values
-    read-values-requires
-    (λ c. search needs)
-    returns-3
-    (λ c. search needs)
-    returns-4)
+    tie.close (tie.spec returns (λ c κs. search needs) (λ c κs. search needs) returns-2 slice-aggregate-read-values read-values-requires
+    (λ c. search needs) returns-3 (λ c. search needs) returns-4)

@@ -1,9 +1,8 @@
 -- `write_row` puts the row of a case in its own part of the table.
 use Rattle.row.specs.Row.{numbers}
 use mathlib.Core.Path.{ap, _∙_}
-use Rattle.sheet.proofs.RowParts.{row-written}
+use Rattle.sheet.proofs.{RowParts.{row-written}, rows.write_row.Statement.{statement}}
 use borrow.Author.Needs.{needs}
-use Rattle.sheet.proofs.rows.write_row.Statement.{statement}
 use Rattle.sheet.proofs.rows.write_row.Tie as tie
 
 returns : tie.Need-returns
@@ -15,15 +14,5 @@ returns c =
 
 pub write-row-spec : {M : Type 1} → statement M
 write-row-spec =
-    tie.close
-    (tie.spec
-    (λ c κs. search needs)
-    (λ c. search needs)
-    (λ c. search needs)
-    (λ c. search needs)
-    (λ c. search needs)
-    (λ c. search needs)
-    (λ c. search needs)
-    (λ c κs. search needs)
-    (λ c. search needs)
-    returns)
+    tie.close (tie.spec (λ c κs. search needs) (λ c. search needs) (λ c. search needs) (λ c. search needs) (λ c. search needs)
+    (λ c. search needs) (λ c. search needs) (λ c κs. search needs) (λ c. search needs) returns)

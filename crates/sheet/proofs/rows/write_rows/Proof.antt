@@ -5,15 +5,11 @@ use native.Mathlib.Omega.{arith}
 use borrow.Author.Needs.{needs}
 use borrow.Rule.Slice.PartMut.{mid-len}
 use lib.ListN.{length, take, drop}
-use Rattle.tables.specs.Parts.{partAt}
-use Rattle.tables.proofs.Filling.{filled-start, filled-step, filled-end}
-use Rattle.case.specs.Columns.{nameCount}
-use Rattle.case.specs.Case.{caseOf}
-use Rattle.case.specs.Bounds.{Bounds}
+use Rattle.tables.{specs.Parts.{partAt}, proofs.Filling.{filled-start, filled-step, filled-end}}
+use Rattle.case.specs.{Columns.{nameCount}, Case.{caseOf}, Bounds.{Bounds}}
 use Rattle.row.proofs.Right.{right-row}
 use Rattle.sheet.specs.Rows.{FilledTo, storedCases}
-use Rattle.sheet.proofs.StoredCases.{cases-count, stored-case}
-use Rattle.sheet.proofs.rows.write_rows.Statement.{statement}
+use Rattle.sheet.proofs.{StoredCases.{cases-count, stored-case}, rows.write_rows.Statement.{statement}}
 use Rattle.sheet.proofs.rows.write_rows.Tie as tie
 
 abbrev Inv-loop : tie.InvT-loop
@@ -83,21 +79,5 @@ returns c =
 
 pub write-rows-spec : {M : Type 1} → statement M
 write-rows-spec =
-    tie.close
-    (tie.spec
-    Inv-loop
-    μ-loop
-    loop-holds
-    mul-a
-    add-b
-    mul-case-of
-    (λ c. search needs)
-    (λ c. search needs)
-    part-case-of-end
-    case-of-requires
-    write-row-requires
-    (λ c. search needs)
-    (λ c. search needs)
-    loop-again
-    same-length
-    returns)
+    tie.close (tie.spec Inv-loop μ-loop loop-holds mul-a add-b mul-case-of (λ c. search needs) (λ c. search needs) part-case-of-end
+    case-of-requires write-row-requires (λ c. search needs) (λ c. search needs) loop-again same-length returns)

@@ -51,18 +51,6 @@ returns-2 c =
 
 pub put-summary-spec : {M : Type 1} → statement M
 put-summary-spec =
-    tie.close
-    (tie.spec
-    slice-aggregate-summary
-    slice-aggregate-summary-2
-    (λ c κs. search needs)
-    (λ c. search needs)
-    (λ c. search needs)
-    (λ c. search needs)
-    put-table-requires
-    (λ c. search needs)
-    (λ c κs. search needs)
-    (λ c. search needs)
-    returns
-    (λ c. search needs)
+    tie.close (tie.spec slice-aggregate-summary slice-aggregate-summary-2 (λ c κs. search needs) (λ c. search needs) (λ c. search needs)
+    (λ c. search needs) put-table-requires (λ c. search needs) (λ c κs. search needs) (λ c. search needs) returns (λ c. search needs)
     returns-2)

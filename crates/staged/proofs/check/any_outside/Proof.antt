@@ -1,13 +1,11 @@
 -- `any_outside` looks at one number after the other: none before i is outside.
 use Prim.Native.Nat.{_-_}
 use mathlib.Core.Path.{_≡_, sym, _∙_}
-use lib.IntN.{pos}
-use lib.ListN.{length, getD, drop}
+use lib.{IntN.{pos}, ListN.{length, getD, drop}}
 use borrow.Author.Needs.{needs}
 use Rattle.interval.proofs.Bits.{back}
 use Rattle.staged.specs.Check.{outside, anyOutside}
-use Rattle.staged.proofs.Checks.{any-found, any-step, any-end}
-use Rattle.staged.proofs.check.any_outside.Statement.{statement}
+use Rattle.staged.proofs.{Checks.{any-found, any-step, any-end}, check.any_outside.Statement.{statement}}
 use Rattle.staged.proofs.check.any_outside.Tie as tie
 
 abbrev Inv-loop : tie.InvT-loop
@@ -40,16 +38,5 @@ returns-2 c = sym (any-end (c .before .before .args .parts .now) (c .before .loo
 
 pub any-outside-spec : {M : Type 1} → statement M
 any-outside-spec =
-    tie.close
-    (tie.spec
-    Inv-loop
-    μ-loop
-    (λ c. search needs)
-    (λ c. search needs)
-    (λ c. search needs)
-    (λ c κs. search needs)
-    returns
-    (λ c. search needs)
-    (λ c. search needs)
-    loop-again
-    returns-2)
+    tie.close (tie.spec Inv-loop μ-loop (λ c. search needs) (λ c. search needs) (λ c. search needs) (λ c κs. search needs) returns
+    (λ c. search needs) (λ c. search needs) loop-again returns-2)

@@ -1,9 +1,7 @@
 -- `is_outside` tests the lower end, then the upper.
-use mathlib.Core.Path.{_≡_}
-use mathlib.Core.Bool.{true, false}
+use mathlib.Core.{Path.{_≡_}, Bool.{true, false}}
 use borrow.Author.Needs.{needs}
-use lib.IntN.{pos, negℤ}
-use lib.Signed.{ltZ}
+use lib.{IntN.{pos, negℤ}, Signed.{ltZ}}
 use mir.Facts.{toZ-ofZ}
 use Rattle.interval.proofs.Bits.{read}
 use Rattle.staged.specs.Check.{largestPart, outside}

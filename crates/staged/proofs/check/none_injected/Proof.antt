@@ -1,11 +1,9 @@
 -- `none_injected` looks at the first two numbers, which the count lets be there.
 use native.Mathlib.Omega.{arith}
 use borrow.Author.Tests.{eq-eqb, ne-eqb}
-use lib.IntN.{pos}
-use lib.ListN.{getD}
+use lib.{IntN.{pos}, ListN.{getD}}
 use Rattle.staged.specs.Check.{fewestNumbers, noneInjected}
-use Rattle.staged.proofs.Checks.{count-low, zero-bits}
-use Rattle.staged.proofs.check.none_injected.Statement.{statement}
+use Rattle.staged.proofs.{Checks.{count-low, zero-bits}, check.none_injected.Statement.{statement}}
 use Rattle.staged.proofs.check.none_injected.Tie as tie
 
 shared-slice-copy-out-if1 : tie.Need-shared-slice-copy-out-if1
@@ -35,5 +33,4 @@ returns-2 c =
     )
 
 pub none-injected-spec : {M : Type 1} → statement M
-none-injected-spec =
-    tie.close (tie.spec shared-slice-copy-out-if1 returns shared-slice-copy-out-result returns-2)
+none-injected-spec = tie.close (tie.spec shared-slice-copy-out-if1 returns shared-slice-copy-out-result returns-2)

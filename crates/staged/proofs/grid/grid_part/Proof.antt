@@ -3,14 +3,10 @@ use Prim.Native.Nat.{_+_, _-_}
 use mathlib.Core.Path.{_≡_}
 use native.Mathlib.Omega.{arith}
 use borrow.Author.Needs.{needs}
-use lib.IntN.{pos, _-ℤ_}
-use lib.ListN.{length, getD}
-use mir.Syntax.{w64}
-use mir.Val.{SFits, toZ, ofZ}
-use mir.Facts.{toZ-ofZ}
+use lib.{IntN.{pos, _-ℤ_}, ListN.{length, getD}}
+use mir.{Syntax.{w64}, Val.{SFits, toZ, ofZ}, Facts.{toZ-ofZ}}
 use Rattle.interval.proofs.Bits.{back, small-fits}
-use Rattle.staged.proofs.GridCurrent.{Left, left-start, left-step, left-end, left-small}
-use Rattle.staged.proofs.grid.grid_part.Statement.{statement}
+use Rattle.staged.proofs.{GridCurrent.{Left, left-start, left-step, left-end, left-small}, grid.grid_part.Statement.{statement}}
 use Rattle.staged.proofs.grid.grid_part.Tie as tie
 
 abbrev Inv-loop : tie.InvT-loop
@@ -61,16 +57,5 @@ returns c =
 
 pub grid-part-spec : {M : Type 1} → statement M
 grid-part-spec =
-    tie.close
-    (tie.spec
-    Inv-loop
-    μ-loop
-    shared-slice-copy-out-left
-    loop-holds
-    (λ c. search needs)
-    (λ c. search needs)
-    sub-left
-    add-i
-    (λ c. search needs)
-    loop-again
-    returns)
+    tie.close (tie.spec Inv-loop μ-loop shared-slice-copy-out-left loop-holds (λ c. search needs) (λ c. search needs) sub-left add-i
+    (λ c. search needs) loop-again returns)

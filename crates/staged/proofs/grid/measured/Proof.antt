@@ -1,13 +1,11 @@
 -- `measured` works the grid's two parts and the split by the two squares.
 use mathlib.Core.Path.{_≡_}
 use native.Mathlib.Omega.{arith}
-use lib.IntN.{pos}
-use lib.ListN.{getD, drop}
+use lib.{IntN.{pos}, ListN.{getD, drop}}
 use borrow.Rule.Slice.PartAt.{part-to-end}
 use borrow.Author.Needs.{needs}
 use Rattle.interval.proofs.Bits.{back}
-use Rattle.staged.specs.Current.{squareOf}
-use Rattle.staged.specs.Parts.{GridPart}
+use Rattle.staged.specs.{Current.{squareOf}, Parts.{GridPart}}
 use Rattle.staged.proofs.SoundTest.{two-numbers, parts, parts-after-first, injected-small, answer-is, squares}
 use Rattle.staged.proofs.grid.measured.Statement.{statement}
 use Rattle.staged.proofs.grid.measured.Tie as tie
@@ -83,16 +81,5 @@ returns c =
 
 pub measured-spec : {M : Type 1} → statement M
 measured-spec =
-    tie.close
-    (tie.spec
-    grid-part-requires
-    sub-grid-part
-    part-grid-part-start
-    (λ c. search needs)
-    grid-part-requires-2
-    square-requires
-    shared-slice-copy-out-square
-    shared-slice-copy-out-square-2
-    square-requires-2
-    per-mille-requires
-    returns)
+    tie.close (tie.spec grid-part-requires sub-grid-part part-grid-part-start (λ c. search needs) grid-part-requires-2 square-requires
+    shared-slice-copy-out-square shared-slice-copy-out-square-2 square-requires-2 per-mille-requires returns)

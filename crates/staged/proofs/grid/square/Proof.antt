@@ -1,10 +1,8 @@
 -- `square` adds the squares of the sizes.
 use mathlib.Core.Path.{_≡_}
-use native.Mathlib.Omega.{arith}
-use native.Mathlib.Nat.{mul-le-mul}
+use native.Mathlib.{Omega.{arith}, Nat.{mul-le-mul}}
 use borrow.Author.Needs.{needs}
-use lib.Dec.{lit<}
-use lib.IntN.{natAbs}
+use lib.{Dec.{lit<}, IntN.{natAbs}}
 use mir.Facts.{toZ-ofZ}
 use Rattle.interval.proofs.Fits.{fits-product}
 use Rattle.staged.specs.Current.{squareOf}
@@ -38,5 +36,4 @@ unfolding squareOf
 returns c = rw (in-phase-is (c .before), quadrature-is c)
 
 pub square-spec : {M : Type 1} → statement M
-square-spec =
-    tie.close (tie.spec (λ c κs. search needs) (λ c κs. search needs) mul-result mul-result-2 add-result returns)
+square-spec = tie.close (tie.spec (λ c κs. search needs) (λ c κs. search needs) mul-result mul-result-2 add-result returns)

@@ -4,8 +4,7 @@ use native.Mathlib.Omega.{arith}
 use lib.Dec.{lit<}
 use Rattle.interval.proofs.Fits.{fits-product}
 use Rattle.staged.specs.LongRoot.{IsDigit}
-use Rattle.staged.proofs.LongRoot.{whole-small, rest-small, digit-room, appended}
-use Rattle.staged.proofs.long_root.append.Statement.{statement}
+use Rattle.staged.proofs.{LongRoot.{whole-small, rest-small, digit-room, appended}, long_root.append.Statement.{statement}}
 use Rattle.staged.proofs.long_root.append.Tie as tie
 
 module _ (c : tie.After-digit) where
@@ -49,6 +48,4 @@ returns : tie.Need-returns
 returns c = appended (start c .pre) (is-digit c)
 
 pub append-spec : {M : Type 1} → statement M
-append-spec =
-    tie.close
-    (tie.spec mul-rest digit-requires mul-t6 add-t7 mul-t8 add-t9 mul-t10 mul-t11 sub-t12 returns)
+append-spec = tie.close (tie.spec mul-rest digit-requires mul-t6 add-t7 mul-t8 add-t9 mul-t10 mul-t11 sub-t12 returns)

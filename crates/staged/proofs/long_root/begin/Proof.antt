@@ -3,13 +3,11 @@ use native.Mathlib.Nat.{le-trans, div-le-self}
 use borrow.Author.Needs.{needs}
 use lib.Dec.{lit<}
 use Rattle.interval.proofs.Fits.{fits-below}
-use Rattle.staged.proofs.LongRoot.{begun-low, begun}
-use Rattle.staged.proofs.long_root.begin.Statement.{statement}
+use Rattle.staged.proofs.{LongRoot.{begun-low, begun}, long_root.begin.Statement.{statement}}
 use Rattle.staged.proofs.long_root.begin.Tie as tie
 
 mul-t4 : tie.Need-mul-t4
-mul-t4 c =
-    fits-below (le-trans (c .isqrt .ensures .low) (le-trans (div-le-self _ _) (c .before .pre .grid-most))) (lit< tt)
+mul-t4 c = fits-below (le-trans (c .isqrt .ensures .low) (le-trans (div-le-self _ _) (c .before .pre .grid-most))) (lit< tt)
 
 mul-t5 : tie.Need-mul-t5
 mul-t5 c = fits-below (le-trans (begun-low (c .before .pre) (c .isqrt .ensures)) (c .before .pre .grid-most)) (lit< tt)

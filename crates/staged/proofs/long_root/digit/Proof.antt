@@ -3,8 +3,7 @@ use Prim.Native.Nat.{_+_, _-_, _*_, _^_, _≤_, _<_}
 use native.Mathlib.Omega.{arith}
 use lib.Dec.{lit<}
 use Rattle.interval.proofs.Fits.{fits-product}
-use Rattle.staged.proofs.LongRoot.{digit-more, digit-fits}
-use Rattle.staged.proofs.long_root.digit.Statement.{statement}
+use Rattle.staged.proofs.{LongRoot.{digit-more, digit-fits}, long_root.digit.Statement.{statement}}
 use Rattle.staged.proofs.long_root.digit.Tie as tie
 
 abbrev Inv-loop : tie.InvT-loop
@@ -59,18 +58,5 @@ returns c =
 
 pub digit-spec : {M : Type 1} → statement M
 digit-spec =
-    tie.close
-    (tie.spec
-    Inv-loop
-    μ-loop
-    loop-holds
-    mul-loop
-    add-loop
-    add-loop-2
-    add-loop-3
-    mul-loop-2
-    mul-loop-3
-    add-d
-    loop-less
-    loop-again
+    tie.close (tie.spec Inv-loop μ-loop loop-holds mul-loop add-loop add-loop-2 add-loop-3 mul-loop-2 mul-loop-3 add-d loop-less loop-again
     returns)

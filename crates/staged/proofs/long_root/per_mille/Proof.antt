@@ -5,8 +5,7 @@ use native.Mathlib.Omega.{arith}
 use borrow.Author.Needs.{needs}
 use lib.Dec.{lit≤}
 use Rattle.staged.specs.LongRoot.{radicand}
-use Rattle.staged.proofs.LongRoot.{room}
-use Rattle.staged.proofs.RoundedUp.{exact-split, next-split, split-small}
+use Rattle.staged.proofs.{LongRoot.{room}, RoundedUp.{exact-split, next-split, split-small}}
 use Rattle.staged.proofs.long_root.per_mille.Statement.{statement}
 use Rattle.staged.proofs.long_root.per_mille.Tie as tie
 
@@ -33,8 +32,7 @@ append-requires-2 : tie.Need-append-requires-2
 append-requires-2 c κs = room (c .before .before .pre) (c .append .ensures .greatest) 100 (lit≤ tt) (one-digit c)
 
 append-requires-3 : tie.Need-append-requires-3
-append-requires-3 c κs =
-    room (c .before .before .before .pre) (c .append2 .ensures .greatest) 10000 (lit≤ tt) (two-digits c)
+append-requires-3 c κs = room (c .before .before .before .pre) (c .append2 .ensures .greatest) 10000 (lit≤ tt) (two-digits c)
 
 add-result : tie.Need-add-result
 add-result c =
@@ -56,12 +54,4 @@ returns-2 c =
 
 pub per-mille-spec : {M : Type 1} → statement M
 per-mille-spec =
-    tie.close
-    (tie.spec
-    (λ c κs. search needs)
-    append-requires
-    append-requires-2
-    append-requires-3
-    add-result
-    returns
-    returns-2)
+    tie.close (tie.spec (λ c κs. search needs) append-requires append-requires-2 append-requires-3 add-result returns returns-2)

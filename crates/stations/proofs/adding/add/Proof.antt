@@ -1,15 +1,11 @@
 -- `add` adds a row.
 use lib.IntN.{pos}
 use mathlib.Core.Path.{sym, _∙_}
-use mir.Syntax.{w64}
-use mir.Val.{SFits}
-use mir.Facts.{toZ-ofZ}
-use Rattle.stations.proofs.Same.{one-most}
+use mir.{Syntax.{w64}, Val.{SFits}, Facts.{toZ-ofZ}}
+use Rattle.stations.proofs.{Same.{one-most}, adding.add.Statement.{statement}}
 use native.Mathlib.Omega.{arith}
-use Rattle.stations.specs.Summary.{sameZ}
-use Rattle.stations.specs.Sums.{addTo}
+use Rattle.stations.specs.{Summary.{sameZ}, Sums.{addTo}}
 use borrow.Author.Needs.{needs}
-use Rattle.stations.proofs.adding.add.Statement.{statement}
 use Rattle.stations.proofs.adding.add.Tie as tie
 
 held : (s : tie.Start)
@@ -68,15 +64,5 @@ returns-2 c =
 
 pub add-spec : {M : Type 1} → statement M
 add-spec =
-    tie.close
-    (tie.spec
-    (λ c. search needs)
-    (λ c κs. search needs)
-    add-safe
-    (λ c κs. search needs)
-    add-not-safe
-    (λ c κs. search needs)
-    add-undecided
-    (λ c κs. search needs)
-    returns
-    returns-2)
+    tie.close (tie.spec (λ c. search needs) (λ c κs. search needs) add-safe (λ c κs. search needs) add-not-safe (λ c κs. search needs)
+    add-undecided (λ c κs. search needs) returns returns-2)

@@ -1,12 +1,9 @@
 -- `counted` compares the bits of two numbers.
 use mathlib.Core.Path.{sym, _∙_}
 use Rattle.stations.specs.Summary.{one}
-use borrow.Author.Needs.{needs}
-use borrow.Author.Tests.{eq-eqb, ne-eqb}
-use mir.Syntax.{w64}
-use mir.Val.{SFits}
-use Rattle.stations.proofs.Same.{same-bits}
-use Rattle.stations.proofs.adding.counted.Statement.{statement}
+use borrow.Author.{Needs.{needs}, Tests.{eq-eqb, ne-eqb}}
+use mir.{Syntax.{w64}, Val.{SFits}}
+use Rattle.stations.proofs.{Same.{same-bits}, adding.counted.Statement.{statement}}
 use Rattle.stations.proofs.adding.counted.Tie as tie
 
 held : (s : tie.Start) → SFits w64 (s .args .e .verdict) × SFits w64 (s .args .v)

@@ -1,10 +1,7 @@
 -- `is_worst` follows the two tests.
 use Rattle.stations.specs.Sums.{worst}
-use borrow.Author.Needs.{needs}
-use borrow.Author.Tests.{eq-eqb, ne-eqb}
-use mir.Syntax.{w64}
-use mir.Val.{SFits}
-use mir.Facts.{toZ-ofZ}
+use borrow.Author.{Needs.{needs}, Tests.{eq-eqb, ne-eqb}}
+use mir.{Syntax.{w64}, Val.{SFits}, Facts.{toZ-ofZ}}
 use Rattle.stations.proofs.adding.is_worst.Statement.{statement}
 use Rattle.stations.proofs.adding.is_worst.Tie as tie
 

@@ -1,18 +1,15 @@
 -- `find_stations` places row after row: the pass of proofs/Appearing.antt, with the marks of proofs/Marks.antt.
 use Prim.Native.Nat.{_-_, _<_}
-use mathlib.Core.Path.{_≡_}
-use mathlib.Core.Logic.{⊎-elim}
+use mathlib.Core.{Path.{_≡_}, Logic.{⊎-elim}}
 use native.Mathlib.Omega.{arith}
 use lib.ListN.{length, length-set}
-use mir.Syntax.{w64}
-use mir.Val.{SFits}
-use mir.Facts.{toZ-ofZ}
+use mir.{Syntax.{w64}, Val.{SFits}, Facts.{toZ-ofZ}}
 use Rattle.judgement.specs.Limits.{mostLines}
 use Rattle.stations.specs.Places.{markOf, Marked, PlaceOf, stationAt}
 use Rattle.stations.proofs.Marks.{marked-start, marked-more}
 use Rattle.stations.proofs.Appearing.{Placing, placing-start, placing-known, placing-new, placing-end}
-use borrow.Author.Needs.{needs}
 use Rattle.stations.proofs.appearance.find_stations.Statement.{statement}
+use borrow.Author.Needs.{needs}
 use Rattle.stations.proofs.appearance.find_stations.Tie as tie
 
 abbrev Inv-loop : tie.InvT-loop
@@ -91,26 +88,6 @@ returns c = placing-end (c .before .loop .inv .0) (c .loop-test .left)
 
 pub find-stations-spec : {M : Type 1} → statement M
 find-stations-spec =
-    tie.close
-    (tie.spec
-    Inv-loop
-    μ-loop
-    loop-holds
-    (λ c. search needs)
-    (λ c. search needs)
-    shared-slice-copy-out-station
-    (λ c. search needs)
-    (λ c. search needs)
-    place-of-requires
-    mul-places
-    array-write-places
-    mul-known
-    array-set-from-known
-    (λ c κs. search needs)
-    mul-marks
-    array-write-marks
-    add-count
-    add-i
-    (λ c. search needs)
-    loop-again
-    returns)
+    tie.close (tie.spec Inv-loop μ-loop loop-holds (λ c. search needs) (λ c. search needs) shared-slice-copy-out-station (λ c. search needs)
+    (λ c. search needs) place-of-requires mul-places array-write-places mul-known array-set-from-known (λ c κs. search needs) mul-marks
+    array-write-marks add-count add-i (λ c. search needs) loop-again returns)

@@ -1,9 +1,8 @@
 -- `is_marked` compares every mark.
 use Prim.Native.Nat.{_-_}
 use native.Mathlib.Omega.{arith}
-use Rattle.stations.proofs.Marks.{Marking, marking-start, marking-step, marking-end}
+use Rattle.stations.proofs.{Marks.{Marking, marking-start, marking-step, marking-end}, appearance.is_marked.Statement.{statement}}
 use borrow.Author.Needs.{needs}
-use Rattle.stations.proofs.appearance.is_marked.Statement.{statement}
 use Rattle.stations.proofs.appearance.is_marked.Tie as tie
 
 abbrev Inv-loop : tie.InvT-loop
@@ -23,14 +22,5 @@ returns c = marking-end (c .before .loop .inv) (omega arith)
 
 pub is-marked-spec : {M : Type 1} → statement M
 is-marked-spec =
-    tie.close
-    (tie.spec
-    Inv-loop
-    μ-loop
-    loop-holds
-    (λ c. search needs)
-    (λ c. search needs)
-    (λ c. search needs)
-    (λ c. search needs)
-    loop-again
-    returns)
+    tie.close (tie.spec Inv-loop μ-loop loop-holds (λ c. search needs) (λ c. search needs) (λ c. search needs) (λ c. search needs)
+    loop-again returns)

@@ -1,13 +1,11 @@
 -- `mark` takes the rest of a natural number by 2^16.
 use mathlib.Core.Path.{_≡_, sym, ap, _∙_}
 use native.Mathlib.Omega.{arith}
-use lib.IntN.{pos}
-use lib.Signed.{mag}
+use lib.{IntN.{pos}, Signed.{mag}}
 use mir.Facts.{toZ-ofZ}
 use Rattle.interval.proofs.Bits.{below-zero, not-below-zero, natural-cast}
 use Rattle.stations.specs.Places.{markOf}
-use Rattle.stations.proofs.Marks.{mark-natural}
-use Rattle.stations.proofs.appearance.mark.Statement.{statement}
+use Rattle.stations.proofs.{Marks.{mark-natural}, appearance.mark.Statement.{statement}}
 use Rattle.stations.proofs.appearance.mark.Tie as tie
 
 natural : (c : tie.Else1) → c .before .args .station ≡ pos (mag (c .before .args .station))

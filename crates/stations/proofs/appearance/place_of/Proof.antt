@@ -2,19 +2,11 @@
 use Prim.Native.Nat.{ℕ, _-_, _≤_, _<_}
 use mathlib.Core.Path.{_≡_, sym, _∙_}
 use native.Mathlib.Omega.{arith}
-use lib.IntN.{pos}
-use lib.ListN.{getD}
-use borrow.Author.Count.{below-more}
-use borrow.Author.Tests.{not-true}
-use mir.Syntax.{w64}
-use mir.Val.{SFits, toZ}
-use mir.Facts.{toZ-ofZ}
-use Rattle.stations.specs.Summary.{sameZ}
-use Rattle.stations.specs.Places.{markOf}
-use Rattle.stations.proofs.Same.{same-eq, same-apart}
-use Rattle.stations.proofs.Marks.{not-marked}
-use borrow.Author.Needs.{needs}
-use Rattle.stations.proofs.appearance.place_of.Statement.{statement}
+use lib.{IntN.{pos}, ListN.{getD}}
+use borrow.Author.{Count.{below-more}, Tests.{not-true}, Needs.{needs}}
+use mir.{Syntax.{w64}, Val.{SFits, toZ}, Facts.{toZ-ofZ}}
+use Rattle.stations.specs.{Summary.{sameZ}, Places.{markOf}}
+use Rattle.stations.proofs.{Same.{same-eq, same-apart}, Marks.{not-marked}, appearance.place_of.Statement.{statement}}
 use Rattle.stations.proofs.appearance.place_of.Tie as tie
 
 abbrev Inv-loop : tie.InvT-loop
@@ -76,19 +68,5 @@ returns-3 c =
 
 pub place-of-spec : {M : Type 1} → statement M
 place-of-spec =
-    tie.close
-    (tie.spec
-    Inv-loop
-    μ-loop
-    (λ c κs. search needs)
-    is-marked-requires
-    returns
-    (λ c. search needs)
-    (λ c. search needs)
-    (λ c. search needs)
-    (λ c κs. search needs)
-    returns-2
-    (λ c. search needs)
-    (λ c. search needs)
-    loop-again
-    returns-3)
+    tie.close (tie.spec Inv-loop μ-loop (λ c κs. search needs) is-marked-requires returns (λ c. search needs) (λ c. search needs)
+    (λ c. search needs) (λ c κs. search needs) returns-2 (λ c. search needs) (λ c. search needs) loop-again returns-3)

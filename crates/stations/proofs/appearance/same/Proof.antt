@@ -1,9 +1,7 @@
 -- `same` compares the bits of two numbers.
-use mir.Syntax.{w64}
-use mir.Val.{SFits}
-use Rattle.stations.proofs.Same.{same-bits}
+use mir.{Syntax.{w64}, Val.{SFits}}
+use Rattle.stations.proofs.{Same.{same-bits}, appearance.same.Statement.{statement}}
 use borrow.Author.Needs.{needs}
-use Rattle.stations.proofs.appearance.same.Statement.{statement}
 use Rattle.stations.proofs.appearance.same.Tie as tie
 
 held : (s : tie.Start) → SFits w64 (s .args .a) × SFits w64 (s .args .b)

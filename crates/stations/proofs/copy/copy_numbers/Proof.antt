@@ -1,14 +1,10 @@
 -- `copy_numbers` copies number by number: the pass of proofs/Copying.antt.
 use Prim.Native.Nat.{_-_}
 use native.Mathlib.Omega.{arith}
-use lib.IntN.{pos}
-use lib.ListN.{getD}
-use mir.Syntax.{w64}
-use mir.Val.{SFits}
-use mir.Facts.{toZ-ofZ}
-use Rattle.stations.proofs.Copying.{Copying, copying-start, copying-next, copying-end}
+use lib.{IntN.{pos}, ListN.{getD}}
+use mir.{Syntax.{w64}, Val.{SFits}, Facts.{toZ-ofZ}}
+use Rattle.stations.proofs.{Copying.{Copying, copying-start, copying-next, copying-end}, copy.copy_numbers.Statement.{statement}}
 use borrow.Author.Needs.{needs}
-use Rattle.stations.proofs.copy.copy_numbers.Statement.{statement}
 use Rattle.stations.proofs.copy.copy_numbers.Tie as tie
 
 abbrev Inv-loop : tie.InvT-loop
@@ -41,17 +37,5 @@ returns c = copying-end (c .before .loop .inv) (c .loop-test .left)
 
 pub copy-numbers-spec : {M : Type 1} → statement M
 copy-numbers-spec =
-    tie.close
-    (tie.spec
-    Inv-loop
-    μ-loop
-    loop-holds
-    (λ c. search needs)
-    (λ c. search needs)
-    (λ c. search needs)
-    slice-set-from-z
-    (λ c. search needs)
-    (λ c. search needs)
-    loop-again
-    same-length
-    returns)
+    tie.close (tie.spec Inv-loop μ-loop loop-holds (λ c. search needs) (λ c. search needs) (λ c. search needs) slice-set-from-z
+    (λ c. search needs) (λ c. search needs) loop-again same-length returns)

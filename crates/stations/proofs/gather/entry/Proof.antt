@@ -1,12 +1,8 @@
 -- `entry` reads three numbers of a row; each fits 64 bits with its sign.
 use Prim.Native.Nat.{_+_, _*_}
-use lib.IntN.{pos}
-use lib.ListN.{getD}
-use mir.Syntax.{w64}
-use mir.Val.{SFits}
-use mir.Facts.{toZ-ofZ}
-use Rattle.row.specs.Row.{rowLength}
-use Rattle.row.specs.Places.{seasonPlace, verdictPlace, meshUpperPlace}
+use lib.{IntN.{pos}, ListN.{getD}}
+use mir.{Syntax.{w64}, Val.{SFits}, Facts.{toZ-ofZ}}
+use Rattle.row.specs.{Row.{rowLength}, Places.{seasonPlace, verdictPlace, meshUpperPlace}}
 use Rattle.stations.specs.Sums.{entryAt}
 use borrow.Author.Needs.{needs}
 use Rattle.stations.proofs.gather.entry.Statement.{statement}
@@ -27,16 +23,5 @@ returns c =
 
 pub entry-spec : {M : Type 1} → statement M
 entry-spec =
-    tie.close
-    (tie.spec
-    (λ c. search needs)
-    (λ c. search needs)
-    (λ c. search needs)
-    (λ c. search needs)
-    (λ c. search needs)
-    (λ c. search needs)
-    (λ c. search needs)
-    (λ c. search needs)
-    (λ c. search needs)
-    (λ c. search needs)
-    returns)
+    tie.close (tie.spec (λ c. search needs) (λ c. search needs) (λ c. search needs) (λ c. search needs) (λ c. search needs)
+    (λ c. search needs) (λ c. search needs) (λ c. search needs) (λ c. search needs) (λ c. search needs) returns)

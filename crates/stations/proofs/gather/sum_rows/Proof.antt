@@ -6,8 +6,8 @@ use lib.ListN.{getD, getD-replicate}
 use Rattle.judgement.specs.Limits.{mostLines}
 use Rattle.stations.specs.Sums.{none, addTo}
 use Rattle.stations.proofs.RowSums.{small-at, Summing, summing-start, summing-next, summing-end}
-use borrow.Author.Needs.{needs}
 use Rattle.stations.proofs.gather.sum_rows.Statement.{statement}
+use borrow.Author.Needs.{needs}
 use Rattle.stations.proofs.gather.sum_rows.Tie as tie
 
 abbrev Inv-loop : tie.InvT-loop
@@ -55,20 +55,5 @@ returns c = summing-end (c .before .loop .inv) (c .loop-test .left)
 
 pub sum-rows-spec : {M : Type 1} → statement M
 sum-rows-spec =
-    tie.close
-    (tie.spec
-    Inv-loop
-    μ-loop
-    loop-holds
-    (λ c. search needs)
-    (λ c. search needs)
-    mul-before
-    array-copy-out-before
-    (λ c κs. search needs)
-    add-requires
-    mul-sums
-    array-set-from-sums
-    (λ c. search needs)
-    (λ c. search needs)
-    loop-again
-    returns)
+    tie.close (tie.spec Inv-loop μ-loop loop-holds (λ c. search needs) (λ c. search needs) mul-before array-copy-out-before
+    (λ c κs. search needs) add-requires mul-sums array-set-from-sums (λ c. search needs) (λ c. search needs) loop-again returns)

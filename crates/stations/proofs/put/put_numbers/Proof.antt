@@ -1,13 +1,10 @@
 -- `put_numbers` sets the six numbers one by one.
 use native.Mathlib.Omega.{arith}
 use lib.ListN.{length-set}
-use mir.Syntax.{w64}
-use mir.Val.{SFits}
-use mir.Facts.{toZ-ofZ, toZ-pos}
+use mir.{Syntax.{w64}, Val.{SFits}, Facts.{toZ-ofZ, toZ-pos}}
 use Rattle.stations.specs.Sums.{six}
-use Rattle.stations.proofs.Tables.{six-set}
+use Rattle.stations.proofs.{Tables.{six-set}, put.put_numbers.Statement.{statement}}
 use borrow.Author.Needs.{needs}
-use Rattle.stations.proofs.put.put_numbers.Statement.{statement}
 use Rattle.stations.proofs.put.put_numbers.Tie as tie
 
 held : (s : tie.Start) → SFits w64 (s .args .station) × SFits w64 (s .args .s .season)
@@ -40,17 +37,5 @@ returns c =
 
 pub put-numbers-spec : {M : Type 1} → statement M
 put-numbers-spec =
-    tie.close
-    (tie.spec
-    (λ c. search needs)
-    (λ c. search needs)
-    (λ c. search needs)
-    (λ c. search needs)
-    (λ c. search needs)
-    (λ c. search needs)
-    (λ c. search needs)
-    (λ c. search needs)
-    slice-set-from-undecided
-    slice-set-from-season
-    same-length
-    returns)
+    tie.close (tie.spec (λ c. search needs) (λ c. search needs) (λ c. search needs) (λ c. search needs) (λ c. search needs)
+    (λ c. search needs) (λ c. search needs) (λ c. search needs) slice-set-from-undecided slice-set-from-season same-length returns)

@@ -1,10 +1,7 @@
 -- `put_station` puts the six numbers in their own part of the table.
-use mir.Syntax.{w64}
-use mir.Val.{SFits}
-use mir.Facts.{toZ-ofZ}
-use Rattle.stations.proofs.Tables.{put-at}
+use mir.{Syntax.{w64}, Val.{SFits}, Facts.{toZ-ofZ}}
+use Rattle.stations.proofs.{Tables.{put-at}, put.put_station.Statement.{statement}}
 use borrow.Author.Needs.{needs}
-use Rattle.stations.proofs.put.put_station.Statement.{statement}
 use Rattle.stations.proofs.put.put_station.Tie as tie
 
 held : (s : tie.Start) → SFits w64 (s .args .station)
@@ -17,14 +14,5 @@ returns c =
 
 pub put-station-spec : {M : Type 1} → statement M
 put-station-spec =
-    tie.close
-    (tie.spec
-    (λ c. search needs)
-    (λ c. search needs)
-    (λ c. search needs)
-    (λ c. search needs)
-    (λ c. search needs)
-    (λ c. search needs)
-    (λ c κs. search needs)
-    (λ c. search needs)
-    returns)
+    tie.close (tie.spec (λ c. search needs) (λ c. search needs) (λ c. search needs) (λ c. search needs) (λ c. search needs)
+    (λ c. search needs) (λ c κs. search needs) (λ c. search needs) returns)

@@ -1,15 +1,11 @@
 -- `put_stations` puts station after station: the pass of proofs/Tables.antt.
 use Prim.Native.Nat.{_-_}
 use native.Mathlib.Omega.{arith}
-use lib.IntN.{pos}
-use lib.ListN.{getD}
-use mir.Syntax.{w64}
-use mir.Val.{SFits}
-use mir.Facts.{toZ-ofZ}
+use lib.{IntN.{pos}, ListN.{getD}}
+use mir.{Syntax.{w64}, Val.{SFits}, Facts.{toZ-ofZ}}
 use Rattle.stations.specs.Sums.{none}
-use Rattle.stations.proofs.Tables.{Putting, putting-start, putting-next, putting-end}
+use Rattle.stations.proofs.{Tables.{Putting, putting-start, putting-next, putting-end}, put.put_stations.Statement.{statement}}
 use borrow.Author.Needs.{needs}
-use Rattle.stations.proofs.put.put_stations.Statement.{statement}
 use Rattle.stations.proofs.put.put_stations.Tie as tie
 
 abbrev Inv-loop : tie.InvT-loop
@@ -50,18 +46,5 @@ returns c = putting-end (c .before .loop .inv) (c .loop-test .left)
 
 pub put-stations-spec : {M : Type 1} → statement M
 put-stations-spec =
-    tie.close
-    (tie.spec
-    Inv-loop
-    μ-loop
-    loop-holds
-    (λ c. search needs)
-    (λ c. search needs)
-    (λ c. search needs)
-    (λ c. search needs)
-    put-station-requires
-    add-i
-    (λ c. search needs)
-    loop-again
-    same-length
-    returns)
+    tie.close (tie.spec Inv-loop μ-loop loop-holds (λ c. search needs) (λ c. search needs) (λ c. search needs) (λ c. search needs)
+    put-station-requires add-i (λ c. search needs) loop-again same-length returns)

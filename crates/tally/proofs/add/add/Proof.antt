@@ -2,13 +2,9 @@
 use mathlib.Core.Path.{ap, _∙_}
 use native.Mathlib.Omega.{arith}
 use borrow.Author.Needs.{needs}
-use mir.Syntax.{w64}
-use mir.Val.{SFits}
-use mir.Facts.{toZ-ofZ}
-use Rattle.tally.specs.Lines.{answeredUnsafe, answeredUndecided}
-use Rattle.tally.specs.Tally.{addLine}
-use Rattle.tally.proofs.Counts.{counts-most}
-use Rattle.tally.proofs.add.add.Statement.{statement}
+use mir.{Syntax.{w64}, Val.{SFits}, Facts.{toZ-ofZ}}
+use Rattle.tally.specs.{Lines.{answeredUnsafe, answeredUndecided}, Tally.{addLine}}
+use Rattle.tally.proofs.{Counts.{counts-most}, add.add.Statement.{statement}}
 use Rattle.tally.proofs.add.add.Tie as tie
 
 abbrev start : tie.After-work-row → tie.Start
@@ -69,22 +65,6 @@ returns c =
 
 pub add-spec : {M : Type 1} → statement M
 add-spec =
-    tie.close
-    (tie.spec
-    (λ c κs. search needs)
-    (λ c κs. search needs)
-    add-not-safe
-    (λ c κs. search needs)
-    add-undecided
-    (λ c κs. search needs)
-    add-other
-    count-small-requires
-    add-small
-    add-t10
-    (λ c κs. search needs)
-    (λ c κs. search needs)
-    (λ c κs. search needs)
-    (λ c κs. search needs)
-    line-fault-requires
-    (λ c κs. search needs)
-    returns)
+    tie.close (tie.spec (λ c κs. search needs) (λ c κs. search needs) add-not-safe (λ c κs. search needs) add-undecided
+    (λ c κs. search needs) add-other count-small-requires add-small add-t10 (λ c κs. search needs) (λ c κs. search needs)
+    (λ c κs. search needs) (λ c κs. search needs) line-fault-requires (λ c κs. search needs) returns)

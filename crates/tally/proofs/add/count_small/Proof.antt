@@ -3,12 +3,9 @@ use Prim.Native.Nat.{_/_, _*_}
 use mathlib.Core.Path.{sym, _∙_, _≡_}
 use native.Mathlib.Omega.{arith}
 use borrow.Author.Needs.{needs}
-use mir.Syntax.{w64}
-use mir.Val.{SFits}
-use mir.Facts.{toZ-ofZ, toZ-pos}
+use mir.{Syntax.{w64}, Val.{SFits}, Facts.{toZ-ofZ, toZ-pos}}
 use Rattle.tally.specs.Lines.{one, tooSmall}
-use Rattle.tally.proofs.Counts.{square-most, small-is}
-use Rattle.tally.proofs.add.count_small.Statement.{statement}
+use Rattle.tally.proofs.{Counts.{square-most, small-is}, add.count_small.Statement.{statement}}
 use Rattle.tally.proofs.add.count_small.Tie as tie
 
 mul-kcmil : tie.Need-mul-kcmil
@@ -46,5 +43,4 @@ unfolding one
 returns-2 c = rw (sym (tested (c .before)) ∙ c .if1 .left)
 
 pub count-small-spec : {M : Type 1} → statement M
-count-small-spec =
-    tie.close (tie.spec mul-kcmil mul-kcmil-2 cast-below (λ c κs. search needs) returns returns-2)
+count-small-spec = tie.close (tie.spec mul-kcmil mul-kcmil-2 cast-below (λ c κs. search needs) returns returns-2)

@@ -3,14 +3,9 @@ use mathlib.Core.Path.{sym, _∙_, _≡_}
 use borrow.Author.Needs.{needs}
 use Rattle.text.proofs.Clash.{clash}
 use Rattle.case.proofs.BoundsSound.{bounds-sound}
-use Rattle.headroom.specs.declared.Room.{Room}
-use Rattle.headroom.specs.Headroom.{HeadroomAnswered, RightRoom, checked}
-use Rattle.tally.proofs.Faults.{headroom-common, no-headroom-common}
-use Rattle.tally.proofs.add.line_fault.Statement.{statement}
+use Rattle.headroom.specs.{declared.Room.{Room}, Headroom.{HeadroomAnswered, RightRoom, checked}}
+use Rattle.tally.proofs.{Faults.{headroom-common, no-headroom-common}, add.line_fault.Statement.{statement}}
 use Rattle.tally.proofs.add.line_fault.Tie as tie
-
-enum-told : tie.Need-enum-told
-enum-told c = search needs
 
 -- what the answer says
 module _ (h : tie.After-headroom) where
@@ -39,12 +34,4 @@ returns-3 c =
 
 pub line-fault-spec : {M : Type 1} → statement M
 line-fault-spec =
-    tie.close
-    (tie.spec
-    (λ c κs. search needs)
-    (λ c. search needs)
-    enum-told
-    (λ c. search needs)
-    returns
-    returns-2
-    returns-3)
+    tie.close (tie.spec (λ c κs. search needs) (λ c. search needs) (λ c. search needs) (λ c. search needs) returns returns-2 returns-3)

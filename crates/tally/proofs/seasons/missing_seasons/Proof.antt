@@ -2,10 +2,8 @@
 use Prim.Native.Nat.{_≤_}
 use native.Mathlib.Omega.{arith}
 use borrow.Author.Needs.{needs}
-use Rattle.tally.specs.Lines.{licensed}
-use Rattle.tally.specs.Tally.{lacks, missingBy}
-use Rattle.tally.proofs.Counts.{counts-most}
-use Rattle.tally.proofs.seasons.missing_seasons.Statement.{statement}
+use Rattle.tally.specs.{Lines.{licensed}, Tally.{lacks, missingBy}}
+use Rattle.tally.proofs.{Counts.{counts-most}, seasons.missing_seasons.Statement.{statement}}
 use Rattle.tally.proofs.seasons.missing_seasons.Tie as tie
 
 -- each season counts at most one
@@ -42,13 +40,5 @@ returns c =
 
 pub missing-seasons-spec : {M : Type 1} → statement M
 missing-seasons-spec =
-    tie.close
-    (tie.spec
-    (λ c κs. search needs)
-    (λ c κs. search needs)
-    add-first-two
-    (λ c κs. search needs)
-    add-result
-    (λ c κs. search needs)
-    add-result-2
-    returns)
+    tie.close (tie.spec (λ c κs. search needs) (λ c κs. search needs) add-first-two (λ c κs. search needs) add-result (λ c κs. search needs)
+    add-result-2 returns)

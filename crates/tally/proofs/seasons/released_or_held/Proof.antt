@@ -1,8 +1,6 @@
 -- `released_or_held` tests the sum of the five counts.
-use mathlib.Core.Path.{ap, sym}
-use mathlib.Core.Bool.{cond}
-use borrow.Author.Tests.{eq-eqb, ne-eqb}
-use borrow.Author.Needs.{needs}
+use mathlib.Core.{Path.{ap, sym}, Bool.{cond}}
+use borrow.Author.{Tests.{eq-eqb, ne-eqb}, Needs.{needs}}
 use Rattle.tally.specs.Tally.{released}
 use Rattle.tally.proofs.seasons.released_or_held.Statement.{statement}
 use Rattle.tally.proofs.seasons.released_or_held.Tie as tie

@@ -1,14 +1,11 @@
 -- `first_safe` tries yard after yard: the search of proofs/Trying.antt. A break out of both loops is a return from within the inner one.
 use Prim.Native.Nat.{_+_, _-_, _≤_}
-use mathlib.Core.Path.{_≡_, sym, ap, _∙_}
-use mathlib.Core.Bool.{true}
-use mathlib.Core.List.{_++_}
+use mathlib.Core.{Path.{_≡_, sym, ap, _∙_}, Bool.{true}, List.{_++_}}
 use native.Mathlib.Omega.{arith}
 use borrow.Author.Tests.{not-true, not-false}
 use Rattle.yards.specs.Yards.{fits, yard, yardsOf, yardsFrom, isSafe}
 use Rattle.yards.proofs.Trying.{lines-next, lines-skipped, lines-end, rods-next, rods-end, Trying, trying-start, trying-few}
-use Rattle.yards.proofs.Trying.{trying-end, trying-found, trying-next}
-use Rattle.yards.proofs.Sound.{yard-bounds}
+use Rattle.yards.proofs.{Trying.{trying-end, trying-found, trying-next}, Sound.{yard-bounds}}
 use Rattle.yards.proofs.search.first_safe.Statement.{statement}
 use Rattle.yards.proofs.search.first_safe.Tie as tie
 
@@ -114,27 +111,5 @@ returns-2 c =
 
 pub first-safe-spec : {M : Type 1} → statement M
 first-safe-spec =
-    tie.close
-    (tie.spec
-    Inv-loop
-    μ-loop
-    Inv-counts
-    μ-counts
-    counts-holds
-    fits-requires
-    add-lines
-    counts-less
-    counts-again
-    loop-holds
-    add-tried
-    mul-rods
-    yard-requires
-    is-safe-requires
-    add-k
-    loop-less
-    loop-again
-    add-lines-2
-    counts-less-2
-    counts-again-2
-    returns
-    returns-2)
+    tie.close (tie.spec Inv-loop μ-loop Inv-counts μ-counts counts-holds fits-requires add-lines counts-less counts-again loop-holds
+    add-tried mul-rods yard-requires is-safe-requires add-k loop-less loop-again add-lines-2 counts-less-2 counts-again-2 returns returns-2)

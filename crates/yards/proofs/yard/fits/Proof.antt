@@ -1,10 +1,8 @@
 -- `fits` follows the three tests.
 use Rattle.text.specs.Text.{same}
-use Rattle.case.specs.Columns.{columns, inRange, nameIndex}
-use Rattle.case.specs.Parts.{rangeAt}
+use Rattle.case.specs.{Columns.{columns, inRange, nameIndex}, Parts.{rangeAt}}
 use Rattle.yards.specs.Yards.{fits, spacing, spaceRange}
-use borrow.Author.Needs.{needs}
-use borrow.Author.Tests.{eq-eqb, ne-eqb, le-leb, lt-leb}
+use borrow.Author.{Needs.{needs}, Tests.{eq-eqb, ne-eqb, le-leb, lt-leb}}
 use Rattle.yards.proofs.yard.fits.Statement.{statement}
 use Rattle.yards.proofs.yard.fits.Tie as tie
 

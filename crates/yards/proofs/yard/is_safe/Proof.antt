@@ -11,5 +11,4 @@ unfolding isSafe rowOf
 returns c = c .means-safe .ensures ∙ rw (c .before .work-row .ensures)
 
 pub is-safe-spec : {M : Type 1} → statement M
-is-safe-spec =
-    tie.close (tie.spec (λ c κs. search needs) (λ c κs. search needs) returns)
+is-safe-spec = tie.close (tie.spec (λ c κs. search needs) (λ c κs. search needs) returns)

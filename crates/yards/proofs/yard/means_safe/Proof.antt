@@ -17,5 +17,4 @@ unfolding meansSafe
 returns-3 c = search needs
 
 pub means-safe-spec : {M : Type 1} → statement M
-means-safe-spec =
-    tie.close (tie.spec (λ c. search needs) (λ c. search needs) (λ c. search needs) returns returns-2 returns-3)
+means-safe-spec = tie.close (tie.spec (λ c. search needs) (λ c. search needs) (λ c. search needs) returns returns-2 returns-3)

@@ -1,8 +1,7 @@
 -- `trial` has rods where the case has a rod length.
 use mathlib.Core.Path.{_∙_}
 use Rattle.yards.specs.Yards.{trial}
-use borrow.Author.Needs.{needs}
-use borrow.Author.Tests.{eq-eqb, ne-eqb}
+use borrow.Author.{Needs.{needs}, Tests.{eq-eqb, ne-eqb}}
 use Rattle.yards.proofs.yard.trial.Statement.{statement}
 use Rattle.yards.proofs.yard.trial.Tie as tie
 

@@ -1,7 +1,6 @@
 -- `yard` sets lines, spacing, rods and place.
 use Rattle.yards.specs.Yards.{yard, spacing}
-use borrow.Author.Tests.{eq-eqb, ne-eqb}
-use borrow.Author.Needs.{needs}
+use borrow.Author.{Tests.{eq-eqb, ne-eqb}, Needs.{needs}}
 use Rattle.yards.proofs.yard.yard.Statement.{statement}
 use Rattle.yards.proofs.yard.yard.Tie as tie
 

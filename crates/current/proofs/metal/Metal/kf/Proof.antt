@@ -4,8 +4,7 @@ use mathlib.Core.Path.{_≡_, refl}
 use native.Mathlib.Omega.{arith}
 use borrow.Author.Tests.{le-leb, lt-leb}
 use Rattle.formulas.specs.Size.{constants, Kf}
-use Rattle.current.specs.Metal.{constantOf}
-use Rattle.current.specs.declared.metal.Constant.the-variants.{Unknown}
+use Rattle.current.specs.{Metal.{constantOf}, declared.metal.Constant.the-variants.{Unknown}}
 use Rattle.current.proofs.metal.Metal.kf.Statement.{statement}
 use Rattle.current.proofs.metal.Metal.kf.Tie as tie
 
@@ -28,17 +27,7 @@ none (suc n) h = let l : 12 ≤ suc n = h (omega arith) in simp (le-leb 1 (suc n
 pub kf-spec : {M : Type 1} → statement M
 unfolding constantOf Kf constants
 kf-spec =
-    tie.close
-    (tie.spec
-    (λ c. rw (c .match .keys1))
-    (λ c. rw (c .match .keys2))
-    (λ c. rw (c .match .keys3))
-    (λ c. rw (c .match .keys4))
-    (λ c. rw (c .match .keys5))
-    (λ c. rw (c .match .keys6))
-    (λ c. rw (c .match .keys7))
-    (λ c. rw (c .match .keys8))
-    (λ c. rw (c .match .keys9))
-    (λ c. rw (c .match .keys10))
-    (λ c. rw (c .match .keys11))
+    tie.close (tie.spec (λ c. rw (c .match .keys1)) (λ c. rw (c .match .keys2)) (λ c. rw (c .match .keys3)) (λ c. rw (c .match .keys4))
+    (λ c. rw (c .match .keys5)) (λ c. rw (c .match .keys6)) (λ c. rw (c .match .keys7)) (λ c. rw (c .match .keys8))
+    (λ c. rw (c .match .keys9)) (λ c. rw (c .match .keys10)) (λ c. rw (c .match .keys11))
     (λ c. none (c .before .args .self .number) (past _ 11 (c .match .rest))))
