@@ -133,7 +133,9 @@ exponentRulesAt a b = cond (eqb a b) [] (exponentRulesOf (nLow a b) (nHigh a b))
 
 -- what the test computes with, opened by name
 computed : ℕ
-unfolding newton root halved lnLow lnHigh rootAt nbLow nbHigh nLow nHigh spacings halfPerimeter meshes ceilDiv choose decLe leastFrom squareOf powerOf termOf termsOf doublings nearOf endOf rootRules numberRules spreadRules spreadRulesOf exponentRules exponentRulesBy exponentRulesOf
+unfolding newton root halved lnLow lnHigh rootAt nbLow nbHigh nLow nHigh spacings halfPerimeter meshes ceilDiv choose decLe leastFrom
+    squareOf powerOf termOf termsOf doublings nearOf endOf rootRules numberRules spreadRules spreadRulesOf exponentRules exponentRulesBy
+    exponentRulesOf
 computed = 0
 
 -- ---- what the test shows

@@ -60,7 +60,8 @@ module _ {c : Case} (b : Bounds c) where
       (encloses-difference (twice-n b .consistent) (one .consistent) (encloses-times 2 (quantity-n b .consistent) number-encloses)
       (encloses-whole 1 (ten 7) refl))
 
-  pub spread-encloses : Encloses (ln (exactly (whole 8) ÷x (π ·x (exactly (whole 2) ·x n c −x exactly (whole 1))))) (ten 9) (spreadEnds (nEnds (c .across) (c .along)))
+  pub spread-encloses : Encloses (ln (exactly (whole 8) ÷x (π ·x (exactly (whole 2) ·x n c −x exactly (whole 1))))) (ten 9)
+      (spreadEnds (nEnds (c .across) (c .along)))
   unfolding spreadEnds N ten
   spread-encloses =
       let s = odd-span number in

@@ -25,7 +25,9 @@ present =
     "7,2,100,2500,102,500,500,500,70,3180,600,10,11,11,7000,500,100,0,0,0,1,60\n"
 
 carried-on : carriedText Present former ≡ present
-unfolding former present onFirst linesOf fieldsOf same numberFrom valueOf columns formerColumns nameIndex named formOf noColumns columnsFrom columnsOf lineValues names valueLines digitsIn digitCount lastDigits decimal moreFields parted ended textOf valueLine sheetText other presentValues formerValues carried casesIn sheetOf carriedText
+unfolding former present onFirst linesOf fieldsOf same numberFrom valueOf columns formerColumns nameIndex named formOf noColumns columnsFrom
+    columnsOf lineValues names valueLines digitsIn digitCount lastDigits decimal moreFields parted ended textOf valueLine sheetText other
+    presentValues formerValues carried casesIn sheetOf carriedText
 carried-on = refl
 
 -- the same times, counts and frequency; another wire time; another count along, and another frequency; another frequency

@@ -43,7 +43,8 @@ fn write_form(form: Form, buffer: &mut [u8], values: &[u32], n: usize) -> Writte
     requires { ⌜ length (formOf form) * n ≤ length (now values) ⌝ }
     requires { ⌜ n ≤ mostLines ⌝ }
     requires { ⌜ allLines (length (formOf form)) (partsOf (length (formOf form)) n (now values)) ≡ true ⌝ }
-    ensures { λ r. ⌜ WrittenFirst (sheetOf (formOf form) (partsOf (length (formOf form)) n (now (values .entry)))) (now (buffer .entry)) (now (buffer .exit)) r ⌝ }
+    ensures { λ r. ⌜ WrittenFirst (sheetOf (formOf form) (partsOf (length (formOf form)) n (now (values .entry)))) (now (buffer .entry))
+        (now (buffer .exit)) r ⌝ }
 {
     let k = name_count(form);
     let mut line = [0u8; NAMES_BYTES];

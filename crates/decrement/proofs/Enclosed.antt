@@ -123,7 +123,8 @@ module _ {c : Case} (b : Bounds c) where
       let f = ap (λ t. c .hz * c .clear * t) (clamped over-pos) in
       record { to = record { le = omega (arith, e, f) }; fro = record { le = omega (arith, e, f) } }
 
-  turns-same : SameEnds ((exactly (whole 2) ·x π ·x exactly (whole (c .hz))) workDepth) ((exactly (whole 2 ·f whole (c .hz)) ·x π) workDepth)
+  turns-same : SameEnds ((exactly (whole 2) ·x π ·x exactly (whole (c .hz))) workDepth)
+      ((exactly (whole 2 ·f whole (c .hz)) ·x π) workDepth)
   unfolding _·x_
   turns-same =
       same-trans (factors-exchanged (proper-exactly (whole 2)) proper-π (proper-exactly (whole (c .hz))))

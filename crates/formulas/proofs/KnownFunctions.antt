@@ -159,5 +159,7 @@ known-π = record { proper = proper-at consistent-π (lit≤ tt); within = withi
 
 -- what the tests are made of, opened by name
 unfoldable pub tests : ℕ
-unfolding atMost lessThan inside positive rootTest halvedBy lnBy lnTest lnDownTest expRoot powerEnds expTest slack whole decimal neg _+f_ _−f_ _·f_ inv _÷f_ top powf sumOf decLef decLe choose minf maxf least greatest combine _+e_ _−e_ _·e_ _÷e_ minusEnds lnNear argument terms term tail factorial expTerm expTerms natural reported over ten
+unfolding atMost lessThan inside positive rootTest halvedBy lnBy lnTest lnDownTest expRoot powerEnds expTest slack whole decimal neg _+f_
+    _−f_ _·f_ inv _÷f_ top powf sumOf decLef decLe choose minf maxf least greatest combine _+e_ _−e_ _·e_ _÷e_ minusEnds lnNear argument
+    terms term tail factorial expTerm expTerms natural reported over ten
 tests = 0

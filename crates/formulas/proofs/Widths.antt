@@ -72,5 +72,6 @@ each-equal (w ∷ ws) t =
     (record { to = at-most _ _ (l .0); fro = at-most _ _ (l .1) }, each-equal ws (h .1))
 
 as-worked : Every (λ w. w .width ≈f w .number) widths
-unfolding equal equal-all atMost widths factorWidth currentWidth tolerableWidth resistanceWidth riseWidth meshWidth stepWidth referenceKi ρ D Lr Lx Ly Lc Lp LR LT na LS mV μΩ μA billionths reported ten over inv whole decimal _+f_ _·f_ _÷f_
+unfolding equal equal-all atMost widths factorWidth currentWidth tolerableWidth resistanceWidth riseWidth meshWidth stepWidth referenceKi ρ
+    D Lr Lx Ly Lc Lp LR LT na LS mV μΩ μA billionths reported ten over inv whole decimal _+f_ _·f_ _÷f_
 as-worked = each-equal widths tt

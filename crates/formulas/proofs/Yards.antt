@@ -110,7 +110,8 @@ current-500-10 = known-product (digits 9 1957957255297 1957957255302) (known-exa
 
 -- what a yard's checks are made of, opened by name
 checks : ℕ
-unfolding same columns inRange nameIndex named leftOf outOfRange agree disagreement finding caseFinding countFrom ownPlaces recordFinding judgedBy recordJudged
+unfolding same columns inRange nameIndex named leftOf outOfRange agree disagreement finding caseFinding countFrom ownPlaces recordFinding
+    judgedBy recordJudged
 checks = 0
 
 pub sound-sample : Bounds sample
@@ -130,7 +131,8 @@ unfolding checks
 sound-rodless = bounds rodless refl
 
 pub starred : Every Right yards
-unfolding yards tests checks pair reportTest halves size smallest enough duty Kf constants tolerableTouch tolerableStep rootTime Q k ρ G D h d mV μΩ μA billionths factorWidth currentWidth
+unfolding yards tests checks pair reportTest halves size smallest enough duty Kf constants tolerableTouch tolerableStep rootTime Q k ρ G D h
+    d mV μΩ μA billionths factorWidth currentWidth
 starred =
     (exact-root _ 1000 1 (ten 0) _ (lits tt) refl tt, exact-root _ 1000 1 (ten 0) _ (lits tt) refl tt)
     then (exact-root _ 250 1 halves _ (lits tt) refl tt, exact-root _ 250 1 halves _ (lits tt) refl tt)

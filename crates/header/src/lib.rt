@@ -13,7 +13,8 @@ pub use names::all_names;
 use names::name_of;
 use text::find;
 
-// Puts for each name the column, from 1, where it stands, and for each column the index of its name; answers the leftmost wrong column, or 0.
+// Puts for each name the column, from 1, where it stands, and for each column the index of its name; answers the leftmost wrong column,
+// or 0.
 pub fn read_header(form: Form, line: &[u8], at: &mut [usize], order: &mut [usize]) -> usize
     requires { ⌜ now at ≡ noColumns (formOf form) ⌝ }
     requires { ⌜ length (now order) ≡ length (formOf form) ⌝ }

@@ -90,7 +90,13 @@ module _ (c : Case) {j : Judged} (judged : j ≡ recordJudged c) where
       rw e
       (record {
         answer = asked-answer tolerable.Refused (tolerable.Ends (touchEnds c) (stepEnds c)) sound;
-        right = record { touch-in-row = refl; step-in-row = refl; touch-right = tolerable-touch-reports b; step-right = tolerable-step-reports b };
+        right =
+            record {
+              touch-in-row = refl;
+              step-in-row = refl;
+              touch-right = tolerable-touch-reports b;
+              step-right = tolerable-step-reports b;
+            };
       })
 
   pub voltages-refused : {n l k : ℕ} → j ≡ Refused n l k → TolerableAnswered c (tolerable.Refused n l k)

@@ -12,7 +12,8 @@ ghost use Prim.Native.Nat.{_+_, _*_, _<_, _^_};
 ghost use lib.IntN.{pos, natAbs};
 ghost use lib.Signed.{_≤ℤ_};
 ghost use Rattle.interval.specs.Wide.{Wide};
-ghost use Rattle.interval.specs.Operations.{natural, point, size, sumOf, differenceOf, minusOf, timesOf, cornersOf, outwardOf, scaledOf, hullOf, productOf, quotientOf};
+ghost use Rattle.interval.specs.Operations.{natural, point, size, sumOf, differenceOf, minusOf, timesOf, cornersOf, outwardOf};
+ghost use Rattle.interval.specs.Operations.{scaledOf, hullOf, productOf, quotientOf};
 
 // The two ends of a quantity, in a unit that the quantity's definition names.
 pub struct Interval {

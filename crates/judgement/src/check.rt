@@ -49,7 +49,9 @@ fn values_finding<'a>(
     requires { ⌜ Placed (length (formOf form)) (now at) ⌝ }
     requires { ⌜ length (now v) ≡ length (formOf form) ⌝ }
     requires { ⌜ n ≤ length (now keys) ⌝ }
-    ensures { λ r. ⌜ r ≡ orFinding (finding (formOf form) (now (at .entry)) (now (v .entry))) (cond (seenIn (packed (getD (now (v .entry)) 0 0) (getD (now (v .entry)) 1 0)) (now (keys .entry)) n) LineFinding.Repeated LineFinding.Sound) ⌝ }
+    ensures { λ r. ⌜ r ≡ orFinding (finding (formOf form) (now (at .entry)) (now (v .entry)))
+        (cond (seenIn (packed (getD (now (v .entry)) 0 0) (getD (now (v .entry)) 1 0)) (now (keys .entry)) n)
+        LineFinding.Repeated LineFinding.Sound) ⌝ }
 {
     match check_values(form, at, v) {
         Finding::OutOfRange(column) => LineFinding::OutOfRange(column),

@@ -52,7 +52,8 @@ fn store_line<'a>(
     requires { ⌜ Ordered (length (formOf form)) (now at) (now order) ⌝ }
     requires { ⌜ n ≤ length (now keys) ⌝ }
     requires { ⌜ length (formOf form) * n + length (formOf form) ≤ length (now values) ⌝ }
-    ensures { λ r. ⌜ LineStored (formOf form) (now (at .entry)) (keysOf (now (keys .entry)) n) (now (line .entry)) n (now (values .entry)) (now (values .exit)) r ⌝ }
+    ensures { λ r. ⌜ LineStored (formOf form) (now (at .entry)) (keysOf (now (keys .entry)) n) (now (line .entry)) n (now (values .entry))
+        (now (values .exit)) r ⌝ }
 {
     let k = at.len();
     let a = k * n;
@@ -74,7 +75,8 @@ pub fn check_lines<'a>(
     requires { ⌜ count ≡ length (linesOf (now s)) ⌝ }
     requires { ⌜ count ≤ mostLines ⌝ }
     requires { ⌜ length (formOf form) * mostLines ≤ length (now values) ⌝ }
-    ensures { λ r. ⌜ LinesRead (formOf form) (now (at .entry)) (linesOf (now (s .entry))) (Judgement.Lines count) (now (values .entry)) (now (values .exit)) r ⌝ }
+    ensures { λ r. ⌜ LinesRead (formOf form) (now (at .entry)) (linesOf (now (s .entry))) (Judgement.Lines count) (now (values .entry))
+        (now (values .exit)) r ⌝ }
 {
     let k = at.len();
     let mut keys = [0u32; LINES];

@@ -18,7 +18,8 @@ struct Front {
 // Puts the values at the front of a line, as far as each is read in one pass.
 fn front_values<'a>(line: &'a [u8], order: &'a [usize], row: &mut [u32]) -> Front
     requires { ⌜ Distinct (length (now row)) (now order) ⌝ }
-    ensures { λ r. ⌜ (r .next ≤ length (now (line .entry))) × ValuesAt (length (now (row .entry))) (now (order .entry)) (fieldsOf (now (line .entry))) (now (row .exit)) (fieldsOf (drop (r .next) (now (line .entry)))) (r .count) ⌝ }
+    ensures { λ r. ⌜ (r .next ≤ length (now (line .entry))) × ValuesAt (length (now (row .entry))) (now (order .entry))
+        (fieldsOf (now (line .entry))) (now (row .exit)) (fieldsOf (drop (r .next) (now (line .entry)))) (r .count) ⌝ }
 {
     let n = row.len();
     let mut next: usize = 0;

@@ -56,13 +56,15 @@ module _ {p q : ℕ} (hq : 1 ≤ q) (l : q ≤ p) where
   nx : whole 0 ≤f x
   nx = argument-nonneg (reduced-least hq l)
 
-  end-below : units (ten 9) (endOf 0 m (argumentOf p q)) ≤f whole m ·f lnNear (whole 2) workDepth .lower +f lnNear (reduced p q) workDepth .lower
+  end-below : units (ten 9) (endOf 0 m (argumentOf p q))
+      ≤f whole m ·f lnNear (whole 2) workDepth .lower +f lnNear (reduced p q) workDepth .lower
   unfolding lnNear
   end-below =
       trans≤ (end-toward nx 0 m (argumentOf p q) (from-below ln2-low) (from-below (argument-low hq l)) .down refl)
       (mono+ (refl≤ _) (trans≤ (mono+ (terms-below nx (argument-third hq l)) (units-zero binary .to)) (add-zero (terms x workDepth) .to)))
 
-  end-above : whole m ·f lnNear (whole 2) workDepth .upper +f lnNear (reduced p q) workDepth .upper ≤f units (ten 9) (endOf 1 m (argumentOf p q + 1))
+  end-above : whole m ·f lnNear (whole 2) workDepth .upper +f lnNear (reduced p q) workDepth .upper
+      ≤f units (ten 9) (endOf 1 m (argumentOf p q + 1))
   unfolding lnNear
   end-above =
       trans≤ (mono+ (refl≤ _) (rest-below nx (argument-third hq l)))

@@ -10,7 +10,8 @@ use Rattle.logarithm.specs.Ends.{halvingsOf, baseOf, argumentOf, doublin
 use Rattle.logarithm.specs.Asked.{width, inside, refused, answerOf}
 
 ends : ℕ
-unfolding whole _·f_ inv _÷f_ top choose decLe greatestBelow halvings natural squareOf powerOf termOf termsOf halvingsOf baseOf argumentOf doublings nearOf endOf upEnds minusOf downEnds lnEnds
+unfolding whole _·f_ inv _÷f_ top choose decLe greatestBelow halvings natural squareOf powerOf termOf termsOf halvingsOf baseOf argumentOf
+    doublings nearOf endOf upEnds minusOf downEnds lnEnds
 ends = 0
 
 -- ln 10 is 2.302585092994..

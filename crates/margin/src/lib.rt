@@ -1,5 +1,5 @@
-// How far the voltages of a row lie above what is tolerable, from the ends on the cautious side: a voltage's upper end against the tolerable
-// voltage's lower end.
+// How far the voltages of a row lie above what is tolerable, from the ends on the cautious side: a voltage's upper end against the
+// tolerable voltage's lower end.
 ghost use mathlib.Core.Path.{_≡_};
 ghost use lib.Dec.{T};
 ghost use lib.IntN.{natAbs};

@@ -56,7 +56,8 @@ module _ {c : Case} (b : Bounds c) where
   log-consistent : Consistent (ln (exactly (whole 8) ÷x (π ·x (exactly (whole 2) ·x n c −x exactly (whole 1)))))
   log-consistent = consistent-ln (quantity-spread b .positive) (quantity-spread b .consistent)
 
-  term-encloses : Encloses (Kii c ÷x Kh c ·x ln (exactly (whole 8) ÷x (π ·x (exactly (whole 2) ·x n c −x exactly (whole 1))))) (ten 9) (innerTerm c)
+  term-encloses : Encloses (Kii c ÷x Kh c ·x ln (exactly (whole 8) ÷x (π ·x (exactly (whole 2) ·x n c −x exactly (whole 1))))) (ten 9)
+      (innerTerm c)
   unfolding innerTerm ten
   term-encloses =
       encloses-product (ten 9) 1000000000 refl (ratio-consistent .consistent) log-consistent

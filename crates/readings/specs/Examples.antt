@@ -23,7 +23,8 @@ unfolding three pairsOf apparent lesser greater together least greatest mean exa
 values = 0
 
 fractions : ℕ
-unfolding leastOf greatestOf combine _+e_ _−e_ _·e_ _÷e_ whole decimal neg _+f_ _−f_ _·f_ inv _÷f_ decLef decLe choose minf maxf μΩm reported over ten natural
+unfolding leastOf greatestOf combine _+e_ _−e_ _·e_ _÷e_ whole decimal neg _+f_ _−f_ _·f_ inv _÷f_ decLef decLe choose minf maxf μΩm
+    reported over ten natural
 fractions = 0
 
 -- 2π·3

@@ -76,7 +76,8 @@ module _ {s licence : List ℕ} {before after : List ℤ} {n : ℕ} (a : Release
   pair-station = number-is 0
 
   sum-is-none : numberAt after k 1 ≡ pos 1
-      → missing (seasonsAt licence k) own + countOf answeredUnsafe own + countOf answeredUndecided own + countOf (otherYard (firstLine own)) own + countOf tooSmall own
+      → missing (seasonsAt licence k) own + countOf answeredUnsafe own + countOf answeredUndecided own
+      + countOf (otherYard (firstLine own)) own + countOf tooSmall own
       ≡ 0
   unfolding numbersOf
   sum-is-none e = sum-none _ _ _ _ _ (sym (number-is 1) ∙ e)

@@ -39,7 +39,8 @@ fn release_lines<'a>(values: &'a [u32], n: usize, licence: &'a [u32], table: &mu
     requires { ⌜ n ≤ mostLines ⌝ }
     requires { ⌜ StoredBounds (now values) n ⌝ }
     requires { ⌜ nameCount * n ≤ length (now values) ⌝ }
-    ensures { λ r. ⌜ LinesReleased (storedCases (now (values .entry)) n) (now (licence .entry)) (now (table .entry)) (now (table .exit)) r ⌝ }
+    ensures { λ r. ⌜ LinesReleased (storedCases (now (values .entry)) n) (now (licence .entry)) (now (table .entry))
+        (now (table .exit)) r ⌝ }
 {
     if bad_count(licence.len()) {
         return Released::Refused(WRONG_COUNT, 0, 0);

@@ -51,7 +51,8 @@ fn put_pair(values: &[u32], n: usize, station: u32, seasons: u32, table: &mut [i
     requires { ⌜ StoredBounds (now values) n ⌝ }
     requires { ⌜ nameCount * n ≤ length (now values) ⌝ }
     requires { ⌜ pairLength * i + pairLength ≤ length (now table) ⌝ }
-    ensures { λ _. ⌜ Written pairLength i (stationNumbers station seasons (storedCases (now (values .entry)) n)) (now (table .entry)) (now (table .exit)) ⌝ }
+    ensures { λ _. ⌜ Written pairLength i (stationNumbers station seasons (storedCases (now (values .entry)) n)) (now (table .entry))
+        (now (table .exit)) ⌝ }
 {
     let yard = first_line(values, n, station);
     let t = count_lines(values, n, station, yard);
@@ -67,7 +68,8 @@ pub fn put_pairs<'a>(values: &'a [u32], n: usize, licence: &'a [u32], table: &mu
     requires { ⌜ StoredBounds (now values) n ⌝ }
     requires { ⌜ nameCount * n ≤ length (now values) ⌝ }
     requires { ⌜ pairLength * (length (now licence) / 2) ≤ length (now table) ⌝ }
-    ensures { λ _. ⌜ Filled (releaseOf (pairsOf (now (licence .entry))) (storedCases (now (values .entry)) n)) (now (table .entry)) (now (table .exit)) ⌝ }
+    ensures { λ _. ⌜ Filled (releaseOf (pairsOf (now (licence .entry))) (storedCases (now (values .entry)) n)) (now (table .entry))
+        (now (table .exit)) ⌝ }
 {
     let pairs = licence.len() / 2;
     let mut i: usize = 0;

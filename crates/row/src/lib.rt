@@ -11,7 +11,8 @@ pub use work::work_row;
 // How many numbers a row has.
 pub const ROW_LENGTH: usize = 20;
 
-// Places in a row: station, season, verdict, size in kcmil, the lower ends of tolerable touch and step, the upper ends of mesh and step voltage.
+// Places in a row: station, season, verdict, size in kcmil, the lower ends of tolerable touch and step, the upper ends of mesh and step
+// voltage.
 pub const STATION: usize = 0;
 
 pub const SEASON: usize = 1;

@@ -11,7 +11,8 @@ use Rattle.row_text.specs.{declared.Shown.{Shown, the-variants.{Verdict,
 
 -- station, season and verdict of a row, then its margins
 unfoldable pub marginNumbers : List ℤ → List ℤ
-marginNumbers row = getD row stationPlace (pos 0) ∷ getD row seasonPlace (pos 0) ∷ getD row verdictPlace (pos 0) ∷ twoMargins (marginsOf row)
+marginNumbers row =
+    getD row stationPlace (pos 0) ∷ getD row seasonPlace (pos 0) ∷ getD row verdictPlace (pos 0) ∷ twoMargins (marginsOf row)
 
 -- what is shown of a row: station, season, verdict and size; all its numbers; or station, season, verdict and margins
 unfoldable pub shownFields : Shown → List ℤ → List (List ℕ)

@@ -15,7 +15,10 @@ use Rattle.sheet.specs.{declared.Answer.{Answer, the-variants.{Rows, Ref
 
 -- the answer, with all that it is made of
 answerOf : List ℕ → ℕ → Answer
-unfolding onFirst linesOf fieldsOf same digit digits plain isValue numberFrom valueOf columns inRange nameIndex named leftOf outOfRange agree disagreement finding textRefused nameRefused noLineRefused manyLinesRefused tableRefused lineJudgement noColumns fresh wrongName columnsFrom columnsOf wrongForm lineValues sameKey repeats orFinding lineFinding names valueLines badText linesJudgement valuesJudgement namesJudgement judgementWithin judgement answerBy answer
+unfolding onFirst linesOf fieldsOf same digit digits plain isValue numberFrom valueOf columns inRange nameIndex named leftOf outOfRange
+    agree disagreement finding textRefused nameRefused noLineRefused manyLinesRefused tableRefused lineJudgement noColumns fresh wrongName
+    columnsFrom columnsOf wrongForm lineValues sameKey repeats orFinding lineFinding names valueLines badText linesJudgement valuesJudgement
+    namesJudgement judgementWithin judgement answerBy answer
 answerOf s room = answer s room
 
 abbrev head : List ℕ
@@ -38,14 +41,18 @@ sample-answer = refl
 
 -- it breaks no rule, and has these two cases
 pub sample-judged : judgement columns sample ≡ judged.Lines 2
-unfolding onFirst linesOf fieldsOf same digit digits plain isValue numberFrom valueOf columns inRange nameIndex named leftOf outOfRange agree disagreement finding textRefused nameRefused noLineRefused manyLinesRefused lineJudgement noColumns fresh wrongName columnsFrom columnsOf wrongForm lineValues sameKey repeats orFinding lineFinding names valueLines badText linesJudgement valuesJudgement namesJudgement judgementWithin judgement sample
+unfolding onFirst linesOf fieldsOf same digit digits plain isValue numberFrom valueOf columns inRange nameIndex named leftOf outOfRange
+    agree disagreement finding textRefused nameRefused noLineRefused manyLinesRefused lineJudgement noColumns fresh wrongName columnsFrom
+    columnsOf wrongForm lineValues sameKey repeats orFinding lineFinding names valueLines badText linesJudgement valuesJudgement
+    namesJudgement judgementWithin judgement sample
 sample-judged = refl
 
 pub sample-cases : cases sample ≡
     caseOf (7 ∷ 1 ∷ 400 ∷ 2500 ∷ 102 ∷ 500 ∷ 500 ∷ 500 ∷ 70 ∷ 3180 ∷ 600 ∷ 10 ∷ 11 ∷ 11 ∷ 7000 ∷ 500 ∷ 100 ∷ 0 ∷ 0 ∷ 0 ∷ 1 ∷ 60 ∷ [])
     ∷ caseOf (7 ∷ 2 ∷ 100 ∷ 2500 ∷ 102 ∷ 500 ∷ 500 ∷ 500 ∷ 70 ∷ 3180 ∷ 600 ∷ 10 ∷ 11 ∷ 11 ∷ 7000 ∷ 500 ∷ 100 ∷ 0 ∷ 0 ∷ 0 ∷ 1 ∷ 60 ∷ [])
     ∷ []
-unfolding onFirst linesOf fieldsOf same numberFrom valueOf columns nameIndex noColumns columnsFrom columnsOf lineValues lineCase names valueLines cases sample
+unfolding onFirst linesOf fieldsOf same numberFrom valueOf columns nameIndex noColumns columnsFrom columnsOf lineValues lineCase names
+    valueLines cases sample
 sample-cases = refl
 
 -- a sheet, the length of the table, and the answer

@@ -25,7 +25,9 @@ rows-few s n e = omega (arith, length-map (cases s) rowOf, case-count s n e, cou
 module _ (names : List ℕ) (what : Shown) (s : List ℕ) where
   pub shown-fits : length names ≤ nameBytes → length (shownText names what s) ≤ textRoom
   unfolding shownText
-  shown-fits h = answer-fits textRoom (judgement columns s) _ (omega arith) (λ n e. lines-fit what numbers row-width names (sheetRows s) h (rows-few s n e))
+  shown-fits h =
+      answer-fits textRoom (judgement columns s) _ (omega arith)
+      (λ n e. lines-fit what numbers row-width names (sheetRows s) h (rows-few s n e))
 
   module _ {before after : List ℤ} {a : Answer} (h : Answered s before after a) (enough : rowLength * mostLines ≤ length before) where
     pub refusal-is : {number line column : ℕ} → a ≡ Refused number line column → shownText names what s ≡ refusedText number line column

@@ -7,7 +7,8 @@ use Rattle.staged.specs.Current.{everyOther, inPhase, quadrature, inject
 use Rattle.staged.specs.{Split.{smallest, enough, splitOf}, Answer.{gridSquare, injectedSquare, gridAnswer, answer}}
 
 answered : List ℤ → SplitAnswer
-unfolding fewestNumbers mostNumbers badCount largestPart outside anyOutside noneInjected everyOther inPhase quadrature injected branches total gridPart squareOf smallest enough splitOf gridSquare injectedSquare gridAnswer answer
+unfolding fewestNumbers mostNumbers badCount largestPart outside anyOutside noneInjected everyOther inPhase quadrature injected branches
+    total gridPart squareOf smallest enough splitOf gridSquare injectedSquare gridAnswer answer
 answered s = answer s
 
 -- one branch: 0.6 of the current in the grid, exactly; a quadrature part alone; a grid without current; a grid with more than is injected

@@ -11,7 +11,8 @@ use Rattle.stations.proofs.{Same.{same-refl}, StandsOnce.{stands-once}}
 -- ---- the three counts
 
 one-verdict : (v : Verdict)
-    → one (eqb (verdictNumber v) (verdictNumber Safe)) + one (eqb (verdictNumber v) (verdictNumber Unsafe)) + one (eqb (verdictNumber v) (verdictNumber Undecided)) ≡ 1
+    → one (eqb (verdictNumber v) (verdictNumber Safe)) + one (eqb (verdictNumber v) (verdictNumber Unsafe))
+    + one (eqb (verdictNumber v) (verdictNumber Undecided)) ≡ 1
 unfolding verdictNumber one
 one-verdict Safe = refl
 one-verdict Unsafe = refl

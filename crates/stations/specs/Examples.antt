@@ -40,5 +40,6 @@ four = refl
 -- a table of eight numbers after a summary of one station
 kept : filled (summaryOf (row 5 2 Safe 1 2 ∷ [])) (pos 11 ∷ pos 12 ∷ pos 13 ∷ pos 14 ∷ pos 15 ∷ pos 16 ∷ pos 17 ∷ pos 18 ∷ [])
     ≡ pos 5 ∷ pos 1 ∷ pos 1 ∷ pos 0 ∷ pos 0 ∷ pos 2 ∷ pos 17 ∷ pos 18 ∷ []
-unfolding sameZ one among byAppearance stations rowsOf countOf higher highest worstSeason stationNumbers summaryOf filled verdictNumber natural
+unfolding sameZ one among byAppearance stations rowsOf countOf higher highest worstSeason stationNumbers summaryOf filled verdictNumber
+    natural
 kept = refl

@@ -56,10 +56,11 @@ pub enum Summed {
     Refused(u32, usize, usize),
 }
 
-// The answer to a sheet, its rows in their table, and the summary of its stations beside them. The rows are worked in a table of its own, so that
-// nothing is written before the stations are counted.
+// The answer to a sheet, its rows in their table, and the summary of its stations beside them. The rows are worked in a table of its own,
+// so that nothing is written before the stations are counted.
 pub fn summary(s: &[u8], rows: &mut [i64], beside: &mut [i64]) -> Summed
-    ensures { λ r. ⌜ SummaryAnswered (now (s .entry)) (now (rows .entry)) (now (rows .exit)) (now (beside .entry)) (now (beside .exit)) r ⌝ }
+    ensures { λ r. ⌜ SummaryAnswered (now (s .entry)) (now (rows .entry)) (now (rows .exit)) (now (beside .entry))
+        (now (beside .exit)) r ⌝ }
 {
     let mut own = [0i64; TABLE];
     match sheet(s, &mut own) {

@@ -65,7 +65,8 @@ module _ {c : Case} (b : Bounds c) where
   space-pos = omega (arith, b .space .low)
 
   -- 1/(2h) + 1/(D+h)
-  depths-point : Point (inv (whole 2 ·f h c) +f inv (D c +f h c)) (reported (ten 9) (sumOf (perMetre 1 (2 * c .depth)) (perMetre 1 (reach c))))
+  depths-point : Point (inv (whole 2 ·f h c) +f inv (D c +f h c))
+      (reported (ten 9) (sumOf (perMetre 1 (2 * c .depth)) (perMetre 1 (reach c))))
   unfolding h D reach
   depths-point =
       sum-point (ten 9) _ _ (inverse-point (omega (arith, b .depth .low)) (twice (c .depth)))
@@ -81,7 +82,8 @@ module _ {c : Case} (b : Bounds c) where
 
   -- 1 less a pair in 10^−9, over D
   rest-encloses : {x : Exact} {i : Interval} → Consistent x → Encloses x (ten 9) i
-      → Encloses ((exactly (whole 1) −x x) ÷x exactly (D c)) (ten 9) (quotientOf (differenceOf (point (pos (10 ^ 9))) i) (point (pos (c .space))) 1000)
+      → Encloses ((exactly (whole 1) −x x) ÷x exactly (D c)) (ten 9)
+      (quotientOf (differenceOf (point (pos (10 ^ 9))) i) (point (pos (c .space))) 1000)
   unfolding D ten
   rest-encloses k e =
       encloses-quotient (ten 9) 1000 refl (span-divisor (lit≤ tt) (space-span b) .0) (consistent-difference (one .consistent) k)

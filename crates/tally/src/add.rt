@@ -77,7 +77,8 @@ fn below(a: i64, b: i64) -> bool
     a < b
 }
 
-// 1 where the conductor is too small for the size in kcmil: the quotient rounded down is below the size where 1000·dia² is below 64,516 times it.
+// 1 where the conductor is too small for the size in kcmil: the quotient rounded down is below the size where 1000·dia² is below 64,516
+// times it.
 fn count_small(c: Case, size: i64) -> u32
     requires { ⌜ Bounds c ⌝ }
     requires { ⌜ size ≡ rowOf c .size ⌝ }

@@ -54,7 +54,8 @@ module _ (soil layer thick : ℕ) (p : 0 < layer) where
   counted-is = omega arith
 
   -- between its ends
-  between : Point derating (reported (ten 9) (quotientOf (point (pos (2 * (layer * thick) + 90 * soil))) (point (pos (layer * (2 * thick + 90)))) (10 ^ 9)))
+  between : Point derating
+      (reported (ten 9) (quotientOf (point (pos (2 * (layer * thick) + 90 * soil))) (point (pos (layer * (2 * thick + 90)))) (10 ^ 9)))
   between = point-same counted-is (counted-point (2 * (layer * thick) + 90 * soil) (layer * (2 * thick + 90)) (10 ^ 9) below (ten 9))
 
   -- Q

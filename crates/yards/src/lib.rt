@@ -24,8 +24,8 @@ const SIDE_OUT_OF_RANGE: u32 = 15;
 
 const NO_ROD_LENGTH: u32 = 16;
 
-// The counts of lines and rods of the first safe yard and its place; how many yards were tried, none of them safe; or a refusal with number,
-// line and column.
+// The counts of lines and rods of the first safe yard and its place; how many yards were tried, none of them safe; or a refusal with
+// number, line and column.
 pub enum FewestLines {
     Found(u32, u32, u32),
     None(u32),

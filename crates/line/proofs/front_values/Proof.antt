@@ -40,7 +40,8 @@ slice-write-row c = omega (arith, within c, turn c .before .before .loop .inv .1
 
 -- the value is the first field that is left
 front : (c : tie.After-shared-slice-known3 Inv-loop μ-loop)
-    → IsFront (drop (turn c .before .before .loop .next) (start c .args .line .now)) (c .before .before .before .front-value .result .end) (c .before .before .before .front-value .result .value)
+    → IsFront (drop (turn c .before .before .loop .next) (start c .args .line .now)) (c .before .before .before .front-value .result .end)
+    (c .before .before .before .front-value .result .value)
 front c =
     let next = turn c .before .before .loop .next in
     let k : next + 7 - next ≡ 7 = omega arith in

@@ -44,7 +44,8 @@ returns c =
     back (c .before .margin .result) (c .before .margin .ok)
     ∙ (rw (toZ-ofZ (s .fits .mesh), toZ-ofZ (s .fits .«tolerable_touch»)) at (c .before .margin .ensures)) in
     let step =
-    back (c .margin2 .result) (c .margin2 .ok) ∙ (rw (toZ-ofZ (s .fits .step), toZ-ofZ (s .fits .«tolerable_step»)) at (c .margin2 .ensures))
+    back (c .margin2 .result) (c .margin2 .ok)
+    ∙ (rw (toZ-ofZ (s .fits .step), toZ-ofZ (s .fits .«tolerable_step»)) at (c .margin2 .ensures))
     in
     rw (mesh-tested d, step-tested d, mesh, step)
 

@@ -30,7 +30,8 @@ module _ (r : tie.After-read) {n : ℕ} (e : r .read .result ≡ Lines n) where
   lines-accepted : judged.Accepted columns (start r .args .s .now) n
   lines-accepted = accepted columns _ _ (sym (judged-is r) ∙ e)
 
-  lines-stored : Stored columns (columnsOf columns (names (start r .args .s .now))) (valueLines (start r .args .s .now)) (r .read .last .1 .1 .0)
+  lines-stored : Stored columns (columnsOf columns (names (start r .args .s .now))) (valueLines (start r .args .s .now))
+      (r .read .last .1 .1 .0)
   unfolding formOf
   lines-stored = r .read .ensures .stored _ e
 

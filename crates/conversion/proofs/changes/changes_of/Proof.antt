@@ -36,7 +36,9 @@ line-there c = omega (arith, c .loop-test .taken, parts-length nameCount (start 
 -- what is found of line i
 change-is : (c : tie.After-line-change Inv-loop μ-loop)
     → c .line-change .result
-    ≡ lineChange (c .before .before .before .loop .i + 2) (Lines 0) (getD (partsOf nameCount (start (c .before .before) .args .n) (start (c .before .before) .args .values .now)) (c .before .before .before .loop .i) [])
+    ≡ lineChange (c .before .before .before .loop .i + 2) (Lines 0)
+    (getD (partsOf nameCount (start (c .before .before) .args .n) (start (c .before .before) .args .values .now))
+    (c .before .before .before .loop .i) [])
 change-is c =
     let i = c .before .before in
     let k = i .before .loop .i in

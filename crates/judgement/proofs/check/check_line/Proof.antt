@@ -14,7 +14,8 @@ abbrev start : tie.After-read-values → tie.Start
 start v = v .before .before .before .before .before .before .before
 
 line-values : (v : tie.After-read-values)
-    → LineValues (length (formOf (start v .args .form))) (start v .args .order .now) (start v .args .line .now) (v .read-values .result) (v .read-values .last .1 .1 .0)
+    → LineValues (length (formOf (start v .args .form))) (start v .args .order .now) (start v .args .line .now) (v .read-values .result)
+    (v .read-values .last .1 .1 .0)
 line-values v = rw (start v .pre .1 .1 .1) at (v .read-values .ensures)
 
 same-length : tie.Need-same-length

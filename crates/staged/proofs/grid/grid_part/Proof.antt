@@ -31,7 +31,8 @@ module _ (c : tie.After-left2 Inv-loop μ-loop) where
   abbrev start : tie.Start Inv-loop μ-loop
   start = turn .before .before .before
 
-  next : Left (start .args .parts .now) (toZ w64 (turn .before .loop .left) -ℤ getD (start .args .parts .now) (turn .before .loop .i) (pos 0)) (turn .before .loop .i + 2)
+  next : Left (start .args .parts .now)
+      (toZ w64 (turn .before .loop .left) -ℤ getD (start .args .parts .now) (turn .before .loop .i) (pos 0)) (turn .before .loop .i + 2)
   next = left-step (start .pre) (turn .before .loop .inv) (turn .loop-test .taken)
 
   element : toZ w64 (ofZ w64 (getD (start .args .parts .now) (turn .before .loop .i) (pos 0)))

@@ -25,7 +25,8 @@ element c = search needs
 -- what the comparison tells
 told : (c : tie.After-same Inv-loop μ-loop)
     → c .same .result
-    ≡ sameZ (getD (start (c .before .before .before) .args .known .now) (c .before .before .before .loop .i) (pos 0)) (start (c .before .before .before) .args .station)
+    ≡ sameZ (getD (start (c .before .before .before) .args .known .now) (c .before .before .before .loop .i) (pos 0))
+    (start (c .before .before .before) .args .station)
 told c = rw (toZ-ofZ (element (c .before)), toZ-ofZ (start (c .before .before .before) .fits .station)) at (c .same .ensures)
 
 is-marked-requires : tie.Need-is-marked-requires Inv-loop μ-loop
