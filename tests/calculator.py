@@ -72,7 +72,14 @@ class Form:
 
 FORM = Form(COLUMNS)
 NAMES, NAME_BYTES, RANGES, COLUMN_COUNT = FORM.names, FORM.name_bytes, FORM.ranges, FORM.count
+SPANS = dict(COLUMNS)
 Case = FORM.record
+
+
+def span_of(name):
+    """The least and the greatest value of a name, 0 for none aside."""
+    return SPANS[name][-1]
+
 
 # The shock time, the fault's clearing time and the back-up clearing time for the wire.
 CLOCKS = ("shock", "clear", "wire")

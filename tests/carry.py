@@ -16,8 +16,9 @@ from types import SimpleNamespace
 
 import calculator as calc
 import sheets
-from calculator import CLOCKS, COUNTS, FIELD_END, LINE_END, Refusal
+from calculator import CLOCKS, COUNTS, FIELD_END, LINE_END, Refusal, span_of
 from printed import SHEET_END, sheet_answers
+from sheets import OLD_FREQUENCY, OLD_NAMES
 
 PROGRAM = "target/bin/sheets"
 KIND = b"carry,"
@@ -27,30 +28,12 @@ UNKNOWN = "unknown\n"
 SEED, RANDOM_SHEETS = 5, 150
 SHORT = 2000  # bytes of a random sheet that is stored
 
-# Document 01's own table of names.
-FORMER_COLUMNS = (
-    ("station", ((1, 65535),)),
-    ("season", ((1, 4),)),
-    ("soil", ((10, 5000),)),
-    ("layer", ((0, 0), (100, 10000))),
-    ("thick", ((0, 0), (20, 300))),
-    ("ms", ((9, 3000),)),
-    ("body", ((50, 50), (70, 70))),
-    ("fault", ((100, 80000),)),
-    ("split", ((1, 1000),)),
-    ("xr", ((1, 40),)),
-    ("lines", ((2, 25),)),
-    ("space", ((2500, 30000),)),
-    ("depth", ((250, 2500),)),
-    ("dia", ((50, 300),)),
-    ("rods", ((0, 200),)),
-    ("rodlen", ((0, 0), (1000, 10000))),
-    ("place", ((0, 2),)),
-    ("metal", ((1, 11),)),
-)
+# Document 01's own names, each with the range of today's names that have its place.
+FORMER_NAMES = ("station", "season", "soil", "layer", "thick", "ms", "body", "fault", "split", "xr", "lines", "space", "depth",
+                "dia", "rods", "rodlen", "place", "metal")
+FORMER_COLUMNS = tuple((name, calc.SPANS[OLD_NAMES.get(name, (name,))[0]]) for name in FORMER_NAMES)
 PRESENT, FORMER = calc.FORM, calc.Form(FORMER_COLUMNS)
 COLUMNS = {PRESENT: calc.COLUMNS, FORMER: FORMER_COLUMNS}
-OLD_FREQUENCY = 60
 
 
 # --------------------------------------------------------------------------
@@ -218,7 +201,7 @@ def other_name(sheet, rng):
 def other_times(sheet, rng):
     line = sheet.line()
     for name in rng.sample(CLOCKS, rng.randint(1, 3)):
-        sheet.set(line, name, rng.randint(9, 3000))
+        sheet.set(line, name, rng.randint(*span_of(name)))
 
 
 def other_counts(sheet, rng):
@@ -278,7 +261,7 @@ def narrowest(values, form):
 
 def many_cases(make, form, count):
     """Stations of five digits, the last first, in season 4."""
-    return [make({"station": 65535 - i, "season": 4, "hz": OLD_FREQUENCY}, form) for i in range(count)]
+    return [make({"station": span_of("station")[1] - i, "season": span_of("season")[1], "hz": OLD_FREQUENCY}, form) for i in range(count)]
 
 
 def large_sheets():

@@ -17,7 +17,8 @@ from multiprocessing import Pool
 import calculator as calc
 from differential import printed_by
 from printed import lines_of, read_asked
-from sheets import FREQUENCIES, span_of
+from calculator import span_of
+from sheets import FREQUENCIES
 from questions import YARD, line
 
 PROGRAM = "target/bin/questions"

@@ -30,7 +30,7 @@ SEED = 1
 
 
 def fits(name, value):
-    return any(low <= value <= high for low, high in dict(calc.COLUMNS)[name])
+    return any(low <= value <= high for low, high in calc.SPANS[name])
 
 
 def yards(case, side):

@@ -21,7 +21,7 @@ from printed import lines_of, read_asked, whole
 
 KIND, NONE = "headroom", "none"
 PROGRAM = "target/bin/questions"
-LEAST, MOST = sheets.span_of("fault")
+LEAST, MOST = calc.span_of("fault")
 DEPTH = 9
 SEED, STORED = 1, 60
 MOST_ROWS = 8  # of a stored question

@@ -27,7 +27,7 @@ def at_limit(rng):
     ends = calc.exact_ends(case, DEPTH)
     part = ends.tolerable_touch.lower / ends.mesh.lower * (1 + NEAR * Fraction(rng.randint(-999, 999), 1000))
     fault = round(case.fault * part)
-    low, high = sheets.span_of("fault")
+    low, high = calc.span_of("fault")
     if not low <= fault <= high:
         return None
     case = case._replace(fault=fault)

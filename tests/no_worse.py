@@ -15,12 +15,11 @@ import random
 import calculator as calc
 import differential
 import near_limit
-import sheets
 
 
 def less(name, change):
     """A change to one value, where that is in range and less."""
-    low, _ = sheets.span_of(name)
+    low, _ = calc.span_of(name)
 
     def changed(case, rng):
         before = getattr(case, name)
@@ -36,8 +35,8 @@ def heavier(case, rng):
 
 def traded(case, rng):
     """Another split, and the greatest fault current with which no more enters the grid."""
-    split = rng.randint(*sheets.span_of("split"))
-    low, high = sheets.span_of("fault")
+    split = rng.randint(*calc.span_of("split"))
+    low, high = calc.span_of("fault")
     fault = min(case.fault * case.split // split, high)
     return case._replace(fault=fault, split=split) if low <= fault else None
 

@@ -18,9 +18,9 @@ import headroom
 import readings
 import staged
 import working
-from calculator import Case
+from calculator import Case, span_of
 from printed import lines_of
-from sheets import FREQUENCIES, case_at_limit, clear_time, random_case, span_of
+from sheets import FREQUENCIES, case_at_limit, clear_time, random_case
 
 FILE = Path(__file__).parents[1] / "crates" / "questions" / "stdin"
 MOST_BYTES = 2097152  # fewer than these are read
@@ -109,7 +109,7 @@ WORKED_VOLTAGES = ((50, 1000), (50, 250), (70, 1000))  # body and time, over bar
 
 # Three clocks at both ends of their range, and between.
 CLOCK_KINDS = ("factor", "size", "tolerable", "row")
-CLOCK_TIMES = (*product((9, 3000), repeat=3), (250, 100, 1000), (1000, 250, 100), (100, 1000, 250))
+CLOCK_TIMES = (*product(span_of("shock"), repeat=3), (250, 100, 1000), (1000, 250, 100), (100, 1000, 250))
 
 # Soil, layer and thickness: bare soil; a layer more resistive, as resistive, less resistive.
 SURFACES = (
@@ -155,7 +155,7 @@ FRACTIONS = (
     (0, 1), (1, 0), (0, 0), (MOST + 1, 1), (1, MOST + 1), (MOST + 1, MOST + 1), (0, MOST + 1),
     (MOST + 1, 0), (2**64 - 1, 1), (1, 2**64 - 1),
 )
-MESH_YARDS = ((7000, 500, 100), *product((2500, 30000), (250, 2500), (50, 300)))
+MESH_YARDS = ((7000, 500, 100), *product(span_of("space"), span_of("depth"), span_of("dia")))
 
 
 def line(kind, numbers):
@@ -211,7 +211,7 @@ def sizes():
     for metal, clear, wire, xr, hz, fault in SIZE_BILLIONTHS + SIZE_ABOVE:
         yield from with_size(YARD._replace(
             metal=metal, clear=clear, wire=wire, xr=xr, hz=hz, fault=fault))
-    for metal, fault in product(range(1, 12), (100, 80000)):
+    for metal, fault in product(calc.METAL_KF, span_of("fault")):
         yield from with_size(YARD._replace(metal=metal, wire=3000, fault=fault))
     for metal, fault in ((0, 1000), (12, 1000), (1, 99), (1, 80001), (0, 99), (12, 80001)):
         yield line("size", YARD._replace(metal=metal, fault=fault))
@@ -242,9 +242,9 @@ def clocks():
 
 
 def resistances():
-    ends = (2, 25)
+    ends = span_of("across")
     for soil, depth, (rods, rodlen, place), across, along, space in product(
-            (10, 5000), (250, 2500), RODS, ends, ends, (2500, 30000)):
+            span_of("soil"), span_of("depth"), RODS, ends, ends, span_of("space")):
         case = YARD._replace(soil=soil, depth=depth, rods=rods, rodlen=rodlen, place=place,
                              across=across, along=along, space=space)
         yield line("resistance", case)
@@ -337,11 +337,11 @@ def workings():
     for (across, along), (rods, rodlen, place) in product(COUNTS, RODS):
         for turned in ((across, along), (along, across)):
             cases.append(YARD._replace(across=turned[0], along=turned[1], rods=rods, rodlen=rodlen, place=place))
-    for depth, dia, space, place in product((250, 2500), (50, 300), (2500, 30000), (0, 1)):
+    for depth, dia, space, place in product(span_of("depth"), span_of("dia"), span_of("space"), (0, 1)):
         rods, rodlen = (200, 10000) if place else (0, 0)
         cases.append(YARD._replace(depth=depth, dia=dia, space=space, rods=rods, rodlen=rodlen, place=place))
-    for soil, fault, split in product((10, 5000), (100, 80000), (1, 1000)):
-        cases += (YARD._replace(soil=soil, fault=fault, split=split, across=counts, along=counts) for counts in (2, 25))
+    for soil, fault, split in product(span_of("soil"), span_of("fault"), span_of("split")):
+        cases += (YARD._replace(soil=soil, fault=fault, split=split, across=counts, along=counts) for counts in span_of("across"))
     for name, spans in calc.COLUMNS:
         for low, high in spans:
             cases += (YARD._replace(**{name: end}) for end in (low - 1, low, high, high + 1) if end >= 0)

@@ -22,7 +22,7 @@ DISTANCES, RESISTANCES = (500, 50000), (1, 1000000)
 MOST_NUMBERS = 128
 UNITS = 10**6  # micro-ohm metres in an ohm metre
 SHARE, PLUS = Fraction(1, 10**6), 2  # the allowed width: a share of the lower end, and some more
-SOIL_RANGE = calc.RANGES[calc.NAMES.index("soil")][0]
+SOIL_RANGE = calc.SPANS["soil"][0]
 MOST_NUMBER = 2**32 - 1
 
 Report = namedtuple("Report", "least greatest mean soil")

@@ -18,7 +18,8 @@ from printed import SHEET_END
 PAIR_LENGTH = 8
 MOST_NUMBERS = 512
 TABLE = 2080  # numbers of the program's table
-LEAST_FAULT, MOST_FAULT = sheets.span_of("fault")
+LEAST_FAULT, MOST_FAULT = calc.span_of("fault")
+LEAST_STATION, MOST_STATION = calc.span_of("station")
 YARD = ("across", "along", "space", "depth", "dia", "rods", "rodlen", "place", "metal")
 SEED, RANDOM, DAMAGED = 32, 12, 14
 DEPTH = 9
@@ -40,7 +41,7 @@ def licence_refusal(licence):
         return Refusal(21, 0, 0)
     earlier = set()
     for place, (station, seasons) in enumerate(pairs_of(licence), start=1):
-        if not 1 <= station <= 65535 or station in earlier:
+        if not LEAST_STATION <= station <= MOST_STATION or station in earlier:
             return Refusal(22, place, 1)
         if not 1 <= seasons <= 15:
             return Refusal(22, place, 2)
@@ -149,7 +150,7 @@ def fault_is_right(cases, fault):
 def released_station(rng, station, seasons):
     """One yard in several soils, with little grid current and a thick conductor."""
     yard = sheets.random_case(rng)._replace(station=station, split=1, dia=300)
-    low, high = sheets.span_of("soil")
+    low, high = calc.span_of("soil")
     return [yard._replace(season=season, soil=rng.randint(low, high), fault=rng.randint(100, 900)) for season in seasons]
 
 
@@ -169,7 +170,7 @@ def undecided_line(rng, lines):
 def other_yard(rng, lines):
     """One of the nine columns of one line changed."""
     at, name = rng.randrange(len(lines)), rng.choice(YARD)
-    low, high = sheets.span_of(name)
+    low, high = calc.span_of(name)
     line = lines[at]
     if name in ("rods", "rodlen", "place") and not line.rods:
         line = line._replace(rods=20, rodlen=1000, place=1)

@@ -5,7 +5,7 @@ import math
 from fractions import Fraction
 
 import calculator as calc
-from calculator import Case, Pair
+from calculator import Case, Pair, span_of
 
 DEPTHS = range(3, 13)
 
@@ -57,9 +57,9 @@ def sheet_of(*lines, header=HEADER):
 
 def random_case(rng):
     case = Case(*(rng.randint(*rng.choice(spans)) for spans in calc.RANGES))
-    layer = rng.choice([(0, 0), (rng.randint(100, 10000), rng.randint(20, 300))])
+    layer = rng.choice([(0, 0), (rng.randint(*span_of("layer")), rng.randint(*span_of("thick")))])
     rods = rng.choice(
-        [(0, 0, 0), (rng.randint(1, 200), rng.randint(1000, 10000), rng.randint(1, 2))]
+        [(0, 0, 0), (rng.randint(1, span_of("rods")[1]), rng.randint(*span_of("rodlen")), rng.randint(1, span_of("place")[1]))]
     )
     return case._replace(
         layer=layer[0], thick=layer[1], rods=rods[0], rodlen=rods[1], place=rods[2]

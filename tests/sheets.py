@@ -6,7 +6,7 @@ from itertools import product
 
 import calculator as calc
 import sheets
-from calculator import Case
+from calculator import Case, span_of
 from printed import SHEET_END
 
 HEADER_NAMES = list(calc.NAMES)
@@ -15,7 +15,7 @@ EQUAL_COUNTS = 0.1  # of the cases, beside those whose counts are equal by chanc
 
 # Names of document 01, each with those that have its place, and the frequency of sheets without one.
 OLD_NAMES = {"ms": calc.CLOCKS, "lines": calc.COUNTS}
-FREQUENCIES, OLD_FREQUENCY = (50, 60), 60
+FREQUENCIES, OLD_FREQUENCY = tuple(low for low, _ in calc.SPANS["hz"]), 60
 
 # The stored batch.
 BATCH_SEED, BATCH_COUNT = 145, 185
@@ -44,8 +44,8 @@ def clear_time(rng):
 def rodded_case(rng):
     """A case with rods, their place not yet settled."""
     case = Case(*(number_in(rng, spans) for spans in calc.RANGES))
-    case = case._replace(station=rng.randint(1, 65535), season=rng.randint(1, 4),
-                         body=rng.choice((50, 70)), rods=max(1, case.rods),
+    case = case._replace(station=rng.randint(*span_of("station")), season=rng.randint(*span_of("season")),
+                         body=rng.choice(tuple(calc.BODY_K)), rods=max(1, case.rods),
                          clear=rng.choice((case.clear, clear_time(rng))), hz=rng.choice(FREQUENCIES))
     if rng.random() < EQUAL_COUNTS:
         case = case._replace(along=case.across)
@@ -59,10 +59,6 @@ def at_place(case, place):
 
 def random_case(rng):
     return at_place(rodded_case(rng), 0 if rng.random() < 0.4 else rng.randint(1, 2))
-
-
-def span_of(name):
-    return calc.RANGES[calc.NAMES.index(name)][-1]
 
 
 def cases_of_pairs(seed):
@@ -176,7 +172,7 @@ def sheet_of(cases):
 
 def stations(sheet, count):
     """Lines of random cases for stations of five digits, each in one season."""
-    return [sheet.fields(random_case(sheet.rng)._replace(station=65535 - i)) for i in range(count)]
+    return [sheet.fields(random_case(sheet.rng)._replace(station=span_of("station")[1] - i)) for i in range(count)]
 
 
 def portfolio(sheet):

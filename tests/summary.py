@@ -91,7 +91,7 @@ def with_mesh(case, wanted):
     """The case with the fault and split at which its mesh voltage is nearest a voltage, or nothing."""
     case = case._replace(fault=1000, split=1000)  # the voltage is in proportion to fault and split
     product = float(wanted / calc.exact_ends(case, DEPTH).mesh.lower) * 1000 * 1000
-    low, high = sheets.span_of("fault")
+    low, high = calc.span_of("fault")
     pairs = [(round(product / split), split) for split in range(1, 1001)]
     pairs = [(fault, split) for fault, split in pairs if low <= fault <= high]
     if not pairs:

@@ -587,7 +587,7 @@ class Clocks(Told):
         for kind in questions.CLOCK_KINDS:
             times = {tuple(getattr(case, clock) for clock in calc.CLOCKS)
                      for case in self.sound[kind]}
-            ends = [calc.RANGES[calc.NAMES.index(clock)][0] for clock in calc.CLOCKS]
+            ends = [calc.SPANS[clock][0] for clock in calc.CLOCKS]
             self.assertLessEqual(set(product(*ends)), times, kind)
 
 

@@ -456,9 +456,6 @@ class Conversion(unittest.TestCase):
     def test_the_names_of_document_01(self):
         self.assertEqual(SAMPLE.split(b"\n")[0], b",".join(FORMER.name_bytes))
         self.assertEqual(CARRIED.split(b"\n")[0], b",".join(PRESENT.name_bytes))
-        for name, spans in carry.FORMER_COLUMNS:
-            today = {"ms": CLOCKS[0], "lines": "across"}.get(name, name)
-            self.assertEqual(spans, dict(calc.COLUMNS)[today])
 
     def test_columns_in_any_order_come_out_in_one(self):
         rng = random.Random(1)

@@ -214,7 +214,7 @@ class Header(unittest.TestCase):
         self.assertEqual(list(lines), [name for name in calc.NAMES if name != "place"])
         for name, said in lines.items():
             numbers = list(map(int, re.findall(r"\d+", said)))
-            column = calc.RANGES[calc.NAMES.index(name)]
+            column = calc.SPANS[name]
             for number in numbers:
                 self.assertTrue(any(number in (part[0], part[-1]) for part in column), (name, said, column))
 
