@@ -4,9 +4,9 @@
  *
  * Exit status 0 with rows, 1 with a refusal, 2 where the sheet can't be read or the lines can't be written.
  *
- * Station, season and verdict, and the margin: by how many tenths of a percent the nearer limit is kept or passed. It is worked on the cautious
- * side, from the upper ends of mesh and step voltage against the lower ends of what is tolerable, and is rounded down: "12.3 % below" is at least that
- * far below, "4.5 % above" at most that far above by these ends. A row that is undecided has a margin about 0. */
+ * Station, season and verdict, and the margin: by how many tenths of a percent the nearer limit is kept or passed. It is worked on the
+ * cautious side, from the upper ends of mesh and step voltage against the lower ends of what is tolerable, and is rounded down: "12.3 % below"
+ * is at least that far below, "4.5 % above" at most that far above by these ends. A row that is undecided has a margin about 0. */
 #include <hocsimbur.h>
 #include <stdio.h>
 

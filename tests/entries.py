@@ -42,8 +42,8 @@ class Library:
         return self.loaded.hocsimbur_version()
 
     def ask(self, name, read, written):
-        """The answer, a count or a refusal, and the arrays written. An array is its kind and its numbers, an empty one is handed over as null; a
-        number alone stands for itself."""
+        """The answer, a count or a refusal, and the arrays written. An array is its kind and its numbers, an empty one is handed over as
+        null; a number alone stands for itself."""
         held = [number if kind == "one" else (KINDS[kind] * len(number))(*number) for kind, number in [*read, *written]]
         place = (ctypes.c_size_t * 2)(9999, 9999)
         words = []
@@ -138,7 +138,8 @@ def releases(library):
         else:
             count = len(licence) // 2
             rows = rows_of(library, sheet, len(wanted))
-            right = answer == count and table[8 * count:] == [FILL] * (room - 8 * count) and released(licence, wanted, rows, table[:8 * count])
+            kept = table[8 * count:] == [FILL] * (room - 8 * count)
+            right = answer == count and kept and released(licence, wanted, rows, table[:8 * count])
         yield f"{licence} {sheet!r}", [] if right else [f"{answer}, not {wanted if isinstance(wanted, Refusal) else 'its numbers'}"]
 
 
@@ -163,7 +164,8 @@ def carried(library):
     for number in range(400):
         sheet = sheets.numbered_sheet(SEED, number)[1]
         on_form = carry.answer(carry.BACK, sheet, calc.MAX_BYTES)
-        for way, entry, text in ((carry.BACK, "carry_back", sheet), (carry.ON, "carry", sheet if isinstance(on_form, Refusal) else on_form)):
+        former = sheet if isinstance(on_form, Refusal) else on_form
+        for way, entry, text in ((carry.BACK, "carry_back", sheet), (carry.ON, "carry", former)):
             room = rng.choice((0, 100, 400, calc.MAX_BYTES, len(text), len(text) + 40))
             wanted = carry.answer(way, text, room)
             answer, (buffer,) = library.ask(entry, [("u8", text)], [("u8", [9] * room)])

@@ -58,8 +58,8 @@ def judge(wanted, before, told, after, deep):
 def buffer_for(rng, sheet):
     """Random bytes: room for the lines and some more, or at times too few."""
     need = LINE_BYTES * min(max(sheet.count(calc.LINE_END) - 1, 0), calc.MAX_VALUE_LINES)
-    size = rng.choice((need, need + rng.randrange(400), need + rng.randrange(400), max(need - rng.choice((1, 8, 160)), 0), rng.randint(0, need)))
-    return rng.randbytes(size)
+    sizes = (need, need + rng.randrange(400), need + rng.randrange(400), max(need - rng.choice((1, 8, 160)), 0), rng.randint(0, need))
+    return rng.randbytes(rng.choice(sizes))
 
 
 class Harness:

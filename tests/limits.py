@@ -143,8 +143,8 @@ def searches():
     for change in ({"rodlen": 0}, {"fault": 80000, "split": 1000, "soil": 5000}, {"station": 0}, {"layer": 0}, {"hz": 55}):
         for side in (b"70000", b"0", b"0070000"):
             yield side + b"\n" + sheets.sheet_of([YARD._replace(**change)])
-    for rest in (b"", b"\n", names, names + b"\n", sheet[:-1], sheet + values + b"\n", sheet + b"\n", b"x" + sheet, sheet.replace(b"3180", b""),
-                 sheet.replace(b"3180", b"3180.0"), b"x" * (2 * calc.MAX_BYTES), names + b"\n" + values + b",1" * calc.MAX_BYTES):
+    for rest in (b"", b"\n", names, names + b"\n", sheet[:-1], sheet + values + b"\n", sheet + b"\n", b"x" + sheet,
+                 sheet.replace(b"3180", b""), sheet.replace(b"3180", b"3180.0"), b"x" * (2 * calc.MAX_BYTES), names + b"\n" + values + b",1" * calc.MAX_BYTES):
         yield b"70000\n" + rest
     yield b"70000"
     yield b""

@@ -113,7 +113,8 @@ WRONG = {
     "first row copied down": changed(of_rows(lambda lines: lines[:1] * len(lines)), *LISTINGS),
     "other margins": changed(of_field(3, one_more), "margins"),
     "other step margins": changed(of_field(4, one_more), "margins"),
-    "margins with the worst line first": changed(of_rows(lambda lines: sorted(lines, key=lambda line: -int(line.split(",")[3]))), "margins"),
+    "margins with the worst line first": changed(
+        of_rows(lambda lines: sorted(lines, key=lambda line: -int(line.split(",")[3]))), "margins"),
     "a season more": changed(of_field(1, one_more), "summary"),
     "other highest season": changed(of_field(5, one_more), "summary"),
     "refuses nothing": refuses_nothing,
