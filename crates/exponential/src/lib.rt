@@ -1,22 +1,16 @@
 // e to the power of minus a number of billionths, as a pair of ends in billionths.
 use interval::Interval;
 ghost use mathlib.Core.Path.{_≡_};
-ghost use Prim.Native.Nat.{_≤_, _^_};
+ghost use Prim.Native.Nat.{_≤_};
 ghost use Rattle.interval.specs.Span.{Span};
 ghost use Rattle.exponential.specs.Ends.{most, halvingsOf, seriesOf, inverseOf, squaredOf, expEnds, expPair};
 
 const BILLION: u64 = 1000000000;
 
-// j and 2^j.
-struct Halved {
-    times: u64,
-    parts: u64,
-}
-
 // The least j for which q / 2^j is at most 1/2.
-fn halve(q: u64) -> Halved
+fn halve(q: u64) -> u64
     requires { ⌜ q ≤ most ⌝ }
-    ensures { λ r. ⌜ r ≡ record { times = halvingsOf q; parts = 2 ^ halvingsOf q } ⌝ }
+    ensures { λ r. ⌜ r ≡ halvingsOf q ⌝ }
 {
     let mut times: u64 = 0;
     let mut parts: u64 = 1;
@@ -24,7 +18,7 @@ fn halve(q: u64) -> Halved
         parts = 2 * parts;
         times += 1;
     }
-    Halved { times, parts }
+    times
 }
 
 // Twelve terms of e^y, from the last to the first.
@@ -64,16 +58,13 @@ fn end(up: u64, down: u64, y: u64, m: u64) -> u64
     squared(up, BILLION * BILLION / s + 2 * up, m)
 }
 
-// The ends of e^-q in billionths, for q from a to b billionths: e^-q falls as q grows.
+// The ends of e^-q in billionths, for q from a to b billionths: e^-q falls as q grows. Over 2^j by a shift, which waits for no division.
 fn exp_ends(a: u64, b: u64) -> Interval
     requires { ⌜ (a ≤ b) × (b ≤ most) ⌝ }
     ensures { λ r. ⌜ r ≡ expEnds a b ⌝ }
 {
-    let h = halve(b);
-    Interval::natural(
-        end(0, 1, b / h.parts + 1, h.times),
-        end(1, 0, a / h.parts, h.times),
-    )
+    let j = halve(b);
+    Interval::natural(end(0, 1, (b >> j) + 1, j), end(1, 0, a >> j, j))
 }
 
 // The same for a pair q.

@@ -19,5 +19,6 @@ pub mod Fits
 pub mod SpanFits
 pub mod NumeralSpans
 pub mod Negated
+pub mod Divisors
 pub mod Relatives
 pub mod Below

@@ -25,7 +25,7 @@ module _ {m n : ℕ} (h : m ≤ n) where
   min-rising : minZ (negℤ (pos n)) (negℤ (pos m)) ≡ negℤ (pos n)
   min-rising = min-cases (λ z. z ≡ negℤ (pos n)) (negℤ (pos n)) (negℤ (pos m)) (λ k. refl) same
 
-  max-rising : maxZ (negℤ (pos n)) (negℤ (pos m)) ≡ negℤ (pos m)
+  pub max-rising : maxZ (negℤ (pos n)) (negℤ (pos m)) ≡ negℤ (pos m)
   max-rising = max-cases (λ z. z ≡ negℤ (pos m)) (negℤ (pos n)) (negℤ (pos m)) (λ k. refl) (λ k. sym (same k))
 
   min-falling : minZ (negℤ (pos m)) (negℤ (pos n)) ≡ negℤ (pos n)

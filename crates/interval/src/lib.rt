@@ -6,7 +6,9 @@ pub mod wide;
 use whole::ceil_div;
 use whole::floor_div;
 use whole::least;
+use whole::least_floor;
 use whole::most;
+use whole::most_ceil;
 ghost use mathlib.Core.Path.{_≡_};
 ghost use Prim.Native.Nat.{_+_, _*_, _<_, _^_};
 ghost use lib.IntN.{pos, natAbs};
@@ -157,8 +159,11 @@ impl Interval {
         ensures { λ r. ⌜ r ≡ quotientOf self divisor scale ⌝ }
     {
         let top = self.scaled(scale);
-        let by_lower = top.outward(divisor.lower as u64);
-        let by_upper = top.outward(divisor.upper as u64);
-        by_lower.hull(by_upper)
+        let d = divisor.lower as u64;
+        let e = divisor.upper as u64;
+        Interval {
+            lower: least_floor(top.lower, d, e),
+            upper: most_ceil(top.upper, d, e),
+        }
     }
 }

@@ -2,11 +2,12 @@
 use crate::Interval;
 ghost use Rattle.interval.specs.Root.{IsRoot, NotBelow, RootEnds};
 
-// A guess not below the root: one less than a power of two whose square is above x.
+// A guess not below the root: Newton's step from a power of two whose square is above x, for which the quotient is a shift.
 fn first_guess(x: u64) -> u64
     ensures { λ r. ⌜ NotBelow x r ⌝ }
 {
-    (1u64 << ((65 - u64::leading_zeros(x)) / 2)) - 1
+    let k = (65 - u64::leading_zeros(x)) / 2;
+    ((1u64 << k) + (x >> k)) / 2
 }
 
 // The greatest r with r · r not above x, by Newton's steps: while the guess is above the root, the mean of it and x over it.
