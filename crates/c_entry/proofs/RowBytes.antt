@@ -9,7 +9,7 @@ use borrow.Rule.Slice.PartMut.{putMid}
 use Rattle.tables.proofs.Writing.{put-written}
 use Rattle.case.specs.declared.Case.{Case}
 use Rattle.case.specs.Bounds.{Bounds}
-use Rattle.row.specs.Row.{rowLength, numbers, row-length}
+use Rattle.row.specs.Row.{numbers, row-length}
 use Rattle.row.specs.Ends.{rowOf}
 use Rattle.row.proofs.Right.{right-row}
 use Rattle.c_entry.specs.Bytes.{numberBytes, bytesOf, bytesOfAll, numbersOf}

@@ -7,7 +7,6 @@ use mathlib.Core.Path.{_≡_}
 use mathlib.Core.List.{List, []}
 use lib.IntN.{ℤ}
 use lib.ListN.{length, getD}
-use Rattle.tables.specs.Parts.{partAt}
 use Rattle.tables.specs.Parts as parts
 use Rattle.case.specs.declared.Case.{Case}
 use Rattle.case.specs.Case.{caseOf}
@@ -23,10 +22,6 @@ use Rattle.c_entry.specs.Answer.{signedAnswer}
 -- "160 bytes a line"
 abbrev pub rowBytes : ℕ
 rowBytes = 160
-
--- the bytes of row i
-abbrev pub rowBytesAt : List ℕ → ℕ → List ℕ
-rowBytesAt buffer i = partAt rowBytes buffer i
 
 -- some bytes are the row of a case: those of its numbers; and what is read from them is the row of the case that the sheet's own question
 -- puts in its table, which is right

@@ -1,10 +1,7 @@
 // The rows of the buffer: the row of each line goes straight to its place, number by number.
-ghost use mathlib.Core.Path.{_≡_};
 ghost use Prim.Native.Nat.{_≤_, _+_, _*_};
 ghost use lib.ListN.{length};
-ghost use Rattle.tables.specs.Parts.{partAt};
 ghost use Rattle.case.specs.Columns.{nameCount};
-ghost use Rattle.case.specs.Case.{caseOf};
 ghost use Rattle.case.specs.Bounds.{Bounds};
 ghost use Rattle.sheet.specs.Rows.{StoredBounds, storedCases};
 ghost use Rattle.c_entry.specs.Buffer.{rowBytes, Filled};
@@ -12,24 +9,13 @@ ghost use Rattle.c_entry.specs.Put.{RowPut};
 use crate::little_endian::NUMBER_BYTES;
 use crate::little_endian::put_numbers;
 use case::Case;
-use case::NAMES;
-use case::case_of;
 use row::ROW_LENGTH;
 use row::row_numbers;
 use row::work_row;
+use sheet::line_case;
 
 // How many bytes a row has.
 pub const ROW_BYTES: usize = NUMBER_BYTES * ROW_LENGTH;
-
-// The case of line i.
-fn line(values: &[u32], i: usize) -> Case
-    requires { ⌜ nameCount * i + nameCount ≤ length (now values) ⌝ }
-    ensures { λ r. ⌜ r ≡ caseOf (partAt nameCount (now (values .entry)) i) ⌝ }
-{
-    let a = NAMES * i;
-    let b = a + NAMES;
-    case_of(&values[a..b])
-}
 
 // The row of a case, as row i of the buffer.
 fn put_row(c: Case, buffer: &mut [u8], i: usize)
@@ -52,7 +38,7 @@ pub fn write_rows(values: &[u32], n: usize, buffer: &mut [u8])
 {
     let mut i: usize = 0;
     while i < n {
-        let c = line(values, i);
+        let c = line_case(values, i);
         put_row(c, buffer, i);
         i += 1;
     }

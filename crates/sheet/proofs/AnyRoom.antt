@@ -1,14 +1,19 @@
 -- The sheet's own question answered in a table with room for the most rows, and what it would answer in another table.
 use Prim.Native.Nat.{ℕ, _*_, _≤_, _<_}
-use mathlib.Core.{Path.{_≡_, refl, ap, _∙_}, List.{List}}
+use mathlib.Core.Path.{_≡_, refl, ap, _∙_}
+use mathlib.Core.List.{List}
 use native.Mathlib.Omega.{arith}
 use borrow.Author.Tests.{lt-ltb, le-ltb}
 use Rattle.text.proofs.Clash.{clash}
 use Rattle.case.specs.Columns.{columns}
 use Rattle.row.specs.Row.{rowLength}
-use Rattle.judgement.{specs.{declared.Judgement.{Judgement}, Limits.{mostLines}, Sheet.{judgement}}, proofs.Accepted.{accepted}}
+use Rattle.judgement.specs.declared.Judgement.{Judgement}
 use Rattle.judgement.specs.declared.Judgement.the-variants as judged
-use Rattle.sheet.specs.{declared.Answer.{Answer, the-variants.{Rows, Refused}}, Answer.{tableRefused, answerBy, answer}}
+use Rattle.judgement.specs.Limits.{mostLines}
+use Rattle.judgement.specs.Sheet.{judgement}
+use Rattle.judgement.proofs.Accepted.{accepted}
+use Rattle.sheet.specs.declared.Answer.the-variants.{Rows, Refused}
+use Rattle.sheet.specs.Answer.{tableRefused, answerBy, answer}
 
 -- the judgement of a sheet names at most the limit of lines
 within : (s : List ℕ) (n : ℕ) → judgement columns s ≡ judged.Lines n → n ≤ mostLines
@@ -59,11 +64,3 @@ module _ (s : List ℕ) (whole : ℕ) (enough : rowLength * mostLines ≤ whole)
     pub rows-there : (room : ℕ) → rowLength * n ≤ room → Rows n ≡ answer s room
     unfolding answer answerBy
     rows-there room h = rw (lines, le-ltb room (rowLength * n) h)
-
-  -- another table with that room has the same answer
-  pub same-answer : (room : ℕ) → rowLength * mostLines ≤ room → answer s whole ≡ answer s room
-  same-answer room h = go (answer s whole) refl
-    where
-      go : (a : Answer) → a ≡ answer s whole → a ≡ answer s room
-      go (Refused number line column) e = refused-anywhere room e
-      go (Rows n) e = rows-there e room (omega (arith, count-most e))

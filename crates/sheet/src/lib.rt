@@ -12,6 +12,7 @@ use judgement::Judgement;
 use judgement::VALUES;
 use judgement::read;
 use row::ROW_LENGTH;
+pub use rows::line_case;
 use rows::write_rows;
 
 // The refusal of a table without room for the rows.

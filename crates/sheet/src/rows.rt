@@ -1,8 +1,10 @@
 // The rows of the table.
+ghost use mathlib.Core.Path.{_≡_};
 ghost use Prim.Native.Nat.{_≤_, _+_, _*_};
 ghost use lib.ListN.{length};
-ghost use Rattle.tables.specs.Parts.{Written};
+ghost use Rattle.tables.specs.Parts.{partAt, Written};
 ghost use Rattle.case.specs.Columns.{nameCount};
+ghost use Rattle.case.specs.Case.{caseOf};
 ghost use Rattle.case.specs.Bounds.{Bounds};
 ghost use Rattle.row.specs.Row.{numbers, rowLength};
 ghost use Rattle.row.specs.Ends.{rowOf};
@@ -14,6 +16,16 @@ use case::case_of;
 use row::ROW_LENGTH;
 use row::put_row;
 use row::work_row;
+
+// The case of line i of a store.
+pub fn line_case(values: &[u32], i: usize) -> Case
+    requires { ⌜ nameCount * i + nameCount ≤ length (now values) ⌝ }
+    ensures { λ r. ⌜ r ≡ caseOf (partAt nameCount (now (values .entry)) i) ⌝ }
+{
+    let a = NAMES * i;
+    let b = a + NAMES;
+    case_of(&values[a..b])
+}
 
 // Row i of the table.
 fn write_row(c: Case, table: &mut [i64], i: usize)
@@ -36,9 +48,7 @@ pub fn write_rows(values: &[u32], n: usize, table: &mut [i64])
 {
     let mut i: usize = 0;
     while i < n {
-        let a = NAMES * i;
-        let b = a + NAMES;
-        let c = case_of(&values[a..b]);
+        let c = line_case(values, i);
         write_row(c, table, i);
         i += 1;
     }

@@ -1,10 +1,8 @@
 // The lines of a station among the stored values of a sheet, from the last to the first.
 ghost use mathlib.Core.Path.{_≡_};
-ghost use Prim.Native.Nat.{_≤_, _+_, _*_};
+ghost use Prim.Native.Nat.{_≤_, _*_};
 ghost use lib.ListN.{length};
-ghost use Rattle.tables.specs.Parts.{partAt};
 ghost use Rattle.case.specs.Columns.{nameCount};
-ghost use Rattle.case.specs.Case.{caseOf};
 ghost use Rattle.judgement.specs.Limits.{mostLines};
 ghost use Rattle.sheet.specs.Rows.{StoredBounds, storedCases};
 ghost use Rattle.tally.specs.Lines.{linesOf, firstLine};
@@ -14,19 +12,10 @@ use crate::add::add;
 use case::Case;
 use case::NAMES;
 use case::case_of;
+use sheet::line_case;
 
 // The greatest fault current in range, at which no line at all is unsafe.
 const MOST_FAULT: u32 = 80000;
-
-// The case of line i.
-fn line(values: &[u32], i: usize) -> Case
-    requires { ⌜ nameCount * i + nameCount ≤ length (now values) ⌝ }
-    ensures { λ r. ⌜ r ≡ caseOf (partAt nameCount (now (values .entry)) i) ⌝ }
-{
-    let a = NAMES * i;
-    let b = a + NAMES;
-    case_of(&values[a..b])
-}
 
 // The first line of a station, or a case of noughts.
 pub fn first_line(values: &[u32], n: usize, station: u32) -> Case
@@ -39,7 +28,7 @@ pub fn first_line(values: &[u32], n: usize, station: u32) -> Case
     while 0 < i {
         i -= 1;
         if values[NAMES * i] == station {
-            first = line(values, i);
+            first = line_case(values, i);
         }
     }
     first
@@ -68,7 +57,7 @@ pub fn count_lines(values: &[u32], n: usize, station: u32, yard: Case) -> Tally
     while 0 < i {
         i -= 1;
         if values[NAMES * i] == station {
-            t = add(yard, line(values, i), t);
+            t = add(yard, line_case(values, i), t);
         }
     }
     t

@@ -1,12 +1,11 @@
 -- `write_rows` puts row after row.
-use Prim.Native.Nat.{_+_, _*_, _-_, _≤_}
+use Prim.Native.Nat.{_-_, _≤_}
 use native.Mathlib.Omega.{arith}
 use borrow.Author.Needs.{needs}
-use lib.ListN.{length, getD}
+use lib.ListN.{getD}
 use mathlib.Core.List.{[]}
 use Rattle.tables.specs.Parts as parts
 use Rattle.tables.proofs.Filling.{filled-start, filled-step, filled-end}
-use Rattle.case.specs.Columns.{nameCount}
 use Rattle.case.specs.Case.{caseOf}
 use Rattle.case.specs.Bounds.{Bounds}
 use Rattle.sheet.specs.Rows.{storedCases}
@@ -30,11 +29,11 @@ abbrev start : tie.In-loop Inv-loop μ-loop → tie.Start Inv-loop μ-loop
 start c = c .before .before .before .before
 
 -- line i is within the values
-line-requires : tie.Need-line-requires Inv-loop μ-loop
-line-requires c κs = omega (arith, start c .pre .1 .0, c .loop-test .taken)
+line-case-requires : tie.Need-line-case-requires Inv-loop μ-loop
+line-case-requires c κs = omega (arith, start c .pre .1 .0, c .loop-test .taken)
 
-bounds : (c : tie.After-line Inv-loop μ-loop) → Bounds (c .line .result)
-bounds c = let i = c .before in rw (c .line .ensures) (start i .pre .0 (i .before .loop .i) (i .loop-test .taken))
+bounds : (c : tie.After-line-case Inv-loop μ-loop) → Bounds (c .line-case .result)
+bounds c = let i = c .before in rw (c .line-case .ensures) (start i .pre .0 (i .before .loop .i) (i .loop-test .taken))
 
 put-row-requires : tie.Need-put-row-requires Inv-loop μ-loop
 put-row-requires c κs =
@@ -47,7 +46,7 @@ loop-again c =
     let k = p .before .before in
     let i = k .before in (
       filled-step (i .before .loop .inv .0) (p .put-row .ensures .written)
-          (rw (stored-case (start i .args .values .now) _ _ (i .loop-test .taken), ← k .line .ensures)
+          (rw (stored-case (start i .args .values .now) _ _ (i .loop-test .taken), ← k .line-case .ensures)
           (row-right (p .put-row .ensures) (bounds k))),
       search needs,
     )
@@ -67,7 +66,7 @@ write-rows-spec =
     Inv-loop
     μ-loop
     loop-holds
-    line-requires
+    line-case-requires
     put-row-requires
     (λ c. search needs)
     (λ c. search needs)

@@ -33,12 +33,12 @@ mul-if1-2 c = omega (arith, within c)
 shared-slice-read-if1 : tie.Need-shared-slice-read-if1 Inv-loop μ-loop
 shared-slice-read-if1 c = omega (arith, within (c .before))
 
-line-requires : tie.Need-line-requires Inv-loop μ-loop
-line-requires c κs = within (c .before .before)
+line-case-requires : tie.Need-line-case-requires Inv-loop μ-loop
+line-case-requires c κs = within (c .before .before)
 
 loop-again : tie.Need-loop-again Inv-loop μ-loop
 loop-again c =
-    let i = c .before .before .before in first-own (i .before .loop .inv) (i .loop-test .taken) (c .before .if1 .taken) (c .line .ensures)
+    let i = c .before .before .before in first-own (i .before .loop .inv) (i .loop-test .taken) (c .before .if1 .taken) (c .line-case .ensures)
 
 loop-again-2 : tie.Need-loop-again-2 Inv-loop μ-loop
 loop-again-2 c = let i = c .before .before in first-other (i .before .loop .inv) (i .loop-test .taken) (c .if1 .left)
@@ -48,5 +48,20 @@ returns c = first-end (c .before .loop .inv) (c .loop-test .left)
 
 pub first-line-spec : {M : Type 1} → statement M
 first-line-spec =
-    tie.close (tie.spec Inv-loop μ-loop (λ c. search needs) (λ c κs. search needs) loop-holds (λ c. search needs) mul-if1 mul-if1-2
-    shared-slice-read-if1 line-requires (λ c. search needs) loop-again (λ c. search needs) loop-again-2 returns)
+    tie.close
+    (tie.spec
+    Inv-loop
+    μ-loop
+    (λ c. search needs)
+    (λ c κs. search needs)
+    loop-holds
+    (λ c. search needs)
+    mul-if1
+    mul-if1-2
+    shared-slice-read-if1
+    line-case-requires
+    (λ c. search needs)
+    loop-again
+    (λ c. search needs)
+    loop-again-2
+    returns)

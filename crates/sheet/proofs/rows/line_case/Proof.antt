@@ -1,4 +1,4 @@
--- `line` reads the values of its own part.
+-- `line_case` reads the values of its own part.
 use Prim.Native.Nat.{_+_, _*_, _-_}
 use mathlib.Core.Path.{ap, _∙_, _≡_}
 use native.Mathlib.Omega.{arith}
@@ -7,8 +7,8 @@ use borrow.Rule.Slice.PartMut.{mid-len}
 use borrow.Author.Needs.{needs}
 use Rattle.case.specs.Case.{caseOf}
 use Rattle.case.specs.Columns.{nameCount}
-use Rattle.c_entry.proofs.rows.line.Statement.{statement}
-use Rattle.c_entry.proofs.rows.line.Tie as tie
+use Rattle.sheet.proofs.rows.line_case.Statement.{statement}
+use Rattle.sheet.proofs.rows.line_case.Tie as tie
 
 part-case-of-end : tie.Need-part-case-of-end
 part-case-of-end c = search needs
@@ -22,8 +22,8 @@ returns c =
     let w : nameCount * s .args .i + nameCount - nameCount * s .args .i ≡ nameCount = omega arith in
     c .case-of .ensures ∙ ap (λ k. caseOf (take k (drop (nameCount * s .args .i) (s .args .values .now)))) w
 
-pub line-spec : {M : Type 1} → statement M
-line-spec =
+pub line-case-spec : {M : Type 1} → statement M
+line-case-spec =
     tie.close
     (tie.spec
     (λ c. search needs)
