@@ -15,6 +15,9 @@ static void ask_nulls(void) {
     expect(hocsimbur_rows_at(NULL, 0, NULL, 0, NULL, 0), -HOCSIMBUR_REFUSED_TEXT, "rows_at");
     expect(hocsimbur_summary(NULL, 0, NULL, 0, NULL, 0, NULL, 0), -HOCSIMBUR_REFUSED_TEXT, "summary");
     expect(hocsimbur_release(NULL, 0, NULL, 0, NULL, 0, NULL, 0), -HOCSIMBUR_REFUSED_TEXT, "release");
+    expect(hocsimbur_margins(NULL, 0, NULL, 0, NULL, 0), -HOCSIMBUR_REFUSED_TEXT, "margins");
+    expect(hocsimbur_working(NULL, 0, NULL, 0, NULL, 0), -HOCSIMBUR_REFUSED_TEXT, "working");
+    expect(hocsimbur_headroom(NULL, 0, NULL, 0, NULL, 0), -HOCSIMBUR_REFUSED_TEXT, "headroom");
     expect(hocsimbur_fewest(NULL, 0, 70000, NULL, 0, NULL, 0), -HOCSIMBUR_REFUSED_TEXT, "fewest");
     expect(hocsimbur_carry(NULL, 0, NULL, 0, NULL, 0), -HOCSIMBUR_REFUSED_TEXT, "carry");
     expect(hocsimbur_carry_back(NULL, 0, NULL, 0, NULL, 0), -HOCSIMBUR_REFUSED_TEXT, "carry_back");
@@ -37,6 +40,9 @@ static void ask_beside_nulls(void) {
     expect(hocsimbur_rows_at(sheet, t.bytes, NULL, 0, NULL, 0), -HOCSIMBUR_REFUSED_SHORT, "rows_at");
     expect(hocsimbur_summary(sheet, t.bytes, rows, HOCSIMBUR_LINES * HOCSIMBUR_NUMBERS, NULL, 0, NULL, 0), -HOCSIMBUR_REFUSED_SUMMARY, "summary");
     expect(hocsimbur_release(sheet, t.bytes, NULL, 0, NULL, 0, NULL, 0), -HOCSIMBUR_REFUSED_LICENCE, "release");
+    expect(hocsimbur_margins(sheet, t.bytes, NULL, 0, NULL, 0), -HOCSIMBUR_REFUSED_SHORT, "margins");
+    expect(hocsimbur_working(sheet, t.bytes, NULL, 0, NULL, 0), -HOCSIMBUR_REFUSED_SHORT, "working");
+    expect(hocsimbur_headroom(sheet, t.bytes, NULL, 0, NULL, 0), -HOCSIMBUR_REFUSED_SHORT, "headroom");
     expect(hocsimbur_soil(readings, 2, NULL, 0, NULL, 0), -HOCSIMBUR_REFUSED_SHORT, "soil");
     expect(hocsimbur_split(parts, 4, NULL, 0, NULL, 0), -HOCSIMBUR_REFUSED_SHORT, "split");
 }

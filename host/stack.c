@@ -5,12 +5,12 @@
 #include <stdio.h>
 #include <string.h>
 
-enum { STACK = 1 << 20, FILL = 0xA5, MOST_STACK = 80000, MOST_OTHER_STACK = 100000 };
+enum { STACK = 1 << 20, FILL = 0xA5, MOST_STACK = 80000, MOST_LINES_STACK = 40000, MOST_OTHER_STACK = 100000 };
 
 struct call {
     struct trial sheet;
     uint8_t buffer[MOST_BUFFER];
-    int64_t numbers[HOCSIMBUR_LINES * HOCSIMBUR_NUMBERS], beside[HOCSIMBUR_LINES * HOCSIMBUR_PAIR_NUMBERS];
+    int64_t numbers[HOCSIMBUR_LINES * HOCSIMBUR_WORKING_NUMBERS], beside[HOCSIMBUR_LINES * HOCSIMBUR_PAIR_NUMBERS];
     int64_t (*entry)(struct call *, const uint8_t *, size_t *);
     int64_t answer;
     uintptr_t top;
@@ -33,6 +33,18 @@ static int64_t ask_release(struct call *call, const uint8_t *text, size_t *place
     }
     size_t most = sizeof call->beside / sizeof *call->beside;
     return hocsimbur_release(text, call->sheet.bytes, licence, 2 * HOCSIMBUR_LINES, call->beside, most, place, 2);
+}
+
+static int64_t ask_margins(struct call *call, const uint8_t *text, size_t *place) {
+    return hocsimbur_margins(text, call->sheet.bytes, call->numbers, sizeof call->numbers / sizeof *call->numbers, place, 2);
+}
+
+static int64_t ask_working(struct call *call, const uint8_t *text, size_t *place) {
+    return hocsimbur_working(text, call->sheet.bytes, call->numbers, sizeof call->numbers / sizeof *call->numbers, place, 2);
+}
+
+static int64_t ask_headroom(struct call *call, const uint8_t *text, size_t *place) {
+    return hocsimbur_headroom(text, call->sheet.bytes, call->numbers, sizeof call->numbers / sizeof *call->numbers, place, 2);
 }
 
 static int64_t ask_carry_back(struct call *call, const uint8_t *text, size_t *place) {
@@ -90,5 +102,8 @@ void run_stack(void) {
     take("rows", ask_rows, MOST_STACK);
     take("summary", ask_summary, MOST_OTHER_STACK);
     take("release", ask_release, MOST_OTHER_STACK);
+    take("margins", ask_margins, MOST_LINES_STACK);
+    take("working", ask_working, MOST_LINES_STACK);
+    take("headroom", ask_headroom, MOST_LINES_STACK);
     take("carry_back", ask_carry_back, MOST_OTHER_STACK);
 }

@@ -38,7 +38,7 @@
  * Memory. The caller owns all buffers and keeps them valid during the call; nothing is allocated, and nothing of the caller's is
  * kept. What is written overlaps nothing else that is handed over. A pointer may be null where its length is 0. Bytes need no
  * alignment, numbers that of their type. Nothing is read or written past the given lengths. A call takes less than 100 kB of stack;
- * hocsimbur_rows and hocsimbur_rows_at take less than 80 kB.
+ * hocsimbur_rows and hocsimbur_rows_at take less than 80 kB; hocsimbur_margins, hocsimbur_working and hocsimbur_headroom less than 40 kB.
  *
  * Threads. There is no state: any number of calls may run at the same time on buffers of their own. */
 #ifndef HOCSIMBUR_H
@@ -65,6 +65,9 @@ extern "C" {
 #define HOCSIMBUR_SOIL_NUMBERS 7     /* numbers of a soil report */
 #define HOCSIMBUR_SPLIT_NUMBERS 3    /* numbers of a staged test's answer */
 #define HOCSIMBUR_FEWEST_NUMBERS 3   /* numbers of a search for the fewest lines */
+#define HOCSIMBUR_MARGIN_NUMBERS 2   /* numbers of a value line's margins */
+#define HOCSIMBUR_WORKING_NUMBERS 30 /* numbers of a value line's working */
+#define HOCSIMBUR_HEADROOM_NUMBERS 1 /* numbers of a value line's headroom */
 
 /* The numbers of a row, by place. A pair is a lower and an upper end that enclose the exact value. */
 enum hocsimbur_number {
@@ -88,6 +91,41 @@ enum hocsimbur_number {
     HOCSIMBUR_RESISTANCE_UPPER,
     HOCSIMBUR_RISE_LOWER,            /* ground potential rise, millivolts */
     HOCSIMBUR_RISE_UPPER
+};
+
+/* The numbers of a value line's working, by place: the quantities between a case and its row, as IEEE Std 80's Annex B prints them. A
+ * pair is a lower and an upper end that enclose the exact value. */
+enum hocsimbur_quantity {
+    HOCSIMBUR_CS_LOWER,              /* Cs, billionths */
+    HOCSIMBUR_CS_UPPER,
+    HOCSIMBUR_ROOT_TIME_LOWER,       /* root of the shock duration in s, hundred-millionths */
+    HOCSIMBUR_ROOT_TIME_UPPER,
+    HOCSIMBUR_SIDE_LOWER,            /* root of the area, micrometres */
+    HOCSIMBUR_SIDE_UPPER,
+    HOCSIMBUR_LC_LOWER,              /* Lc, length of the grid's conductors, micrometres */
+    HOCSIMBUR_LC_UPPER,
+    HOCSIMBUR_LR_LOWER,              /* LR, length of all rods, micrometres */
+    HOCSIMBUR_LR_UPPER,
+    HOCSIMBUR_LT_LOWER,              /* LT, both, micrometres */
+    HOCSIMBUR_LT_UPPER,
+    HOCSIMBUR_LM_LOWER,              /* LM, effective length for the mesh voltage, micrometres */
+    HOCSIMBUR_LM_UPPER,
+    HOCSIMBUR_LS_LOWER,              /* LS, effective length for the step voltage, micrometres */
+    HOCSIMBUR_LS_UPPER,
+    HOCSIMBUR_N_LOWER,               /* n, effective number of conductors, ten-millionths */
+    HOCSIMBUR_N_UPPER,
+    HOCSIMBUR_KI_LOWER,              /* Ki, 10^-10 */
+    HOCSIMBUR_KI_UPPER,
+    HOCSIMBUR_KII_LOWER,             /* Kii, billionths */
+    HOCSIMBUR_KII_UPPER,
+    HOCSIMBUR_KH_LOWER,              /* Kh, billionths */
+    HOCSIMBUR_KH_UPPER,
+    HOCSIMBUR_KM_LOWER,              /* Km, ten-millionths */
+    HOCSIMBUR_KM_UPPER,
+    HOCSIMBUR_KS_LOWER,              /* Ks, ten-millionths per metre */
+    HOCSIMBUR_KS_UPPER,
+    HOCSIMBUR_DRIVEN_LOWER,          /* soil resistivity times Ki times grid current over LM, millivolts */
+    HOCSIMBUR_DRIVEN_UPPER
 };
 
 /* The verdict of a row. */
@@ -163,6 +201,22 @@ int64_t hocsimbur_summary(const uint8_t *sheet, size_t sheet_bytes, int64_t *row
  * which every line is safe, or 0. Answers the count of pairs. Refusals 1 to 7, then 21, 22, 23. */
 int64_t hocsimbur_release(const uint8_t *sheet, size_t sheet_bytes, const uint32_t *licence, size_t licence_numbers, int64_t *table,
                           size_t table_numbers, size_t *place, size_t place_numbers);
+
+/* How far each value line is from its limits. Two numbers a line: by how many per mille of the tolerable touch voltage the mesh voltage
+ * lies above it, and the same of step voltage and tolerable step voltage; negative below. Each is the smallest whole number that the
+ * exact voltages are not above. Answers the count of value lines. Refusals 1 to 7, then 8. */
+int64_t hocsimbur_margins(const uint8_t *sheet, size_t sheet_bytes, int64_t *numbers, size_t numbers_numbers, size_t *place,
+                          size_t place_numbers);
+
+/* The quantities between each value line and its row: 30 numbers a line, by enum hocsimbur_quantity. Answers the count of value lines.
+ * Refusals 1 to 7, then 8. */
+int64_t hocsimbur_working(const uint8_t *sheet, size_t sheet_bytes, int64_t *numbers, size_t numbers_numbers, size_t *place,
+                          size_t place_numbers);
+
+/* How far the fault current may grow. One number a value line: the greatest fault current in A, 100 to 80000, at which the line, all else
+ * equal, is answered safe, or 0 where none is. Answers the count of value lines. Refusals 1 to 7, then 8. */
+int64_t hocsimbur_headroom(const uint8_t *sheet, size_t sheet_bytes, int64_t *numbers, size_t numbers_numbers, size_t *place,
+                           size_t place_numbers);
 
 /* The fewest lines each way, then rods, with which a square yard of a side in mm is safe, all else as in the one value line of a
  * sheet. Answers 1 and three numbers, the lines, the rods and how many yards were tried; or 0 and 0, 0 and how many were tried,

@@ -2,8 +2,8 @@
 
     python3 tests/entries.py [--library target/host/libhocsimbur.so] [--count N]
 
-Every list, test, sheet and licence that is stored for an operation's own program is asked, of the sheets the first
-N. Any disagreement is printed, and the exit status is then 1. `make libraries` builds the library.
+Every list, test, sheet and licence that is stored for an operation's own program is asked, of summaries and releases
+the first N. Any disagreement is printed, and the exit status is then 1. `make libraries` builds the library.
 """
 
 import argparse
@@ -14,11 +14,14 @@ import sys
 import calculator as calc
 import carry
 import fewest
+import headroom
+import margins
 import readings
 import release
 import sheets
 import staged
 import summary
+import working
 from calculator import Refusal
 
 LIBRARY = "target/host/libhocsimbur.so"
@@ -27,6 +30,8 @@ FILL = -7777  # what stands in an array beforehand
 SPARE = 5  # numbers of an array past those that are needed
 DEPTHS = (8, 12)
 SEED = 11
+NUMBERED = 60  # sheets beside those that are stored
+WIDTHS = {"margins": 2, "working": 30, "headroom": 1}  # numbers of a value line
 
 KINDS = {"u8": ctypes.c_uint8, "u32": ctypes.c_uint32, "i64": ctypes.c_int64, "usize": ctypes.c_size_t}
 
@@ -174,7 +179,58 @@ def carried(library):
             yield f"{entry} {text!r}", [] if same else [f"{answer}, not {right[0]}, or other bytes"]
 
 
-QUESTIONS = {"soil": soil, "split": split, "summary": summaries, "release": releases, "fewest": searches, "carry and carry_back": carried}
+# --------------------------------------------------------------------------
+# Some numbers of every value line.
+# --------------------------------------------------------------------------
+
+def margins_wrong(library, sheet, cases, parts):
+    """By the rows of the sheet."""
+    wanted = [list(margin[3:]) for margin in margins.margins_of(rows_of(library, sheet, len(cases)))]
+    return [] if parts == wanted else [f"{parts}, not {wanted}"]
+
+
+def working_wrong(library, sheet, cases, parts):
+    return [wrong for case, part in zip(cases, parts, strict=True) for wrong in working.judge(case, part, DEPTHS)]
+
+
+def headroom_wrong(library, sheet, cases, parts):
+    """By the verdicts of rows at the fault current and at 1 A more."""
+    def verdict(case):
+        return rows_of(library, sheets.sheet_of([case]), 1)[0][2]
+    return [wrong for case, (fault,) in zip(cases, parts, strict=True) for wrong in headroom.judge(case, fault or headroom.NONE, verdict)]
+
+
+def line_sheets():
+    """Those stored for the summary, then some by number, of which many are refused."""
+    return dict.fromkeys([*(sheet for sheet, _, _ in summary.blocks()), *(sheets.numbered_sheet(SEED, number)[1] for number in range(NUMBERED))])
+
+
+def line_wrong(library, name, judge, sheet, cases, room):
+    """What is wrong with the answer in an array of so many numbers; null stands for an array of none."""
+    answer, (numbers,) = library.ask(name, [("u8", sheet)], [("i64", [FILL] * room)])
+    width = WIDTHS[name]
+    refusal = cases if isinstance(cases, Refusal) else Refusal(8, 0, 0) if room < width * len(cases) else None
+    if refusal:
+        return [] if (answer, numbers) == (refusal, [FILL] * room) else [f"{answer} in {room} numbers, not {refusal}, or other numbers"]
+    used = width * len(cases)
+    if (answer, numbers[used:]) != (len(cases), [FILL] * (room - used)):
+        return [f"{answer} in {room} numbers, or other numbers past the last"]
+    return judge(library, sheet, cases, [numbers[i:i + width] for i in range(0, used, width)])
+
+
+def line_by_line(name, judge):
+    def asked(library):
+        for sheet in line_sheets():
+            cases = calc.read_sheet(sheet)
+            used = 0 if isinstance(cases, Refusal) else WIDTHS[name] * len(cases)
+            rooms = sorted({0, max(used - 1, 0), used, used + SPARE})
+            yield f"{sheet!r}", [wrong for room in rooms for wrong in line_wrong(library, name, judge, sheet, cases, room)]
+    return asked
+
+
+QUESTIONS = {"soil": soil, "split": split, "summary": summaries, "release": releases, "fewest": searches, "carry and carry_back": carried,
+             "margins": line_by_line("margins", margins_wrong), "working": line_by_line("working", working_wrong),
+             "headroom": line_by_line("headroom", headroom_wrong)}
 
 
 def main():

@@ -12,6 +12,7 @@ import host
 import release
 import sheets
 import summary
+import working
 from calculator import Case, Refusal
 
 ROOT = Path(__file__).parents[1]
@@ -167,7 +168,7 @@ class Header(unittest.TestCase):
     """include/hocsimbur.h says what the crates have: entries, limits, version, refusals, and the places of a row's numbers."""
 
     text = (ROOT / "include/hocsimbur.h").read_text("ascii")
-    source = "".join((ROOT / f"crates/{crate}/src/lib.rt").read_text("utf-8") for crate in ("c_entry", "c_questions"))
+    source = "".join((ROOT / f"crates/{crate}/src/lib.rt").read_text("utf-8") for crate in ("c_entry", "c_questions", "c_lines"))
     forms = {
         "&[u8]": ["const uint8_t *", "size_t "], "&[u32]": ["const uint32_t *", "size_t "], "&[i64]": ["const int64_t *", "size_t "],
         "&mut [u8]": ["uint8_t *", "size_t "], "&mut [i64]": ["int64_t *", "size_t "], "&mut [usize]": ["size_t *", "size_t "],
@@ -194,14 +195,16 @@ class Header(unittest.TestCase):
         said = dict(re.findall(r"#define HOCSIMBUR_(\w+) +(\d+)", self.text))
         wanted = {"VERSION": entries.VERSION, "LINES": calc.MAX_VALUE_LINES, "SHEET_BYTES": calc.MAX_BYTES, "NUMBERS": calc.ROW_LENGTH,
                   "ROW_BYTES": host.LINE_BYTES, "STATION_NUMBERS": summary.STATION_LENGTH, "PAIR_NUMBERS": release.PAIR_LENGTH,
-                  "SOIL_NUMBERS": 7, "SPLIT_NUMBERS": 3, "FEWEST_NUMBERS": 3}
+                  "SOIL_NUMBERS": 7, "SPLIT_NUMBERS": 3, "FEWEST_NUMBERS": 3,
+                  "MARGIN_NUMBERS": entries.WIDTHS["margins"], "WORKING_NUMBERS": entries.WIDTHS["working"],
+                  "HEADROOM_NUMBERS": entries.WIDTHS["headroom"]}
         self.assertEqual({name: int(number) for name, number in said.items()}, wanted)
         self.assertEqual(re.search(r"VERSION: u32 = (\d+)", self.source)[1], said["VERSION"])
         self.assertIn('"hocsimbur 1.0.0"', (ROOT / "host/hocsimbur.3").read_text("ascii"))
 
     def test_stack(self):
         said = re.findall(r"less than (\d+) kB", self.text)
-        held = re.findall(r"MOST_(?:OTHER_)?STACK = (\d+)", (ROOT / "host/stack.c").read_text("ascii"))
+        held = re.findall(r"MOST_(?:\w+_)?STACK = (\d+)", (ROOT / "host/stack.c").read_text("ascii"))
         self.assertEqual(sorted(1000 * int(number) for number in said), sorted(map(int, held)))
 
     def test_refusals(self):
@@ -224,6 +227,11 @@ class Header(unittest.TestCase):
         wanted = ["STATION", "SEASON", "VERDICT", "KCMIL"]
         wanted += [f"{name.upper()}_{end}" for name in calc.Ends._fields for end in ("LOWER", "UPPER")]
         self.assertEqual(places, wanted)
+
+    def test_quantities(self):
+        listed = re.search(r"enum hocsimbur_quantity \{(.*?)\}", self.text, re.S)[1]
+        wanted = [f"{name.upper()}_{end}" for name in working.Working._fields for end in ("LOWER", "UPPER")]
+        self.assertEqual(re.findall(r"HOCSIMBUR_(\w+)", listed), wanted)
 
 
 class Released(unittest.TestCase):
