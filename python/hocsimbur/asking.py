@@ -63,7 +63,7 @@ def greatest(cases: Sequence[Case], name: str, low: int, high: int, good: Callab
 
 
 def wires_enough_to(cases: Sequence[Case]) -> List[int]:
-    """For each case the greatest fault current in A at which its conductor is large enough, 0 where none in range is."""
+    """For each case the greatest fault current in A at which its conductor is large enough; at 100 A every one in range is."""
     def enough(asked: List[Case]) -> List[bool]:
         return [not small for small in small_wires(asked)]
-    return [0 if value < FAULT_LEAST else value for value in greatest(cases, "fault", FAULT_LEAST, FAULT_MOST, enough)]
+    return greatest(cases, "fault", FAULT_LEAST, FAULT_MOST, enough)

@@ -49,7 +49,7 @@ class Line:
     working: core.Working
     headroom: int          # greatest fault current in A at which this line is safe, or 0
     small_wire: bool
-    wire_to: int           # greatest fault current in A at which its conductor is large enough, or 0
+    wire_to: int           # greatest fault current in A at which its conductor is large enough
 
     @property
     def season(self) -> int:

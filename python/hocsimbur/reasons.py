@@ -131,7 +131,7 @@ def greatest(station: Station) -> str:
 
 
 def wire_to(station: Station) -> int:
-    """The greatest fault current in A at which the wire of every line is enough, or 0."""
+    """The greatest fault current in A at which the wire of every line is enough."""
     return min(line.wire_to for line in station.lines)
 
 
@@ -148,10 +148,7 @@ def current(station: Station) -> str:
         said = f"Safe up to {grouped(FAULT_MOST)}{NB}A, the end of the range{', where there is a line' if station.missing else ''}"
     else:
         said = f"Greatest fault current still safe: {greatest(station)}, set by {by}"
-    wire = wire_to(station)
-    tail = ""
-    if wire < station.fault:
-        tail = f"; the wire is enough to {grouped(wire)}{NB}A" if wire else "; the wire is enough at no fault current in range"
+    tail = f"; the wire is enough to {grouped(wire_to(station))}{NB}A" if wire_to(station) < station.fault else ""
     return f"{said} ({now(station)}){tail}."
 
 

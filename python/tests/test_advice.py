@@ -133,6 +133,21 @@ class Words(unittest.TestCase):
         words = [change.words for change in advice.changes(sheet, 104, granted(104, (2,))) if change.kind == "rods"]
         self.assertRegex(words[0], r"^rods: \d+ rods of 3 m at the perimeter \(now none\); ")
 
+    def test_undecided_is_not_enough(self):
+        """With 16 rods the line is undecided, with 17 it is safe."""
+        sheet = sheets.text([case(131, 2, rods=15)])
+        self.assertEqual(verdicts([case(131, 2, rods=16)]), [Verdict.UNDECIDED])
+        found = next(change for change in advice.changes(sheet, 131, granted(131, (2,))) if change.kind == "rods")
+        self.assertEqual(found.lines[0]["rods"], 17)
+
+    def test_no_line_is_made_worse(self):
+        """A line that has more of it already keeps it."""
+        lines = [case(104, 1, layer=9000, thick=250, shock=40), case(104, 2)]
+        found = {change.kind: change.lines for change in advice.changes(sheets.text(lines), 104, granted(104, (1, 2)))}
+        self.assertEqual([one["layer"] for one in found["resistivity"]], [9000, 3200])
+        self.assertEqual([one["shock"] for one in found["shock"]], [40, 350])
+        self.assertEqual({one.lines[0]["thick"] for one in advice.thickness(tuple(lines)) if one.lines[1]["thick"] <= 250}, {250})
+
     def test_from_four_rods_up(self):
         counts = [one.lines[0]["rods"] for one in advice.rods((case(101, 1, rods=0, rodlen=0, place=0),))]
         self.assertEqual(counts, list(range(4, 201)))
@@ -178,6 +193,7 @@ class Words(unittest.TestCase):
         self.assertEqual(core.release(sheets.text(list(wire.lines)), [(118, 7)])[0].small_wire, 0)
         less = [dict(one, dia=one["dia"] - 1) for one in wire.lines]
         self.assertGreater(core.release(sheets.text(less), [(118, 7)])[0].small_wire, 0)
+        self.assertEqual({one["dia"] for one in advice.changes(sheets.text(less), 118, granted(118, (1, 2, 3)))[0].lines}, {179})
 
     def test_no_wire_is_enough(self):
         sheet = sheets.text([case(101, 1, fault=80000, wire=3000, metal=11, soil=10, split=10)])

@@ -96,6 +96,11 @@ class Answers(unittest.TestCase):
             self.assertEqual(line.small_wire, line.case["fault"] > line.wire_to)
 
 
+    def test_wire_is_enough_at_the_least_fault_current(self):
+        thin = [case(101, 1, dia=50, wire=3000, clear=9, xr=40, hz=50, fault=100, metal=metal) for metal in range(1, 12)]
+        self.assertFalse(any(asking.small_wires(thin)))
+
+
 class Licences(unittest.TestCase):
     def test_order_of_the_licence(self):
         self.assertEqual([one.station for one in EXAMPLE.stations], [one.station for one in LICENCE.stations])

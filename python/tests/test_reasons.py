@@ -173,6 +173,8 @@ class Asides(unittest.TestCase):
         rods = "cannot stand at all four corners, yet are counted as if rods stood all along it."
         self.assertEqual(reasons.cautions(EXAMPLE[188]), [f"2 rods at the perimeter {rods}"])
         self.assertEqual(reasons.cautions(station([case(101, 1, rods=1)])), [f"1 rod at the perimeter {rods}"])
+        self.assertEqual(reasons.cautions(station([case(101, 1, rods=3)])), [f"3 rods at the perimeter {rods}"])
+        self.assertEqual(reasons.cautions(station([case(101, 1, rods=2), case(101, 2, rods=3)])), [f"2 and 3 rods at the perimeter {rods}"])
         self.assertEqual(reasons.cautions(station([case(101, 1, rods=4)])), [])
         self.assertEqual(reasons.cautions(station([case(101, 1, rods=3, place=2)])), [])
         self.assertEqual(reasons.cautions(EXAMPLE[160]), [

@@ -383,6 +383,11 @@ class Others(unittest.TestCase):
         self.assertIn("a bar that is cut goes beyond 200 %", tree.one("div", "key").text())
         self.assertNotIn("a bar that is cut", PAGE)
 
+    def test_one_small_wire(self):
+        sheet = sheets.text([case(118, 1), case(118, 2, dia=300)])
+        tree = read(report.render(sheet, "wire.csv", granted(118, (1, 2)), DATE))
+        self.assertEqual(tree.one("td", "wire").text(), "495 of 38too small")
+
     def test_columns_in_another_order(self):
         names, *lines = [line.split(",") for line in SHEET.decode().splitlines()]
         turned = "".join(",".join(reversed(line)) + "\n" for line in [names, *lines]).encode()
