@@ -106,7 +106,7 @@ install: libraries
 	install -m 644 host/hocsimbur.1 $(DESTDIR)$(MANDIR)/man1/hocsimbur.1
 	install -m 644 python/hocsimbur/*.py $(DESTDIR)$(PYTHONDIR)/hocsimbur
 	ln -sf $(LIBDIR)/$(SONAME) $(DESTDIR)$(PYTHONDIR)/hocsimbur/$(SONAME)
-	$(PYTHON) -m compileall -q $(DESTDIR)$(PYTHONDIR)/hocsimbur
+	! command -v $(PYTHON) > /dev/null || $(PYTHON) -m compileall -q $(DESTDIR)$(PYTHONDIR)/hocsimbur
 	sed 's|@PYTHONDIR@|$(PYTHONDIR)|' host/hocsimbur.in > $(DESTDIR)$(BINDIR)/hocsimbur
 	chmod 755 $(DESTDIR)$(BINDIR)/hocsimbur
 

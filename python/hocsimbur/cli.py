@@ -6,8 +6,8 @@ import re
 import sys
 from typing import Any, Callable, List, NoReturn, Optional
 
-from . import carrying, commands, core, deciding, help_texts
-from .output import FAILED, REFUSED, Failed, show, tell
+from . import carrying, commands, core, deciding, help_texts, output
+from .output import FAILED, REFUSED, WELL, Failed, show, tell
 
 OLDEST = (3, 9)    # version of Python
 INTERRUPTED = 130  # as a shell tells a command that Ctrl-C ended
@@ -159,7 +159,13 @@ def _run(arguments: argparse.Namespace, run: Callable[[argparse.Namespace], int]
 
 
 def main(argv: Optional[List[str]] = None) -> int:
-    """Runs a command and answers its exit status."""
+    """Runs a command and answers its exit status; where all is well but for a note that could not be told, output has failed."""
+    output.lost = False
+    status = _main(argv)
+    return FAILED if status == WELL and output.lost else status
+
+
+def _main(argv: Optional[List[str]]) -> int:
     if sys.version_info < OLDEST:
         tell("hocsimbur: Python {}.{} or newer is needed".format(*OLDEST))
         return FAILED

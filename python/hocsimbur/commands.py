@@ -28,12 +28,12 @@ class Stopped(Exception):
         self.after = after
 
 
-def ask(question: Callable[[], Answer], asked: Asked) -> Answer:
-    """The answer to a question; a refusal ends the command, in words."""
+def ask(question: Callable[[], Answer], asked: Asked, of: str = "") -> Answer:
+    """The answer to a question, of a file where one is named; a refusal ends the command, in words."""
     try:
         return question()
     except core.Refused as refused:
-        raise Stopped([refusal(refused, asked)], f"refused,{refused.number},{refused.line},{refused.column}\n") from None
+        raise Stopped([refusal(refused, asked)], f"refused,{refused.number},{refused.line},{refused.column}\n", of) from None
 
 
 def _clear(of: str, made: Callable[..., Answer], *arguments: object) -> Answer:
@@ -99,14 +99,15 @@ def summary(arguments: argparse.Namespace) -> int:
 
 # ---- estimators
 
-def _one_line(sheet: bytes, station: Optional[int], season: Optional[int]) -> bytes:
+def _one_line(arguments: argparse.Namespace) -> bytes:
     """The sheet with the one line that a station and a season choose; the sheet itself where nothing is chosen."""
+    sheet, station, season = read(arguments.file), arguments.station, arguments.season
     if station is None and season is None:
         return sheet
-    ask(lambda: core.rows(sheet), Asked(sheet))
+    ask(lambda: core.rows(sheet), Asked(sheet), arguments.file)
     chosen = [case for case in sheets.cases(sheet) if station in (None, case["station"]) and season in (None, case["season"])]
     if not chosen:
-        raise Stopped([f"the sheet has no line for {_chosen(station, season)}"])
+        raise Stopped([f"the sheet has no line for {_chosen(station, season)}"], of=arguments.file)
     return sheets.text(chosen)
 
 
@@ -119,8 +120,8 @@ def fewest(arguments: argparse.Namespace) -> int:
     side = _clear("side", length, arguments.side)
     if not 0 <= side < 2 ** 32:
         raise Stopped([f"side: {arguments.side} is not in 2.5..720 m"])
-    sheet = _one_line(read(arguments.file), arguments.station, arguments.season)
-    found = ask(lambda: core.fewest(sheet, side), Asked(sheet, most_lines=1, side=side))
+    sheet = _one_line(arguments)
+    found = ask(lambda: core.fewest(sheet, side), Asked(sheet, most_lines=1, side=side), arguments.file)
     if arguments.csv:
         show(f"found,{found.lines},{found.rods},{found.tried}\n" if found.found else f"none,{found.tried}\n")
     elif found.found:

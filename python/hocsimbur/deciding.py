@@ -39,6 +39,12 @@ def _decided(stations: List[decision.Station]) -> str:
     return "".join(lines)
 
 
+def _tell_seasons(portfolio: decision.Portfolio) -> None:
+    """Why seasons are missing where no licence names them."""
+    if not portfolio.licensed and any(one.missing for one in portfolio.stations):
+        tell("note: without --licence every station is asked in all four seasons")
+
+
 def release(arguments: argparse.Namespace) -> int:
     portfolio = _portfolio(arguments)
     stations = list(portfolio.stations)
@@ -48,6 +54,7 @@ def release(arguments: argparse.Namespace) -> int:
                                      one.other_yard, one.small_wire, one.fault) for one in answers]))
     else:
         show(_decided(stations))
+    _tell_seasons(portfolio)
     if portfolio.unlicensed:
         tell(f"note: the licence does not name station{'s' if len(portfolio.unlicensed) > 1 else ''} "
              f"{', '.join(str(one) for one in portfolio.unlicensed)} of the sheet")

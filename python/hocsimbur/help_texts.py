@@ -92,6 +92,7 @@ COMMANDS: Dict[str, Text] = {
         "A station is released where every season of the licence has a line, every line is safe, all lines describe one yard and\n"
         "the wire is large enough.",
         """  $ hocsimbur release examples/seasons.csv
+  note: without --licence every station is asked in all four seasons
   station 210  HELD      season 2: mesh 10.3 % above tolerable touch; no line for seasons 3, 4
 """),
     "report": Text(

@@ -18,6 +18,9 @@ WELL, REFUSED, HELD, FAILED = 0, 1, 2, 3  # exit statuses: all well; refused; un
 MOST = 1 << 25  # bytes of a file that are read
 
 
+lost = False  # whether something that was to be told on standard error could not be written
+
+
 class Failed(Exception):
     """Input or output failed: the message says what, and why."""
 
@@ -59,15 +62,15 @@ def show_bytes(data: bytes) -> None:
 
 
 def tell(text: str) -> None:
-    """A line to standard error, with what a terminal would act on escaped.
-
-    Where that fails nothing more can be told, and the exit status still says what was to be said."""
-    if sys.stderr is None:
+    """A line to standard error, with what a terminal would act on escaped; where that fails, `lost` is set."""
+    global lost
+    if sys.stderr is None:  # closed by who asked: nobody reads it
         return
     try:
         sys.stderr.buffer.write(printable(text).encode("utf-8", "backslashreplace") + b"\n")
         sys.stderr.buffer.flush()
     except OSError:
+        lost = True
         _silence(sys.stderr)
 
 

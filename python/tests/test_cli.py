@@ -103,7 +103,7 @@ class Statuses(unittest.TestCase):
         for side in ("60,0m", "60.0005m", "60km", "1m", "-60m", "1" * 30):
             done = run("fewest", "examples/rods.csv", "--station", "303", f"--side={side}")
             self.assertEqual((done.status, done.out), (1, ""), side)
-            self.assertTrue(done.err.startswith("side: "), done.err)
+            self.assertRegex(done.err, "^(examples/rods.csv: )?side: ")
         self.assertIn("only one is taken here", run("fewest", "examples/rods.csv", "--side", "60m").err)
         self.assertIn("no line for station 9", run("fewest", "examples/rods.csv", "--side", "60m", "--station", "9").err)
 
@@ -168,6 +168,15 @@ class Failing(unittest.TestCase):
         command = f"{shlex.quote(sys.executable)} -m hocsimbur verdict examples/refused-5.csv 2>&-"
         done = subprocess.run(["sh", "-c", command], cwd=ROOT, env={**os.environ, "PYTHONPATH": str(PYTHON)}, capture_output=True, check=False)
         self.assertEqual((done.returncode, done.stdout), (1, b""))
+
+    def test_notes_that_are_lost(self):
+        """A note that cannot be told fails a command that is otherwise well; a refusal or a held station keeps its status."""
+        for arguments, status in ((["import", "examples/refused-2-semicolons.csv"], 3), (["verdict", "examples/refused-5.csv"], 1),
+                                  (["release", "tests/sample.csv"], 2)):
+            with open("/dev/full", "wb") as full:
+                done = subprocess.run([sys.executable, "-m", "hocsimbur", *arguments], cwd=ROOT, env={**os.environ, "PYTHONPATH": str(PYTHON)},
+                                      stdout=subprocess.DEVNULL, stderr=full, check=False)
+            self.assertEqual(done.returncode, status, arguments)
 
     def test_files_that_cannot_be_read(self):
         self.hold(run("verdict", "no-such-file.csv"), "hocsimbur: no-such-file.csv: No such file or directory")
