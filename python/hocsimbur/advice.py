@@ -13,7 +13,7 @@ from .core import Verdict
 from .decimals import exact, grouped
 from .decision import YARD, Missing, OtherYard, SmallWire, Station
 from .labels import listed, metres
-from .licence import ALL_SEASONS, Licence, Licensed
+from .licence import Licence, unlicensed
 from .names import BY_NAME
 
 Case = Dict[str, int]
@@ -226,7 +226,7 @@ def _missing(reason: Missing) -> Change:
 def asked(sheet: bytes, station: int, licence: Optional[Licence] = None) -> Station:
     """What the core answers of one station; without a licence, or where it does not name the station, in all four seasons."""
     named = next((one for one in licence.stations if one.station == station), None) if licence else None
-    return decision.portfolio(sheet, Licence((named or Licensed(station, "", ALL_SEASONS),))).stations[0]
+    return decision.portfolio(sheet, Licence((named or unlicensed(station),))).stations[0]
 
 
 def changes(sheet: bytes, station: int, licence: Optional[Licence] = None) -> List[Change]:

@@ -8,7 +8,7 @@ from dataclasses import dataclass
 from typing import Dict, List, NamedTuple, Optional, Tuple, Union
 
 from . import asking, core, sheets
-from .licence import ALL_SEASONS, Licence, Licensed
+from .licence import Licence, Licensed, unlicensed
 from .names import NAMES
 
 # the columns that describe the yard, on which the lines of a station must agree, as docs/manual.md lists them
@@ -255,7 +255,7 @@ def portfolio(sheet: bytes, licence: Optional[Licence] = None) -> Portfolio:
     lines: Dict[int, List[Line]] = {}
     for line in gather(sheet):
         lines.setdefault(line.row.station, []).append(line)
-    asked = licence.stations if licence else [Licensed(station, "", ALL_SEASONS) for station in lines]
+    asked = licence.stations if licence else [unlicensed(station) for station in lines]
     answers = core.release(sheet, [(one.station, one.mask) for one in asked])
     stations = []
     for one, answer in zip(asked, answers):

@@ -25,11 +25,17 @@ class Licensed:
     station: int
     name: str
     seasons: Tuple[int, ...]
+    by_licence: bool = True  # no: all four seasons are asked, since there is no licence
 
     @property
     def mask(self) -> int:
         """The seasons as the core takes them: seasons 1 to 4 count 1, 2, 4 and 8."""
         return sum(1 << (season - 1) for season in self.seasons)
+
+
+def unlicensed(station: int) -> Licensed:
+    """A station that no licence names: all four seasons are asked of it."""
+    return Licensed(station, "", ALL_SEASONS, by_licence=False)
 
 
 @dataclass(frozen=True)

@@ -34,7 +34,8 @@ def _season_cell(station: Station, season: int) -> str:
         outside = "" if season in station.seasons else ", not in the licence"
         return f'<td role="cell" class="s">{number}{mark(said)}<span class="vh">{said}{outside}</span></td>'
     if season in station.seasons:
-        return f'<td role="cell" class="s miss">{number}{mark("none")}<span class="vh">no line, the licence asks for it</span></td>'
+        asked = ", the licence asks for it" if station.licensed.by_licence else ""
+        return f'<td role="cell" class="s miss">{number}{mark("none")}<span class="vh">no line{asked}</span></td>'
     return '<td role="cell" class="s"><span class="vh">not in the licence</span></td>'
 
 
@@ -118,11 +119,12 @@ def _totals(portfolio: Portfolio) -> str:
     return f'<p class="totals">{said}{notes}</p>\n'
 
 
-def _key(scale: Scale) -> str:
+def _key(scale: Scale, licensed: bool) -> str:
+    none = "no line, though the licence asks for the season</span> <span>blank: not in the licence" if licensed else "no line"
+    every = "every season of its licence" if licensed else "every season"
     cut = f"; a bar that is cut goes beyond {scale.top // 10}{NB}%" if scale.cuts else ""
     return (f'<div class="key"><p><span>{mark("safe")} safe</span> <span>{mark("unsafe")} unsafe</span> <span>{mark("undecided")} undecided: the ends '
-            f'do not part voltage and limit</span> <span>{mark("none")} no line, though the licence asks for the season</span> '
-            f'<span>blank: not in the licence</span></p><p>A station is released only if every season of its licence has a line, every line of it is '
+            f'do not part voltage and limit</span> <span>{mark("none")} {none}</span></p><p>A station is released only if {every} has a line, every line of it is '
             f'safe, the lines agree on the yard, and the wire is large enough. Bars end at the season nearest its limit, white ticks are the other '
             f'seasons, and one scale holds for the whole report{cut}. The greatest fault current is that of the voltages, all else equal; '
             f'“at most” where a season has no line. Own wire is a solid round of the sheet’s diameter; a stranded one has less.</p></div>\n')
@@ -143,7 +145,7 @@ def portfolio_page(portfolio: Portfolio, source: Source, scale: Scale) -> str:
             f'<div><dt>SHA-256</dt><dd><code>{source.sha[:12]}</code></dd></div><div><dt>Library</dt><dd>Hocsimbur {escape(source.version)}</dd></div>'
             f'</dl></header>\n{_totals(portfolio)}<table class="pf" role="table"><caption class="vh">Decision for each station, with a mark for every '
             f'season, the nearest limit, the greatest fault current still safe and the wire</caption>{_table_head(scale)}'
-            f'{_group("Held", held, scale)}{_group("Released", released, scale)}</table>\n{_key(scale)}'
+            f'{_group("Held", held, scale)}{_group("Released", released, scale)}</table>\n{_key(scale, portfolio.licensed)}'
             f'{_foot(source, "", "")}<p>{proved}</p></footer></section>\n')
 
 

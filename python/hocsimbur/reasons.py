@@ -104,7 +104,8 @@ def decision(station: Station) -> Tuple[str, str]:
     count = len(station.seasons)
     every = {1: "the one season", 2: "both seasons"}.get(count, f"all {count} seasons")
     line = station.worst
-    return "Released:", (f"{every} of the licence {'is' if count == 1 else 'are'} present and safe; nearest is {line.nearest.limit} in season "
+    of = " of the licence" if station.licensed.by_licence else ""
+    return "Released:", (f"{every}{of} {'is' if count == 1 else 'are'} present and safe; nearest is {line.nearest.limit} in season "
                          f"{line.season}, {margin(line.nearest)}.")
 
 
@@ -213,7 +214,8 @@ def totals(portfolio: Portfolio) -> List[Told]:
     released = sum(station.released for station in stations)
     counts = {verdict: sum(line.row.verdict == verdict for line in lines) for verdict in Verdict}
     gone = sum(len(station.missing) for station in stations)
-    missing = f"{gone} season{'s' if gone > 1 else ''} of the licence without a line" if gone else "every season of the licence has a line"
+    of = " of the licence" if portfolio.licensed else ""
+    missing = f"{gone} season{'s' if gone > 1 else ''}{of} without a line" if gone else f"every season{of} has a line"
     return [
         Told(f"{len(stations)} station{'s' if len(stations) > 1 else ''}:", " "),
         Told(f"{released} released", ", "),

@@ -373,6 +373,8 @@ class Others(unittest.TestCase):
         for one in tree.all("section", "station"):
             self.assertEqual(len(list(one.one("table", "res").one("thead").all("th", "num"))), 4)
         self.assertIn("No licence was handed over", tree.one("p", "totals").text())
+        self.assertNotIn("of the licence", tree.one("main").text())
+        self.assertNotIn("in the licence", tree.one("main").text())
 
     def test_a_bar_that_is_cut(self):
         sheet = sheets.text([case(101, 1, fault=80000, dia=300)])
