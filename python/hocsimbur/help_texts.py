@@ -100,7 +100,7 @@ COMMANDS: Dict[str, Text] = {
         "One HTML file with the portfolio and a page for each station, for a browser or paper.\n"
         "The same sheet, licence and date give the same bytes.",
         """  $ hocsimbur report tests/sample.csv --date '1 July 2026' -o july.html
-  july.html: 1 station: 0 released, 1 held. 2 season lines: 1 safe, 1 unsafe, 0 undecided; 2 seasons of the licence without a line.
+  july.html: 1 station: 0 released, 1 held. 2 season lines: 1 safe, 1 unsafe, 0 undecided; 2 seasons without a line.
 """),
     "next": Text(
         "the least single changes that make a held station safe",
