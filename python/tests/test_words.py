@@ -47,6 +47,8 @@ class OfSheets(unittest.TestCase):
             (SAMPLE[:-1], "line 3: the last line has no line end (byte 10); add one, or use `hocsimbur import`"),
             (SAMPLE + b"0" * 65536 + b"\n",
              f"the sheet has {len(SAMPLE) + 65537:,} bytes, at most 65,536 are allowed; part it into several"),
+            (SAMPLE.ljust(65536, b"0"), "line 4: the last line has no line end (byte 10); add one, or use `hocsimbur import`"),
+            (SAMPLE.ljust(65537, b"0"), "the sheet has 65,537 bytes, at most 65,536 are allowed; part it into several"),
             (b"PK\x03\x04abc", f"this is a spreadsheet file (.xlsx) and no text; {IMPORT}"),
         ])
 
@@ -63,6 +65,8 @@ class OfSheets(unittest.TestCase):
     def test_2_repeated_and_missing(self):
         self.hold([
             (named(b"hz", b"soil"), "line 1, soil (column 22): soil stands already in column 3; each name stands once"),
+            (named(b"layer", b"soil"), "line 1, soil (column 4): soil stands already in column 3; each name stands once"),
+            (named(b",metal,hz", b""), "line 1: metal and hz are missing: a sheet has 22 names, here are 20"),
             (named(b",hz", b""), "line 1: hz is missing: a sheet has 22 names, here are 21"),
             (named(b",place,metal,hz", b""), "line 1: place, metal and hz are missing: a sheet has 22 names, here are 19"),
         ])
@@ -150,7 +154,7 @@ class OfOthers(unittest.TestCase):
 
     def test_9_to_11(self):
         for values, sentence in (
-                ({"wire": 400}, "line 2: shock, clear and wire are 500, 500 and 400 ms; the former sheet has one time for all three"),
+                ({"clear": 300, "wire": 400}, "line 2: shock, clear and wire are 500, 300 and 400 ms; the former sheet has one time for all three"),
                 ({"along": 12}, "line 2: across is 11 and along is 12; the former sheet has one count for both"),
                 ({"hz": 50}, "line 2, hz (column 22): 50 Hz; the former sheet is for 60 Hz alone")):
             sheet = changed(**values)
@@ -170,7 +174,8 @@ class OfOthers(unittest.TestCase):
                 ([], "there is no reading"),
                 ([(1000, 1)] * 65, "there are 65 readings, at most 64 are allowed"),
                 ([(1000, 1), (60500, 1)], "reading 2, distance: 60.5 m is not in 0.5..50 m"),
-                ([(1000, 1), (1000, 0)], "reading 2, resistance: 0 Ω is not in 0.001..1,000 Ω")):
+                ([(1000, 1), (1000, 0)], "reading 2, resistance: 0 Ω is not in 0.001..1,000 Ω"),
+                ([(1000, 1000001), (1000, 1)], "reading 1, resistance: 1,000.001 Ω is not in 0.001..1,000 Ω")):
             self.assertEqual(said(lambda: core.soil(readings), Asked(readings=readings)), sentence)
 
     def test_15_and_16(self):
@@ -188,6 +193,8 @@ class OfOthers(unittest.TestCase):
                 ([(1000, 0)] * 18, "there are 17 branches; the injected current and 1 to 16 branches are needed"),
                 ([(1000, 0), (400, -1000001)],
                  "branch 1, quadrature part: −1,000.001 A is not in −1,000..1,000 A; the split is the same for scaled currents"),
+                ([(1000000, -1000000), (-1000001, 0)],
+                 "branch 1, in-phase part: −1,000.001 A is not in −1,000..1,000 A; the split is the same for scaled currents"),
                 ([(1000001, 0), (400, 0)],
                  "injected, in-phase part: 1,000.001 A is not in −1,000..1,000 A; the split is the same for scaled currents"),
                 ([(0, 0), (400, 0)], "the injected current is 0 in both parts; nothing was injected, so there is no split")):
@@ -197,6 +204,9 @@ class OfOthers(unittest.TestCase):
         for licence, sentence in (
                 ([], "the licence has 0 stations; 1 to 256 are allowed"),
                 ([(7, 1), (0, 1)], "licence, place 2: station 0 is not in 1..65535"),
+                ([(7, 1), (65536, 1)], "licence, place 2: station 65536 is not in 1..65535"),
+                ([(1, 1), (1, 2)], "licence, place 2: station 1 stands there already; a station stands once in a licence"),
+                ([(65535, 1), (65535, 2)], "licence, place 2: station 65535 stands there already; a station stands once in a licence"),
                 ([(7, 1), (7, 2)], "licence, place 2: station 7 stands there already; a station stands once in a licence"),
                 ([(7, 16)], "licence, place 1: the seasons of station 7 are 16, not in 1..15")):
             self.assertEqual(said(lambda: core.release(SAMPLE, licence), Asked(SAMPLE, licence=licence)), sentence)
@@ -219,8 +229,10 @@ class Lines(unittest.TestCase):
 
     def test_lines_of_the_file(self):
         """The lines told are those of the file from which the sheet's lines came."""
-        sheet = changed(fault=99)
-        self.assertEqual(said(lambda: core.rows(sheet), Asked(sheet, line_numbers=[3, 5, 6])), "line 5, fault (column 10): 99 A is not in 100..80000")
+        for line, number in ((2, 5), (3, 6)):
+            sheet = changed(line=line, fault=99)
+            self.assertEqual(said(lambda: core.rows(sheet), Asked(sheet, line_numbers=[3, 5, 6])),
+                             f"line {number}, fault (column 10): 99 A is not in 100..80000")
 
     def test_verdicts(self):
         self.assertEqual([words.verdict(verdict) for verdict in core.Verdict], ["safe", "unsafe", "undecided"])
