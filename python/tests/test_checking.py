@@ -72,6 +72,8 @@ class Command(unittest.TestCase):
     def test_conclusions(self):
         self.assertTrue(run("check", "-", stdin=changed(fault=1)).out.endswith("\n1 line is refused; nothing was worked\n"))
         self.assertTrue(run("check", "-", stdin=b"").out.endswith("\nthe sheet is refused; nothing was worked\n"))
+        self.assertTrue(run("check", "-", stdin=SAMPLE.replace(b"soil", b"sol")).out.endswith("\nthe sheet is refused; nothing was worked\n"))
+        self.assertTrue(run("check", "-", stdin=HEAD + b"\n").out.endswith("\nthe sheet is refused; nothing was worked\n"))
         self.assertTrue(run("check", "-", stdin=changed(fault=1)[:-1]).out.endswith("\nthe sheet is refused, and 1 line of it; nothing was worked\n"))
 
     def test_for_machines(self):
