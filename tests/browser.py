@@ -31,13 +31,15 @@ KEPT, SMALLER, MOST_BYTES = (1000, 1300), 0.85, 200_000  # of the picture for RE
 LEAST_WINDOW = 500   # chromium makes no narrower window, so that a narrow page stands in a frame
 DATE = "1 July 2026"
 SHEETS = {"report.html": "portfolio.csv", "utility.html": "utility.csv", "extreme.html": "extreme.csv"}
-MEASURE = """<!DOCTYPE html><body style="margin:0"><iframe id="page" src="PAGE" width="WIDTH" height="900" style="border:0"></iframe><pre id="told"></pre>
+MEASURE = """<!DOCTYPE html><body style="margin:0">
+<iframe id="page" src="PAGE" width="WIDTH" height="900" style="border:0"></iframe><pre id="told"></pre>
 <script>onload = () => {
   const view = document.getElementById('page').contentWindow, root = view.document.documentElement, wide = [];
   for (const one of view.document.querySelectorAll('main *')) {
     const box = one.getBoundingClientRect(), hidden = one.closest('.vh, .to');
+    const name = one.tagName + '.' + (one.getAttribute('class') || '');
     if (!hidden && box.width && (box.right > WIDTH + 0.5 || box.left < -0.5))
-      wide.push(one.tagName + '.' + (one.getAttribute('class') || '') + ' ' + one.textContent.slice(0, 40) + ' ends at ' + Math.round(box.right));
+      wide.push(name + ' ' + one.textContent.slice(0, 40) + ' ends at ' + Math.round(box.right));
   }
   document.getElementById('told').textContent = JSON.stringify({scroll: root.scrollWidth, wide: wide.slice(0, 5)});
 }</script>"""
@@ -90,7 +92,8 @@ def shot(folder, address, name, width, top, height, picture):
 
 def keep(address, picture):
     """The picture of the first page that README shows."""
-    chromium(f"--force-device-scale-factor={SMALLER}", f"--window-size={KEPT[0]},{KEPT[1]}", f"--screenshot={picture}", f"{address}/report.html")
+    size = f"--window-size={KEPT[0]},{KEPT[1]}"
+    chromium(f"--force-device-scale-factor={SMALLER}", size, f"--screenshot={picture}", f"{address}/report.html")
     return [] if picture.stat().st_size < MOST_BYTES else [f"{picture} has more than {MOST_BYTES} bytes"]
 
 

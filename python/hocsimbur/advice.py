@@ -10,7 +10,7 @@ from typing import Callable, Dict, Iterable, Iterator, List, Optional, Sequence,
 
 from . import asking, core, decision, labels, reasons, sheets
 from .core import Verdict
-from .decimals import exact, grouped
+from .decimals import NO_BREAK, exact, grouped
 from .decision import YARD, Missing, OtherYard, SmallWire, Station
 from .labels import listed, metres
 from .licence import Licence, unlicensed
@@ -91,8 +91,9 @@ def conductors(lines: Cases) -> Iterator[Tried]:
         finer = both // parts
         across, along = right // finer + 1, down // finer + 1
         if both % parts == 0 and max(across, along) <= most:
-            yield Tried(f"{across} conductors across × {along} along, {metres(finer, 0)} m apart, in the same outline (now {now['across']} × "
-                        f"{now['along']}, {metres(space, 0)} m apart)", _with(lines, across=across, along=along, space=finer))
+            words = (f"{across} conductors across × {along} along, {metres(finer, 0)} m apart, in the same outline "
+                     f"(now {now['across']} × {now['along']}, {metres(space, 0)} m apart)")
+            yield Tried(words, _with(lines, across=across, along=along, space=finer))
 
 
 def spacing(lines: Cases) -> Iterator[Tried]:
@@ -101,9 +102,9 @@ def spacing(lines: Cases) -> Iterator[Tried]:
     for count in range(1, (name.high - name.low) // step + 1):
         for space in (now["space"] + count * step, now["space"] - count * step):
             if name.low <= space <= name.high:
-                sides = [metres((now[way] - 1) * space, 0) for way in ("across", "along")]
-                yield Tried(f"{metres(space, 0)} m between conductors (now {metres(now['space'], 0)} m), so that the yard is {sides[0]} × {sides[1]} m",
-                            _with(lines, space=space))
+                yard = " × ".join(metres((now[way] - 1) * space, 0) for way in ("across", "along"))
+                words = f"{metres(space, 0)} m between conductors (now {metres(now['space'], 0)} m), so that the yard is {yard} m"
+                yield Tried(words, _with(lines, space=space))
 
 
 def _rising(now: int, step: int, most: int) -> range:
@@ -115,14 +116,16 @@ def thickness(lines: Cases) -> Iterator[Tried]:
     """A thicker layer of the same resistivity."""
     now, most = min(case["thick"] for case in lines), BY_NAME["thick"].high
     for thick in _rising(now, STEPS["thick"], most):
-        yield Tried(f"surface layer {thick} mm thick (now {grouped(now)} mm)", tuple(dict(case, thick=max(case["thick"], thick)) for case in lines))
+        yield Tried(f"surface layer {thick} mm thick (now {grouped(now)} mm)",
+                    tuple(dict(case, thick=max(case["thick"], thick)) for case in lines))
 
 
 def resistivity(lines: Cases) -> Iterator[Tried]:
     """A layer of higher resistivity, as thick as before."""
     now, most = min(case["layer"] for case in lines), BY_NAME["layer"].high
     for layer in _rising(now, STEPS["layer"], most):
-        yield Tried(f"surface layer of {grouped(layer)} Ω·m (now {grouped(now)} Ω·m)", tuple(dict(case, layer=max(case["layer"], layer)) for case in lines))
+        yield Tried(f"surface layer of {grouped(layer)} Ω·m (now {grouped(now)} Ω·m)",
+                    tuple(dict(case, layer=max(case["layer"], layer)) for case in lines))
 
 
 def layer(lines: Cases) -> Iterator[Tried]:
@@ -137,7 +140,8 @@ def shock(lines: Cases) -> Iterator[Tried]:
     now, least, step = max(case["shock"] for case in lines), BY_NAME["shock"].low, STEPS["shock"]
     for time in [*range((now - 1) // step * step, least, -step), least]:
         if time < now:
-            yield Tried(f"a shock of {time} ms (now {grouped(now)} ms)", tuple(dict(case, shock=min(case["shock"], time)) for case in lines))
+            yield Tried(f"a shock of {time} ms (now {grouped(now)} ms)",
+                        tuple(dict(case, shock=min(case["shock"], time)) for case in lines))
 
 
 _OF_YARD: Sequence[Tuple[str, Callable[[Cases], Iterator[Tried]], str]] = (
@@ -174,7 +178,7 @@ def _nearest(lines: Cases) -> str:
     margin, limit, season = max(((one, limit, case["season"]) for case, both in zip(lines, answered)
                                  for one, limit in ((both.mesh, "touch"), (both.step, "step"))), key=lambda found: found[0])
     size = f"{reasons.share(margin)} below" if margin else "under 0.1 % below"
-    return f"nearest limit then {size} ({limit}, season {season})"
+    return f"nearest limit then {size} ({limit}, season {season})".replace(NO_BREAK, " ")
 
 
 def _safe_changes(lines: Cases, one_yard: bool) -> List[Change]:
@@ -184,7 +188,7 @@ def _safe_changes(lines: Cases, one_yard: bool) -> List[Change]:
     for kind, candidates, none in [*(_OF_YARD if one_yard else ()), *(_OF_BARE if bare else _OF_LAYER), *_OF_SHOCK]:
         best = first_safe(candidates(lines))
         if best:
-            found.append(Change(kind, f"{kind}: {best.words}; {_nearest(best.lines)}{_added(lines, best.lines)}".replace("\u00a0", " "), best.lines))
+            found.append(Change(kind, f"{kind}: {best.words}; {_nearest(best.lines)}{_added(lines, best.lines)}", best.lines))
         else:
             found.append(Change(kind, f"{kind}: {none}"))
     return sorted(found, key=lambda change: not change.lines)
@@ -197,9 +201,10 @@ def _wire(lines: Cases) -> Change:
     small = iter(asking.small_wires([dict(case, dia=max(case["dia"], dia)) for dia in sizes for case in lines]))
     for dia in sizes:
         if not any([next(small) for _ in lines]):
-            return Change("wire", f"wire: {labels.tenths(dia)} mm, solid and round (now {labels.tenths(now)} mm); a stranded one must be thicker",
-                          tuple(dict(case, dia=max(case["dia"], dia)) for case in lines))
-    return Change("wire", f"wire: no solid round up to {labels.tenths(name.high)} mm is enough; try another metal or a shorter back-up time")
+            words = f"wire: {labels.tenths(dia)} mm, solid and round (now {labels.tenths(now)} mm); a stranded one must be thicker"
+            return Change("wire", words, tuple(dict(case, dia=max(case["dia"], dia)) for case in lines))
+    most = labels.tenths(name.high)
+    return Change("wire", f"wire: no solid round up to {most} mm is enough; try another metal or a shorter back-up time")
 
 
 def _yards(lines: Cases, columns: Sequence[str]) -> List[Change]:
@@ -214,7 +219,7 @@ def _yards(lines: Cases, columns: Sequence[str]) -> List[Change]:
         agreed = _with(lines, **yard)
         safe = all(verdict == Verdict.SAFE for verdict in asking.verdicts(agreed))
         said = f"every line is safe, {_nearest(agreed)}" if safe else "not every line is safe"
-        found.append(Change("yard", f"yard: that of season {case['season']} in all lines: {said}".replace("\u00a0", " "), agreed if safe else ()))
+        found.append(Change("yard", f"yard: that of season {case['season']} in all lines: {said}", agreed if safe else ()))
     return found
 
 

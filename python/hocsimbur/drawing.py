@@ -23,6 +23,8 @@ _SHAPES = {
     "caution": '<path class="line" d="M80 18 150 142H10z"/><path d="M72 62h16v42H72zM72 114h16v16H72z"/>',
 }
 
+_BASE = '<rect class="base" x="0" y="2" width="4" height="16"/>'
+
 _WORDS = {Verdict.SAFE: "safe", Verdict.UNSAFE: "unsafe", Verdict.UNDECIDED: "undecided"}
 
 
@@ -68,7 +70,7 @@ def _limit_line() -> str:
 def bar(share: int, scale_: Scale, ident: str, title: str, others: Sequence[int] = ()) -> str:
     """A bar of a share per mille of its limit, with the limit's line over its whole height; `others` are white ticks."""
     shown = min(share, scale_.top)
-    parts = [f'<rect class="base" x="0" y="2" width="4" height="16"/><rect class="fill" x="0" y="5" width="{min(shown, LIMIT)}" height="10"/>']
+    parts = [_BASE, f'<rect class="fill" x="0" y="5" width="{min(shown, LIMIT)}" height="10"/>']
     if shown > LIMIT:
         parts.append(f'<rect class="over" x="{LIMIT}" y="5" width="{shown - LIMIT}" height="10"/>')
     parts += [f'<rect class="tick" x="{max(0, min(other, scale_.top) - 5)}" y="5" width="9" height="10"/>' for other in others]
@@ -79,7 +81,7 @@ def bar(share: int, scale_: Scale, ident: str, title: str, others: Sequence[int]
 
 def no_bar(scale_: Scale, ident: str, title: str) -> str:
     """The place of a bar of a season without a line."""
-    return _svg(scale_, ['<rect class="base" x="0" y="2" width="4" height="16"/>'], ident, title)
+    return _svg(scale_, [_BASE], ident, title)
 
 
 def _svg(scale_: Scale, parts: Iterable[str], ident: str, title: str) -> str:

@@ -124,13 +124,14 @@ def _dimensions(drawn: Drawn) -> Tuple[str, int]:
     wide, high = f"{across} {labels.metres(drawn.width, 0)} m", f"{along} {labels.metres(drawn.height, 0)} m"
     below, last = y1 + 130, drawn.x(drawn.width - drawn.space)
     if y1 - y0 > SHORT:
-        side = (f'<text transform="translate({x0 - 180} {(y0 + y1) // 2}) rotate(-90)" text-anchor="middle">{escape(high)}</text>')
+        side = f'<text transform="translate({x0 - 180} {(y0 + y1) // 2}) rotate(-90)" text-anchor="middle">{escape(high)}</text>'
     else:
         side = _text(x0 - 180, y0 - 45, high)
     metres = next((one for one in SCALE_BARS if drawn.length(1000 * one) > 280), SCALE_BARS[-1])
     end = drawn.x(1000 * metres)
     drawing = (
-        f'<path class="dim" d="M{x0} {below - 40}v80M{x1} {below - 40}v80M{x0} {below}H{x1}"/>{_text((x0 + x1) // 2, below + 120, wide, "middle")}'
+        f'<path class="dim" d="M{x0} {below - 40}v80M{x1} {below - 40}v80M{x0} {below}H{x1}"/>'
+        f'{_text((x0 + x1) // 2, below + 120, wide, "middle")}'
         f'<path class="dim" d="M{x0 - 170} {y0}h80M{x0 - 170} {y1}h80M{x0 - 130} {y0}V{y1}"/>{side}'
         f'<path class="dim" d="M{last} {y0 - 60}v-40M{x1} {y0 - 60}v-40M{last} {y0 - 80}H{x1}"/>'
         f'{_text(last - 40, y0 - 45, f"spacing {labels.metres(drawn.space, 0)} m", "end")}'

@@ -175,8 +175,9 @@ def outside(station: Station) -> str:
     seasons = [line.season for line in station.lines if line.season not in station.seasons]
     if not seasons:
         return ""
-    several = len(seasons) > 1
-    return f"{_seasons(seasons).capitalize()} {'are' if several else 'is'} not in the licence; {'their lines count' if several else 'its line counts'} all the same."
+    if len(seasons) == 1:
+        return f"Season {seasons[0]} is not in the licence; its line counts all the same."
+    return f"Seasons {listed(seasons)} are not in the licence; their lines count all the same."
 
 
 def _volts(pair: Pair) -> str:
@@ -185,8 +186,8 @@ def _volts(pair: Pair) -> str:
 
 def undecided(station: Station) -> List[str]:
     """A sentence for each voltage that is not parted from its limit, with both pairs of ends."""
-    return [f"Season {line.season}: {one.kind} {_volts(one.voltage)} against tolerable {one.limit} {_volts(one.tolerable)}: neither safe nor "
-            f"unsafe may be said. A change that lowers the voltage, such as one rod more, can part them."
+    return [f"Season {line.season}: {one.kind} {_volts(one.voltage)} against tolerable {one.limit} {_volts(one.tolerable)}: neither safe "
+            f"nor unsafe may be said. A change that lowers the voltage, such as one rod more, can part them."
             for line in station.lines for one in line.compared if one.side == NOT_PARTED]
 
 
@@ -203,7 +204,8 @@ def cautions(station: Station) -> List[str]:
         rods = listed(few) + (" rod" if few == [1] else " rods")
         found.append(f"{rods} at the perimeter cannot stand at all four corners, yet are counted as if rods stood all along it.")
     if any(not line.small_wire and 4 * line.row.kcmil > 3 * kcmil(line.case["dia"]) for line in station.lines):
-        found.append("The wire is counted as a solid round: a stranded one of that diameter has about a quarter less, which may be too little here.")
+        found.append("The wire is counted as a solid round: a stranded one of that diameter has about a quarter less, which may be too "
+                     "little here.")
     return found
 
 
@@ -231,7 +233,7 @@ def notes(portfolio: Portfolio) -> List[str]:
     if not portfolio.licensed:
         found.append("No licence was handed over: every station of the sheet is asked for all four seasons.")
     if portfolio.unlicensed:
-        several = len(portfolio.unlicensed) > 1
-        found.append(f"Station{'s' if several else ''} {listed(portfolio.unlicensed)} of the sheet {'are' if several else 'is'} not in the licence, "
-                     f"and nothing is said of {'them' if several else 'it'}.")
+        stations, one = listed(portfolio.unlicensed), len(portfolio.unlicensed) == 1
+        found.append(f"Station {stations} of the sheet is not in the licence, and nothing is said of it." if one else
+                     f"Stations {stations} of the sheet are not in the licence, and nothing is said of them.")
     return found

@@ -26,6 +26,7 @@ def render(sheet: bytes, sheet_name: str, licence: Optional[Licence], date: str)
     portfolio = decision.portfolio(sheet, licence)
     source = pages.Source(sheet_name, hashlib.sha256(sheet).hexdigest(), core.version(), date)
     title = f"Ground-grid verdicts: {sheet_name}, {date}"
-    return (f'<!DOCTYPE html>\n<html lang="en"><head><meta charset="utf-8"><meta name="viewport" content="width=device-width, initial-scale=1">'
-            f'<title>{escape(title)}</title>\n<style>\n{CSS}</style></head><body><main>\n'
+    return (f'<!DOCTYPE html>\n<html lang="en"><head><meta charset="utf-8">'
+            f'<meta name="viewport" content="width=device-width, initial-scale=1"><title>{escape(title)}</title>\n'
+            f'<style>\n{CSS}</style></head><body><main>\n'
             f'{pages.pages(portfolio, source, drawing.scale(portfolio))}</main></body></html>\n')

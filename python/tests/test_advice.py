@@ -51,7 +51,8 @@ class Safe(unittest.TestCase):
 
     def test_every_season_is_there(self):
         for station, change in self.each():
-            self.assertEqual([(one["station"], one["season"]) for one in change.lines], [(one["station"], one["season"]) for one in own(station)])
+            keys = [[(one["station"], one["season"]) for one in lines] for lines in (change.lines, own(station))]
+            self.assertEqual(*keys)
 
     def test_single(self):
         for station, change in self.each():
@@ -92,8 +93,8 @@ class Safe(unittest.TestCase):
             if change.kind in KINDS:
                 margins = core.margins(sheets.text(list(change.lines)))
                 greatest = max(max(one.mesh, one.step) for one in margins)
-                said = f"nearest limit then {-greatest // 10}.{-greatest % 10} % below" if greatest else "nearest limit then under 0.1 % below"
-                self.assertIn(said, change.words)
+                size = f"{-greatest // 10}.{-greatest % 10} %" if greatest else "under 0.1 %"
+                self.assertIn(f"nearest limit then {size} below", change.words)
 
     def test_length_told(self):
         """Conductor and rods that are added, where the library works them."""
@@ -116,14 +117,16 @@ class Words(unittest.TestCase):
         start = {
             (104, "rods"): "rods: 52 rods of 6 m at the perimeter (now 20); nearest limit then under 0.1 % below (touch, season 2)",
             (152, "rods"): "rods: 69 rods of 3 m at the perimeter (now 24 inside); nearest",
-            (104, "conductors"): "conductors: 15 conductors across × 15 along, 5 m apart, in the same outline (now 11 × 11, 7 m apart); nearest",
+            (104, "conductors"): "conductors: 15 conductors across × 15 along, 5 m apart, in the same outline (now 11 × 11, 7 m apart); "
+                                 "nearest limit then",
             (104, "spacing"): "spacing: 9.6 m between conductors (now 7 m), so that the yard is 96 × 96 m; nearest",
             (131, "thickness"): "thickness: surface layer 130 mm thick (now 120 mm); nearest limit then 1.5 % below (touch, season 2)",
             (104, "resistivity"): "resistivity: surface layer of 3,200 Ω·m (now 2,500 Ω·m); nearest",
             (188, "layer"): "layer: a surface layer of 2,500 Ω·m, 20 mm thick, on the soil that is bare now; nearest",
             (104, "shock"): "shock: a shock of 350 ms (now 500 ms); nearest",
             (104, "thickness"): "thickness: no layer up to 300 mm is enough",
-            (171, "conductors"): "conductors: no finer grid in the same outline, in whole mm and of at most 25 conductors each way, is enough",
+            (171, "conductors"): "conductors: no finer grid in the same outline, in whole mm and of at most 25 conductors each way, is "
+                                 "enough",
         }
         for (station, kind), words in start.items():
             self.assertEqual(self.words(station, kind)[:len(words)], words)
@@ -172,7 +175,8 @@ class Words(unittest.TestCase):
     def test_missing(self):
         self.assertEqual([change.words for change in of(110)], ["missing: measure and add a line for season 3"])
         self.assertEqual([change.words for change in of(215)], ["missing: measure and add lines for seasons 1 and 2"])
-        self.assertEqual([change.words for change in advice.changes(SHEET, 7)], ["missing: measure and add lines for seasons 1, 2, 3 and 4"])
+        self.assertEqual([change.words for change in advice.changes(SHEET, 7)],
+                         ["missing: measure and add lines for seasons 1, 2, 3 and 4"])
 
     def test_no_licence_asks_for_all_seasons(self):
         self.assertEqual([change.words for change in advice.changes(SHEET, 160)], ["missing: measure and add lines for seasons 3 and 4"])
@@ -188,7 +192,8 @@ class Words(unittest.TestCase):
         self.assertFalse({"rods", "conductors", "spacing"} & {change.kind for change in changes})
 
     def test_wire(self):
-        self.assertEqual([change.words for change in of(118)], ["wire: 17.9 mm, solid and round (now 5.0 mm); a stranded one must be thicker"])
+        self.assertEqual([change.words for change in of(118)],
+                         ["wire: 17.9 mm, solid and round (now 5.0 mm); a stranded one must be thicker"])
         wire = next(change for change in of(118))
         self.assertEqual(core.release(sheets.text(list(wire.lines)), [(118, 7)])[0].small_wire, 0)
         less = [dict(one, dia=one["dia"] - 1) for one in wire.lines]

@@ -27,8 +27,10 @@ def decided(one: decision.Station) -> str:
 
 class Decisions(unittest.TestCase):
     def test_released(self):
-        self.assertEqual(decided(EXAMPLE[101]), "Released: all 4 seasons of the licence are present and safe; nearest is touch in season 3, 7.5 % below.")
-        self.assertEqual(decided(EXAMPLE[160]), "Released: both seasons of the licence are present and safe; nearest is touch in season 2, 4.0 % below.")
+        self.assertEqual(decided(EXAMPLE[101]),
+                         "Released: all 4 seasons of the licence are present and safe; nearest is touch in season 3, 7.5 % below.")
+        self.assertEqual(decided(EXAMPLE[160]),
+                         "Released: both seasons of the licence are present and safe; nearest is touch in season 2, 4.0 % below.")
         self.assertEqual(decided(station([case(101, 3)])),
                          "Released: the one season of the licence is present and safe; nearest is touch in season 3, 7.5 % below.")
 
@@ -39,8 +41,8 @@ class Decisions(unittest.TestCase):
             118: "wire too small (495 kcmil needed, 5.0 mm solid has 38).",
             123: "yard differs between lines (depth and rods).",
             131: "season 2 undecided (mesh and tolerable touch not parted).",
-            152: "season 2 unsafe (mesh 32.6 % above tolerable touch); season 4 unsafe (mesh 6.2 % above tolerable touch); season 3 has no line; "
-                 "wire too small (335 kcmil needed, 6.5 mm solid has 65).",
+            152: "season 2 unsafe (mesh 32.6 % above tolerable touch); season 4 unsafe (mesh 6.2 % above tolerable touch); season 3 has no "
+                 "line; wire too small (335 kcmil needed, 6.5 mm solid has 65).",
             188: "season 2 unsafe (step 7.3 % above tolerable step).",
             215: "no season has a line.",
         }
@@ -53,7 +55,8 @@ class Decisions(unittest.TestCase):
 
     def test_both_voltages_above(self):
         said = decided(station([case(188, 2, fault=80000, dia=300)]))
-        self.assertRegex(said, r"^Held: season 2 unsafe \(mesh \d+\.\d % above tolerable touch and step \d+\.\d % above tolerable step\)\.$")
+        self.assertRegex(said, r"^Held: season 2 unsafe \(mesh \d+\.\d % above tolerable touch and step \d+\.\d % above tolerable "
+                               r"step\)\.$")
 
     def test_a_margin_without_end(self):
         one = station([case(101, 1, **HOPELESS)])
@@ -62,8 +65,8 @@ class Decisions(unittest.TestCase):
     def test_every_column_of_the_yard(self):
         other = dict(across=13, along=11, space=6100, depth=700, dia=140, rods=20, rodlen=3100, place=2, metal=3)
         self.assertEqual(decided(station([case(101, 1), case(101, 2, **other)])).split("Held: ")[1],
-                         "yard differs between lines (conductors across, conductors along, spacing, depth, conductor diameter, rods, rod length, rod place "
-                         "and metal).")
+                         "yard differs between lines (conductors across, conductors along, spacing, depth, conductor diameter, rods, "
+                         "rod length, rod place and metal).")
 
 
 class OnOneLine(unittest.TestCase):
@@ -81,7 +84,8 @@ class OnOneLine(unittest.TestCase):
         for number, sentence in said.items():
             self.assertEqual(reasons.sentence(UNLICENSED[number]), sentence)
         self.assertEqual(reasons.sentence(EXAMPLE[215]), "no line for any season")
-        self.assertEqual(reasons.sentence(station([case(101, 3)])), "1 season; nearest limit 7.5 % below (touch, season 3); safe up to 9,623 A")
+        self.assertEqual(reasons.sentence(station([case(101, 3)])),
+                         "1 season; nearest limit 7.5 % below (touch, season 3); safe up to 9,623 A")
 
     def test_no_no_break_space(self):
         self.assertFalse([one for one in EXAMPLE.values() if NO_BREAK in reasons.sentence(one)])
@@ -107,19 +111,21 @@ class Margins(unittest.TestCase):
         self.assertTrue(decided(one).endswith("nearest is touch in season 2, under 0.1 % below."))
 
     def test_nearest(self):
-        said = {104: ("18.0 % above", "touch, season 2"), 131: ("not parted", "from touch, season 2"), 188: ("7.3 % above", "step, season 2"),
-                215: ("", "no line, nothing to compare")}
+        said = {104: ("18.0 % above", "touch, season 2"), 131: ("not parted", "from touch, season 2"),
+                188: ("7.3 % above", "step, season 2"), 215: ("", "no line, nothing to compare")}
         for number, words in said.items():
             self.assertEqual(tuple(map(plain, reasons.nearest(EXAMPLE[number]))), words)
 
 
 class Asides(unittest.TestCase):
     def test_the_driest(self):
-        self.assertEqual(plain(reasons.differences(EXAMPLE[104])), "Only the soil differs between the seasons: the driest, season 2 with 386 Ω·m, decides.")
+        self.assertEqual(plain(reasons.differences(EXAMPLE[104])),
+                         "Only the soil differs between the seasons: the driest, season 2 with 386 Ω·m, decides.")
         self.assertEqual(plain(reasons.differences(EXAMPLE[152])),
                          "Only the soil differs between the seasons that have a line: the driest, season 2 with 380 Ω·m, decides.")
         two = station([case(101, 1), case(101, 2, soil=210), case(101, 3)])
-        self.assertEqual(plain(reasons.differences(two)), "Only the soil differs between the seasons: the driest, seasons 2 and 3 with 210 Ω·m, decides.")
+        self.assertEqual(plain(reasons.differences(two)),
+                         "Only the soil differs between the seasons: the driest, seasons 2 and 3 with 210 Ω·m, decides.")
 
     def test_not_only_the_soil(self):
         self.assertEqual(reasons.differences(EXAMPLE[123]), "Not only the soil differs between the seasons: soil, depth and rods.")
@@ -139,8 +145,8 @@ class Asides(unittest.TestCase):
 
     def test_undecided(self):
         self.assertEqual([plain(one) for one in reasons.undecided(EXAMPLE[131])], [
-            "Season 2: mesh 1,074.873 to 1,074.875 V against tolerable touch 1,074.873 to 1,074.874 V: neither safe nor unsafe may be said. A change that "
-            "lowers the voltage, such as one rod more, can part them."])
+            "Season 2: mesh 1,074.873 to 1,074.875 V against tolerable touch 1,074.873 to 1,074.874 V: neither safe nor "
+            "unsafe may be said. A change that lowers the voltage, such as one rod more, can part them."])
         self.assertEqual(reasons.undecided(EXAMPLE[101]), [])
 
     def test_current(self):
@@ -158,7 +164,8 @@ class Asides(unittest.TestCase):
     def test_current_at_the_ends_of_the_range(self):
         easy = case(101, 1, soil=10, split=10, dia=300)
         self.assertEqual(plain(reasons.current(station([easy]))), "Safe up to 80,000 A, the end of the range (now 8,900 A).")
-        self.assertEqual(plain(reasons.current(station([easy], [1, 2]))), "Safe up to 80,000 A, the end of the range, where there is a line (now 8,900 A).")
+        self.assertEqual(plain(reasons.current(station([easy], [1, 2]))),
+                         "Safe up to 80,000 A, the end of the range, where there is a line (now 8,900 A).")
         self.assertEqual(plain(reasons.greatest(station([easy], [1, 2]))), "at most 80,000 A, end of range")
         hopeless = station([case(101, 1), case(101, 2, **HOPELESS)])
         self.assertEqual(plain(reasons.current(hopeless)), "No fault current in range is safe in season 2 (now up to 80,000 A).")
@@ -178,7 +185,8 @@ class Asides(unittest.TestCase):
         self.assertEqual(reasons.cautions(station([case(101, 1, rods=4)])), [])
         self.assertEqual(reasons.cautions(station([case(101, 1, rods=3, place=2)])), [])
         self.assertEqual(reasons.cautions(EXAMPLE[160]), [
-            "The wire is counted as a solid round: a stranded one of that diameter has about a quarter less, which may be too little here."])
+            "The wire is counted as a solid round: a stranded one of that diameter has about a quarter less, which may be too little "
+            "here."])
         self.assertEqual(reasons.cautions(EXAMPLE[118]), [])
 
     def test_cautions_change_no_decision(self):
@@ -198,18 +206,23 @@ class Totals(unittest.TestCase):
         return "".join(one.head + one.detail for one in reasons.totals(portfolio))
 
     def test_each(self):
-        self.assertEqual(self.said(decision.portfolio(SHEET, LICENCE)), "13 stations: 4 released, 9 held. 36 season lines: 30 safe, 5 unsafe, 1 "
+        self.assertEqual(self.said(decision.portfolio(SHEET, LICENCE)),
+                         "13 stations: 4 released, 9 held. 36 season lines: 30 safe, 5 unsafe, 1 "
                          "undecided; 4 seasons of the licence without a line.")
-        self.assertEqual(self.said(decision.portfolio(SHEET, granted(101, (1, 2, 3, 4)))), "1 station: 1 released, 0 held. 4 season lines: 4 safe, 0 "
+        self.assertEqual(self.said(decision.portfolio(SHEET, granted(101, (1, 2, 3, 4)))),
+                         "1 station: 1 released, 0 held. 4 season lines: 4 safe, 0 "
                          "unsafe, 0 undecided; every season of the licence has a line.")
-        self.assertEqual(self.said(decision.portfolio(SHEET, granted(110, (1, 2, 3, 4)))), "1 station: 0 released, 1 held. 3 season lines: 3 safe, 0 "
+        self.assertEqual(self.said(decision.portfolio(SHEET, granted(110, (1, 2, 3, 4)))),
+                         "1 station: 0 released, 1 held. 3 season lines: 3 safe, 0 "
                          "unsafe, 0 undecided; 1 season of the licence without a line.")
 
     def test_notes(self):
         self.assertEqual(reasons.notes(decision.portfolio(SHEET, LICENCE)), [])
-        self.assertEqual(reasons.notes(decision.portfolio(SHEET)), ["No licence was handed over: every station of the sheet is asked for all four seasons."])
+        self.assertEqual(reasons.notes(decision.portfolio(SHEET)),
+                         ["No licence was handed over: every station of the sheet is asked for all four seasons."])
         self.assertEqual(reasons.notes(decision.portfolio(SHEET, granted(101, (1,)))), [
-            "Stations 104, 110, 118, 123, 131, 140, 152, 160, 171, 188 and 204 of the sheet are not in the licence, and nothing is said of them."])
+            "Stations 104, 110, 118, 123, 131, 140, 152, 160, 171, 188 and 204 of the sheet are not in the licence, and nothing is said of "
+            "them."])
 
 
 if __name__ == "__main__":

@@ -103,9 +103,9 @@ class StationPages(unittest.TestCase):
     def test_working(self):
         def expected(key):
             row, work = ASKED.rows[key], ASKED.working[key]
-            return [ends(work.cs, 9, 6), ends(row.factor, 9, 6), ends(row.current, 6, 3), ends(work.n, 7, 5), ends(work.ki, 10, 6), ends(work.kii, 9, 6),
-                    ends(work.kh, 9, 6), ends(work.km, 7, 6), ends(work.ks, 7, 6), ends(work.lm, 6, 3), ends(work.ls, 6, 3),
-                    ends(row.resistance, 6, 4), ends(row.rise, 3, 2)]
+            return [ends(work.cs, 9, 6), ends(row.factor, 9, 6), ends(row.current, 6, 3), ends(work.n, 7, 5), ends(work.ki, 10, 6),
+                    ends(work.kii, 9, 6), ends(work.kh, 9, 6), ends(work.km, 7, 6), ends(work.ks, 7, 6), ends(work.lm, 6, 3),
+                    ends(work.ls, 6, 3), ends(row.resistance, 6, 4), ends(row.rise, 3, 2)]
         self.hold("wrk", expected)
 
     def test_working_is_there(self):
@@ -124,8 +124,9 @@ class StationPages(unittest.TestCase):
             one = ASKED.cases[key]
             return [f"{one['soil']:,}", f"{one['layer']:,}" if one["layer"] else "bare", f"{one['thick']:,}" if one["thick"] else "bare",
                     *(f"{one[name]:,}" for name in ("shock", "clear", "wire", "body", "fault")), down(one["split"], 1, 1), str(one["xr"]),
-                    str(one["across"]), str(one["along"]), metres(one["space"]), metres(one["depth"]), down(one["dia"], 1, 1), str(one["rods"]),
-                    metres(one["rodlen"]) if one["rods"] else "none", places[one["place"]], str(one["metal"]), str(one["hz"])]
+                    str(one["across"]), str(one["along"]), metres(one["space"]), metres(one["depth"]), down(one["dia"], 1, 1),
+                    str(one["rods"]), metres(one["rodlen"]) if one["rods"] else "none", places[one["place"]], str(one["metal"]),
+                    str(one["hz"])]
         self.hold("inp", expected)
 
     def test_what_differs_is_marked(self):
@@ -135,7 +136,8 @@ class StationPages(unittest.TestCase):
             names = [name for name in sheets.cases(SHEET)[0] if name not in ("station", "season")]
             marked = [name for name, row in zip(names, rows) if "differs" in row.classes]
             self.assertEqual(marked, [name for name in names if len({one[name] for one in lines}) > 1])
-            self.assertEqual([name for name, row in zip(names, rows) if "yard" in row.classes], [name for name in marked if name in decision.YARD])
+            of_yard = [name for name, row in zip(names, rows) if "yard" in row.classes]
+            self.assertEqual(of_yard, [name for name in marked if name in decision.YARD])
 
     def test_bars(self):
         for station in with_lines():
@@ -261,8 +263,9 @@ class FirstPage(unittest.TestCase):
         released = sum(one.released for one in ASKED.release.values())
         missing = sum(one.missing for one in ASKED.release.values())
         self.assertEqual(self.page.one("p", "totals").text(), (
-            f"{len(STATIONS)} stations: {released} released, {len(STATIONS) - released} held. {len(verdicts)} season lines: {verdicts.count(1)} safe, "
-            f"{verdicts.count(2)} unsafe, {verdicts.count(3)} undecided; {missing} seasons of the licence without a line."))
+            f"{len(STATIONS)} stations: {released} released, {len(STATIONS) - released} held. {len(verdicts)} season lines: "
+            f"{verdicts.count(1)} safe, {verdicts.count(2)} unsafe, {verdicts.count(3)} undecided; "
+            f"{missing} seasons of the licence without a line."))
 
 
 class Page(unittest.TestCase):
@@ -290,7 +293,8 @@ class Page(unittest.TestCase):
 
     def test_nothing_is_fetched_and_nothing_runs(self):
         tags = {one.tag for one in TREE.all()}
-        self.assertFalse(tags & {"script", "link", "img", "iframe", "object", "embed", "base", "form", "input", "video", "audio", "image", "use"})
+        self.assertFalse(tags & {"script", "link", "img", "iframe", "object", "embed", "base", "form", "input", "video", "audio", "image",
+                                 "use"})
         for one in TREE.all():
             for name, value in one.attributes.items():
                 self.assertFalse(name.startswith("on") or name in ("src", "srcset", "xlink:href", "action", "http-equiv"), name)
@@ -325,8 +329,8 @@ class Page(unittest.TestCase):
     def test_rows_have_one_width(self):
         for table in TREE.all("table"):
             if "pf" not in table.classes:
-                widths = {sum(int(cell.attributes.get("colspan", 1)) for cell in row.children if isinstance(cell, Node)) for row in table.all("tr")}
-                self.assertEqual(len(widths), 1)
+                rows = [[one for one in row.children if isinstance(one, Node)] for row in table.all("tr")]
+                self.assertEqual(len({sum(int(one.attributes.get("colspan", 1)) for one in row) for row in rows}), 1)
 
     def test_one_scale(self):
         self.assertEqual({one.attributes["viewbox"] for one in TREE.all("svg", "bar")}, {"0 0 1500 20"})
@@ -346,7 +350,8 @@ class Bytes(unittest.TestCase):
         self.assertTrue(golden.made() == golden.FILE.read_text(encoding="utf-8"), f"another report than {golden.FILE} has")
 
     def test_today(self):
-        self.assertRegex(report.today(), r"^[1-9]\d? (January|February|March|April|May|June|July|August|September|October|November|December) 20\d\d$")
+        self.assertRegex(report.today(), r"^[1-9]\d? (January|February|March|April|May|June|July|August|September|October|November|"
+                                         r"December) 20\d\d$")
 
 
 class Others(unittest.TestCase):

@@ -6,7 +6,8 @@ import unittest
 
 from .common import PYTHON
 
-MODULES = ("advice", "asking", "decimals", "decision", "drawing", "labels", "licence", "pages", "plan", "reasons", "report", "style", "tables")
+MODULES = ("advice", "asking", "decimals", "decision", "drawing", "labels", "licence", "markup", "pages", "plan", "reasons", "report",
+           "style", "tables")
 
 
 class Source(unittest.TestCase):
