@@ -5,7 +5,7 @@
 #include <stdio.h>
 #include <string.h>
 
-enum { STACK = 1 << 20, FILL = 0xA5, MOST_STACK = 80000, MOST_LINES_STACK = 40000, MOST_OTHER_STACK = 100000 };
+enum { STACK = 1 << 20, FILL = 0xA5, MOST_STACK = 40000, MOST_OTHER_STACK = 100000 };
 
 struct call {
     struct trial sheet;
@@ -102,8 +102,8 @@ void run_stack(void) {
     take("rows", ask_rows, MOST_STACK);
     take("summary", ask_summary, MOST_OTHER_STACK);
     take("release", ask_release, MOST_OTHER_STACK);
-    take("margins", ask_margins, MOST_LINES_STACK);
-    take("working", ask_working, MOST_LINES_STACK);
-    take("headroom", ask_headroom, MOST_LINES_STACK);
+    take("margins", ask_margins, MOST_STACK);
+    take("working", ask_working, MOST_STACK);
+    take("headroom", ask_headroom, MOST_STACK);
     take("carry_back", ask_carry_back, MOST_OTHER_STACK);
 }

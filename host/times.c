@@ -28,12 +28,12 @@ static void work_doubles(const char *text, size_t bytes, uint8_t *buffer) {
     }
 }
 
-/* nanoseconds a row, the least of five runs */
+/* nanoseconds a row, the least of fifty runs, which are short so that some meet no other work of the machine */
 static double time_of(void (*work)(const char *, size_t, uint8_t *), const char *text, size_t bytes, size_t lines) {
     static uint8_t buffer[HOCSIMBUR_LINES * HOCSIMBUR_ROW_BYTES];
-    long times = 20000 / (long)lines + 1;
+    long times = 2000 / (long)lines + 1;
     double least = 1e99;
-    for (int run = 0; run < 5; run++) {
+    for (int run = 0; run < 50; run++) {
         double start = seconds();
         for (long i = 0; i < times; i++)
             work(text, bytes, buffer);

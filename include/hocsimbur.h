@@ -38,7 +38,7 @@
  * Memory. The caller owns all buffers and keeps them valid during the call; nothing is allocated, and nothing of the caller's is
  * kept. What is written overlaps nothing else that is handed over. A pointer may be null where its length is 0. Bytes need no
  * alignment, numbers that of their type. Nothing is read or written past the given lengths. A call takes less than 100 kB of stack;
- * hocsimbur_rows and hocsimbur_rows_at take less than 80 kB; hocsimbur_margins, hocsimbur_working and hocsimbur_headroom less than 40 kB.
+ * the rows, margins, working and headroom take less than 40 kB.
  *
  * Threads. There is no state: any number of calls may run at the same time on buffers of their own. */
 #ifndef HOCSIMBUR_H
