@@ -53,7 +53,6 @@ def length(text: str) -> int:
 def _cosine(degrees: Fraction) -> Tuple[Fraction, Fraction]:
     """Two ends that hold the cosine of an angle; equal where it is rational, which it is only at multiples of 60 and 90 degrees."""
     degrees = abs(degrees) % 360
-    degrees = min(degrees, 360 - degrees)
     if degrees > 90:
         lower, upper = _cosine(180 - degrees)
         return -upper, -lower

@@ -26,10 +26,6 @@ class Name:
             return " or ".join(str(value) for value in self.only)
         return ("0 or " if self.also_zero else "") + f"{self.low}..{self.high}"
 
-    def with_unit(self, value: object) -> str:
-        """A value and the column's unit."""
-        return f"{value} {self.unit}" if self.unit else str(value)
-
 
 NAMES = [
     Name("station", "number of the station", "", 1, 65535),
@@ -52,7 +48,7 @@ NAMES = [
     Name("rods", "count of rods", "", 0, 200),
     Name("rodlen", "length of one rod", "mm", 1000, 10000, also_zero=True),
     Name("place", "0 no rods, 1 at perimeter or corners, 2 inside only", "", 0, 2),
-    Name("metal", "number of the conductor's metal", "", 1, 11),
+    Name("metal", "the conductor's metal, 1 copper, annealed soft-drawn, to 11 stainless steel 304", "", 1, 11),
     Name("hz", "frequency", "Hz", 50, 60, only=(50, 60)),
 ]
 
@@ -77,5 +73,3 @@ METALS: Dict[int, str] = {
     10: "zinc-coated steel rod",
     11: "stainless steel 304",
 }
-
-PLACES: Dict[int, str] = {0: "no rods", 1: "at perimeter or corners", 2: "inside only"}

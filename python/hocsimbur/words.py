@@ -10,11 +10,12 @@ from . import sheets
 from .core import LINES, SHEET_BYTES, Refused, Verdict
 from .decimals import exact, grouped
 from .forms import FORMER_ONLY, cell, foreign, printable, wrong_name, wrong_value
-from .names import BY_NAME, FORMER, METALS, NAMES, PLACES, Name
+from .names import BY_NAME, FORMER, METALS, NAMES, Name
 
-__all__ = ["BY_NAME", "FORMER", "METALS", "NAMES", "PLACES", "Asked", "Name", "refusal", "verdict"]
+__all__ = ["BY_NAME", "FORMER", "METALS", "NAMES", "Asked", "Name", "refusal", "verdict"]
 
 _VERDICTS = {Verdict.SAFE: "safe", Verdict.UNSAFE: "unsafe", Verdict.UNDECIDED: "undecided"}
+CODES = ("place", "metal")  # columns whose numbers stand for something
 _OWN_FAULT = "the library was lent too little room; that is a mistake in this package, please report it"
 
 
@@ -95,7 +96,8 @@ def _range(refused: Refused, asked: Asked) -> str:
     value = asked.value(refused.line, name)
     own = BY_NAME.get(name)
     unit, allowed = (own.unit, own.allowed) if own else FORMER_ONLY[name]
-    return f"{asked.place(refused.line, name)}: {value}{' ' + unit if unit else ''} is not {'' if own and own.only else 'in '}{allowed}"
+    meant = f" ({own.meaning})" if name in CODES else ""
+    return f"{asked.place(refused.line, name)}: {value}{' ' + unit if unit else ''} is not {'' if own and own.only else 'in '}{allowed}{meant}"
 
 
 def _parts(refused: Refused, asked: Asked) -> str:

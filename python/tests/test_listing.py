@@ -4,7 +4,7 @@ from __future__ import annotations
 import re
 import unittest
 
-from hocsimbur import core, listing
+from hocsimbur import core
 
 from .common import ROOT, run
 
@@ -48,7 +48,9 @@ class ForPeople(unittest.TestCase):
 
     def test_every_end_encloses(self):
         """What is shown of a pair holds the pair: not above its lower end, not below its upper."""
-        scales = {called: (field, scale) for called, field, scale, _, _ in listing._PAIRS}
+        scales = {"grid current": ("current", 6), "decrement factor": ("factor", 9), "tolerable touch": ("tolerable_touch", 3),
+                  "mesh": ("mesh", 3), "tolerable step": ("tolerable_step", 3), "step": ("step", 3), "resistance": ("resistance", 6),
+                  "potential rise": ("rise", 3)}
         for block, row in zip(run("rows", "crates/margins/stdin").out.split("\n\n"), self.rows):
             head, _, *lines = block.strip("\n").split("\n")
             self.assertTrue(head.startswith(f"station {row.station}, season {row.season}: "))

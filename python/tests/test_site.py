@@ -37,6 +37,25 @@ class Amounts(unittest.TestCase):
             self.assertLess(upper - lower, Fraction(1, 10 ** 20))
             self.assertLess(abs(float(lower) - math.cos(math.radians(tenths / 10))), 1e-12)
 
+    def test_cosines_that_are_roots(self):
+        """Cosines that solve an equation lie between the ends."""
+        for degrees, equation in ((45, lambda c: 2 * c * c - 1), (30, lambda c: 4 * c * c - 3), (36, lambda c: 4 * c * c - 2 * c - 1),
+                                  (72, lambda c: 4 * c * c + 2 * c - 1), (1, None), (89, None), (61, None), (59, None)):
+            lower, upper = amounts._cosine(Fraction(degrees))
+            self.assertLess(lower, upper)
+            if equation:
+                self.assertLess(equation(lower), 0)
+                self.assertGreater(equation(upper), 0)
+
+    def test_parts_of_every_angle(self):
+        for degrees in range(-360, 361, 3):
+            size = Fraction(1000)
+            in_phase, quadrature = amounts.parts(size, Fraction(degrees))
+            for part, exact in ((in_phase, 1000 * math.cos(math.radians(degrees))), (quadrature, 1000 * math.sin(math.radians(degrees)))):
+                self.assertLessEqual(part.lower, exact + 1e-9)
+                self.assertGreaterEqual(part.upper, exact - 1e-9)
+                self.assertLessEqual(part.upper - part.lower, 1)
+
     def test_cosines_that_are_rational(self):
         for degrees, cosine in ((0, 1), (60, Fraction(1, 2)), (90, 0), (120, Fraction(-1, 2)), (180, -1), (270, 0), (300, Fraction(1, 2)),
                                 (-60, Fraction(1, 2)), (360, 1)):
@@ -99,6 +118,11 @@ class Readings(unittest.TestCase):
         self.assertIn("warning: the greatest apparent resistivity is over 2.0 times the least. IEEE Std 80, 13.4", done.err)
         self.assertIn("over 24.9 times", run("wenner", "--reading", "1,10", "--reading", "1,0.4").err)
 
+    def test_soil_at_the_ends_of_its_column(self):
+        for ohms, soil, note in (("1.591", 10, ""), ("1.432", 9, "note"), ("795.7", 5000, ""), ("795.9", 5001, "note")):
+            done = run("wenner", "--csv", "--reading", f"1,{ohms}")
+            self.assertEqual((done.out.rstrip().split(",")[-1], done.err[:4]), (str(soil), note))
+
     def test_soil_that_no_sheet_takes(self):
         self.assertIn("note: 1 Ω·m is not in 10..5000; a sheet refuses it", run("wenner", "--reading", "1,0.1").err)
 
@@ -151,7 +175,7 @@ class Staged(unittest.TestCase):
                 (["--injected", "1000", "--branch", "1,0"], "current 1000: '1000' is not two numbers"),
                 (["--injected", "1000,0", "--branch", "0.0005,0"], "current 0.0005,0: 0.0005 A is not a whole number of mA"),
                 (["--injected", "1000,0", "--branch", "4@x"], "current 4@x: 'x' is no number"),
-                (["--injected", "1000,0", "--branch", "4@400"], "current 4@400: angle: 400 is not in −360..360 degrees"),
+                (["--injected", "1000,0", "--branch", "4@360.1"], "current 4@360.1: angle: 360.1 is not in −360..360 degrees"),
                 (["--injected", "0,0", "--branch", "1,0"], "the injected current is 0"),
                 (["--injected", "2000,0", "--branch", "1,0"], "injected, in-phase part: 2,000 A is not in −1,000..1,000 A"),
                 ([], "give a file, or --injected and a --branch for each branch"),
@@ -161,6 +185,15 @@ class Staged(unittest.TestCase):
             done = run("staged", *arguments)
             self.assertEqual((done.status, done.out), (1, ""))
             self.assertTrue(done.err.startswith(said), done.err)
+
+    def test_the_ends_of_angles(self):
+        for angle in ("360", "-360", "0", "0.0", "+360°"):
+            self.assertEqual(run("staged", "--csv", "--injected", "1,0", "--branch", f"0.4@{angle}").out.split("\n")[1], "600,0,600")
+
+    def test_splits_at_the_ends_of_their_column(self):
+        for branch, split in (("0,0", 1000), ("0.999,0", 1)):
+            done = run("staged", "--csv", "--injected", "1,0", "--branch", branch)
+            self.assertEqual((done.out.rstrip().split(",")[-1], done.err), (str(split), ""))
 
     def test_a_split_that_no_sheet_takes(self):
         self.assertIn("note: a split of 0 per mille is not in 1..1000; a sheet refuses it",

@@ -130,6 +130,10 @@ class OfSheets(unittest.TestCase):
             (changed(body=60), "line 2, body (column 9): 60 kg is not 50 or 70"),
             (changed(layer=50), "line 2, layer (column 4): 50 Ω·m is not in 0 or 100..10000"),
             (changed(xr=41), "line 2, xr (column 12): 41 is not in 1..40"),
+            (changed(rods=4, rodlen=3000, place=3), "line 2, place (column 20): 3 is not in 0..2 "
+             "(0 no rods, 1 at perimeter or corners, 2 inside only)"),
+            (changed(metal=12), "line 2, metal (column 21): 12 is not in 1..11 "
+             "(the conductor's metal, 1 copper, annealed soft-drawn, to 11 stainless steel 304)"),
         ])
 
     def test_6(self):
