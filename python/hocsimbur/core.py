@@ -193,6 +193,15 @@ def _bytes(text: bytes) -> list:
     return _slice((ctypes.c_uint8 * len(text)).from_buffer_copy(text)) if text else [None, ctypes.c_size_t(0)]
 
 
+def _array(kind: type, numbers: Sequence[int]) -> list:
+    """Whole numbers as an array of a C type; one that the type cannot hold is an error, and is never cut."""
+    array = (kind * len(numbers))(*numbers)
+    for number, held in zip(numbers, array):
+        if number != held:
+            raise OverflowError(f"{number} does not fit the library's {8 * ctypes.sizeof(kind)} bits")
+    return _slice(array)
+
+
 def _ask(name: str, *arguments) -> int:
     """The answer of an entry, with a place lent to it; a refusal is raised."""
     place = (ctypes.c_size_t * 2)()
@@ -263,13 +272,14 @@ def headroom(sheet: bytes) -> List[int]:
 def release(sheet: bytes, licence: Sequence[Tuple[int, int]]) -> List[Release]:
     """Which stations of a licence may be released: pairs of a station and its seasons, in which seasons 1 to 4 count 1, 2, 4 and 8."""
     numbers = [number for pair in licence for number in pair]
-    answers = _numbers("release", 8, LINES, _bytes(sheet), _slice((ctypes.c_uint32 * len(numbers))(*numbers)))
+    answers = _numbers("release", 8, LINES, _bytes(sheet), _array(ctypes.c_uint32, numbers))
     return [Release(station, decision == 1, *rest) for station, decision, *rest in answers]
 
 
 def fewest(sheet: bytes, side: int) -> Fewest:
     """The fewest lines for a square yard of this side in mm, all else as in the one value line of the sheet."""
     array = (ctypes.c_int64 * 3)()
+    _array(ctypes.c_uint32, [side])
     found = _ask("fewest", _bytes(sheet), ctypes.c_uint32(side), _slice(array))
     return Fewest(found == 1, *array)
 
@@ -278,7 +288,7 @@ def soil(readings: Sequence[Tuple[int, int]]) -> Soil:
     """The soil from readings of a distance in mm and a resistance in milliohms."""
     numbers = [number for reading in readings for number in reading]
     array = (ctypes.c_int64 * 7)()
-    _ask("soil", _slice((ctypes.c_uint32 * len(numbers))(*numbers)), _slice(array))
+    _ask("soil", _array(ctypes.c_uint32, numbers), _slice(array))
     return Soil(*_pairs(array[:6]), array[6])
 
 
@@ -286,7 +296,7 @@ def split(parts: Sequence[Tuple[int, int]]) -> Split:
     """The split from a staged test: in-phase and quadrature part in mA of the injected current, then of each branch."""
     numbers = [number for part in parts for number in part]
     array = (ctypes.c_int64 * 3)()
-    _ask("split", _slice((ctypes.c_int64 * len(numbers))(*numbers)), _slice(array))
+    _ask("split", _array(ctypes.c_int64, numbers), _slice(array))
     return Split(*array)
 
 

@@ -97,6 +97,7 @@ class Readings(unittest.TestCase):
                 (["--reading", "1"], "reading 1: '1' is not two numbers parted by a comma; write a decimal point inside a number"),
                 (["--reading", "0.4,1"], "reading 1, distance: 0.4 m is not in 0.5..50 m"),
                 (["--reading", "1,1001"], "reading 1, resistance: 1,001 Ω is not in 0.001..1,000 Ω"),
+                (["--reading", "4294968.296,10"], "reading 4294968.296,10: distance: 4,294,968.296 is far out of range"),
                 (["--reading=-1,1"], "reading -1,1: distance: −1 is far out of range"),
                 ([], "give either a file of readings or --reading METRES,OHMS once for each reading"),
                 (["tests/sample.csv"], "tests/sample.csv: line 1: the names must be metres,ohms; here they are station,season")):
