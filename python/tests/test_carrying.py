@@ -28,6 +28,10 @@ class OneSheet(unittest.TestCase):
         self.assertEqual(run("carry-back", "examples/refused-10.csv"), (
             1, "", "examples/refused-10.csv: line 3: across is 8 and along is 12; the former sheet has one count for both\n"))
 
+    def test_names_of_the_former_sheet(self):
+        self.assertEqual(run("carry", "-", stdin=FORMER.replace(b"lines", b"line")).err,
+                         "line 1, column 11: 'line' is no name of a sheet; did you mean lines?\n")
+
     def test_today_s_sheet(self):
         done = run("carry", "tests/sample.csv")
         self.assertEqual((done.status, done.out), (1, ""))
@@ -73,6 +77,22 @@ class Folders(unittest.TestCase):
         self.assertIn("a.csv: it is there already; --force replaces it", done.err)
         self.assertEqual(self.carried(str(self.old / "a.csv"), "-o", str(self.new), "--force").status, 0)
         self.assertEqual((self.new / "a.csv").read_bytes(), CARRIED)
+
+    def test_what_is_replaced_keeps_its_rights(self):
+        self.new.mkdir()
+        (self.new / "a.csv").write_bytes(b"old")
+        (self.new / "a.csv").chmod(0o640)
+        self.assertEqual(self.carried(str(self.old / "a.csv"), "-o", str(self.new), "--force").status, 0)
+        self.assertEqual(stat.S_IMODE((self.new / "a.csv").stat().st_mode), 0o640)
+
+    def test_through_a_link(self):
+        """What a link points at is written, and the link stays."""
+        self.new.mkdir()
+        (self.folder / "kept.csv").write_bytes(b"old")
+        (self.new / "a.csv").symlink_to(self.folder / "kept.csv")
+        self.assertEqual(self.carried(str(self.old / "a.csv"), "-o", str(self.new), "--force").status, 0)
+        self.assertTrue((self.new / "a.csv").is_symlink())
+        self.assertEqual((self.folder / "kept.csv").read_bytes(), CARRIED)
 
     def test_the_same_name_twice(self):
         (self.folder / "other").mkdir()

@@ -7,6 +7,7 @@ import sys
 import tempfile
 import types
 import unittest
+from decimal import Decimal
 
 from hocsimbur import spreadsheet
 
@@ -38,6 +39,7 @@ WRITTEN = {
     "thousands": (changed(fault='"3,180.00"'),
                   ["1 line: quotes removed", "1 value: written as whole digits, its size unchanged (line 2, fault, 3,180.00 is 3180)"]),
     "spaced thousands": (changed(fault="3 180"), ["1 value: written as whole digits, its size unchanged (line 2, fault, 3 180 is 3180)"]),
+    "decimal zeros of 0": (changed(rods="0.0"), ["1 value: written as whole digits, its size unchanged (line 2, rods, 0.0 is 0)"]),
     "decimal comma": (SEMICOLONS.replace(b"3180", b"3180,0", 1),
                       ["3 lines: semicolons made commas", "1 value: written as whole digits, its size unchanged (line 2, fault, 3180,0 is 3180)"]),
     "both signs": (SEMICOLONS.replace(b"3180", b"3.180,0", 1),
@@ -101,6 +103,16 @@ class Made(unittest.TestCase):
         self.assertEqual([said.split(":")[0] for said in caught.exception.said],
                          ["line 2, soil (column 3)", "line 2, fault (column 10)", "line 3, depth (column 16)"])
 
+    def test_the_last_cell_and_one_too_many(self):
+        with self.assertRaises(spreadsheet.Refusals) as caught:
+            spreadsheet.make(changed(hz="x,y"))
+        self.assertEqual([said.split(":")[0] for said in caught.exception.said], ["line 2, hz (column 22)", "line 2, column 23"])
+
+    def test_thousands_by_points(self):
+        self.assertEqual([spreadsheet._exact(text, ";") for text in ("1.234.567", "1.234.567,0", "1,234,567", "12,5", "12.5")],
+                         [1234567, 1234567, 1234567, Decimal("12.5"), Decimal("12.5")])
+        self.assertIsNone(spreadsheet._exact("1.23.456", ";"))
+
     def test_nothing_there(self):
         for data in (b"", b"\n\n", b" , ,\r\n"):
             with self.assertRaises(spreadsheet.Refusals) as caught:
@@ -124,8 +136,14 @@ class Workbooks(unittest.TestCase):
 
     def openpyxl(self, rows, titles=("Yards",)):
         """A package that reads a workbook with these rows."""
-        sheets = [types.SimpleNamespace(title=title, iter_rows=lambda values_only: iter(rows)) for title in titles]
-        return types.SimpleNamespace(load_workbook=lambda file, read_only, data_only: types.SimpleNamespace(worksheets=sheets))
+        def iter_rows(values_only: bool):
+            self.assertTrue(values_only)
+            return iter(rows)
+
+        def load_workbook(file, read_only: bool, data_only: bool):
+            self.assertTrue(read_only and data_only and file.read() == self.BOOK)
+            return types.SimpleNamespace(worksheets=[types.SimpleNamespace(title=title, iter_rows=iter_rows) for title in titles])
+        return types.SimpleNamespace(load_workbook=load_workbook)
 
     def made(self, package):
         kept = sys.modules.get("openpyxl")
