@@ -60,7 +60,7 @@ module _ {c : Case} (b : Bounds c) where
   margins-line e f p = record { mesh = _; step = _; is = p; margins = sym e ∙ f }
 
   -- a case within its bounds is worked
-  is-worked : workingAnswer c ≡ worked.Is (workingOf c)
+  pub is-worked : workingAnswer c ≡ worked.Is (workingOf c)
   unfolding workingAnswer recordAnswer
   is-worked = rw (bounds-sound b)
 

@@ -1,0 +1,124 @@
+-- What the entries for programs in C tell: one manner, and the operations that fill arrays of the caller's.
+use Prim.Native.Nat.{ℕ, _≤_, _<_}
+use mathlib.Core.Path.{_≡_, refl, ap, _∙_}
+use mathlib.Core.List.{List, [], _∷_}
+use native.Mathlib.Omega.{arith}
+use lib.IntN.{ℤ}
+use lib.ListN.{length}
+use Rattle.case.specs.declared.Form.{Form}
+use Rattle.judgement.specs.declared.Judgement.the-variants as judged
+use Rattle.judgement.proofs.Numbers as judgements
+use Rattle.case.specs.Columns.{Column, columns}
+use Rattle.case.specs.Parts.{formOf}
+use Rattle.judgement.specs.Sheet.{judgement}
+use Rattle.sheet.specs.declared.Answer.{Answer}
+use Rattle.sheet.specs.declared.Answer.the-variants as answer
+use Rattle.stations.specs.declared.Summed.{Summed}
+use Rattle.stations.specs.declared.Summed.the-variants as summed
+use Rattle.release.specs.declared.Released.{Released}
+use Rattle.release.specs.declared.Released.the-variants as released
+use Rattle.conversion.specs.declared.Carried.{Carried}
+use Rattle.conversion.specs.declared.Carried.the-variants as carried
+use Rattle.conversion.specs.Values.{other}
+use Rattle.c_entry.specs.Answer.{signedAnswer}
+use Rattle.c_entry.specs.Place.{placeAfter}
+use Rattle.c_entry.specs.Told.{Told}
+use Rattle.c_counts.specs.Counts.{stationCount, pairCount, byteCount}
+use Rattle.c_questions.specs.Operations.{SummaryTold, ReleaseTold, CarryTold}
+use Rattle.claims.specs.Words.{Breaks}
+use Rattle.claims.specs.Summary as summary
+use Rattle.claims.specs.Releases as releases
+use Rattle.claims.specs.Carried as carrying
+use Rattle.claims.specs.Entries.{PointsAt, InC, count, refusal, SummaryInC, ReleaseInC, CarryInC}
+use Rattle.claims.proofs.SummaryAnswers as summaries
+use Rattle.claims.proofs.Releases as licences
+use Rattle.claims.proofs.Carrying.{carry-outcome}
+
+-- ---- one manner
+
+points-at : (number line column : ℕ) (place told : List ℕ) → told ≡ placeAfter (answer.Refused number line column) place
+    → PointsAt line column place told
+unfolding placeAfter
+points-at number line column place told e = record { two = λ p. e ∙ rw p; fewer = λ l. e ∙ fewer place l }
+  where
+    fewer : (place : List ℕ) → length place < 2 → placeAfter (answer.Refused number line column) place ≡ place
+    fewer [] l = refl
+    fewer (a ∷ []) l = refl
+    fewer (a ∷ b ∷ rest) l = absurd (omega arith)
+
+-- what an answer says
+unfoldable pub Says : (ℕ → Type 0) → (ℕ → ℕ → ℕ → Type 0) → Answer → Type 0
+Says Counted Refused (answer.Rows n) = Counted n
+Says Counted Refused (answer.Refused number line column) = (1 ≤ number) × Refused number line column
+
+pub in-c : {Counted : ℕ → Type 0} {Refused : ℕ → ℕ → ℕ → Type 0} {place told : List ℕ} {r : ℤ} (a : Answer) → Told a place told r
+    → Says Counted Refused a → InC Counted Refused place told r
+unfolding Says signedAnswer placeAfter
+in-c (answer.Rows n) t h = rw (t .answer-is) (count h (t .place-is))
+in-c {place = place} {told} (answer.Refused number line column) t h =
+    rw (t .answer-is) (refusal (h .0) (h .1) (points-at number line column place told (t .place-is)))
+
+-- a rule's number is not 0
+pub rule-number : (form : List Column) (s : List ℕ) {number line column : ℕ} → judgement form s ≡ judged.Refused number line column
+    → 1 ≤ number
+rule-number form s {number} {line} {column} e = go (rw e at (judgements.judgement-numbered form s))
+  where
+    go : judgements.Numbered (judged.Refused number line column) → 1 ≤ number
+    go (judgements.number _ p q) = p
+
+-- ---- the operations that fill arrays of the caller's
+
+module _ {s : List ℕ} {rowsBefore rows before after : List ℤ} where
+  summary-number : {number line column : ℕ} → summary.SummaryOutcome s rowsBefore rows before after (summed.Refused number line column)
+      → 1 ≤ number
+  summary-number (summary.rule b u) = rule-number columns s b
+  summary-number (summary.rows-short t u) = omega arith
+  summary-number (summary.summary-short e p a l u) = omega arith
+
+  pub summary-in-c : {place told : List ℕ} {r : ℤ} → SummaryTold s rowsBefore rows before after place told r
+      → SummaryInC s rowsBefore rows before after place told r
+  unfolding Says stationCount
+  summary-in-c {place} {told} {r} t = go (t .answer) (summaries.summary (t .asked)) (t .told)
+    where
+      go : (a : Summed) → summary.SummaryOutcome s rowsBefore rows before after a → Told (stationCount a) place told r
+          → SummaryInC s rowsBefore rows before after place told r
+      go (summed.Summary n m) o t = in-c (answer.Rows m) t (n, o)
+      go (summed.Refused k l c) o t = in-c (answer.Refused k l c) t (summary-number o, o)
+
+module _ {s licence : List ℕ} {before after : List ℤ} where
+  release-number : {number line column : ℕ} → releases.ReleaseOutcome s licence before after (released.Refused number line column)
+      → 1 ≤ number
+  release-number (releases.rule b u) = rule-number columns s b
+  release-number (releases.count e p u) = omega arith
+  release-number (releases.pair e p k w b u) = omega arith
+  release-number (releases.table e p w l u) = omega arith
+
+  pub release-in-c : {place told : List ℕ} {r : ℤ} → ReleaseTold s licence before after place told r
+      → ReleaseInC s licence before after place told r
+  unfolding Says pairCount
+  release-in-c {place} {told} {r} t = go (t .answer) (licences.release (t .asked)) (t .told)
+    where
+      go : (a : Released) → releases.ReleaseOutcome s licence before after a → Told (pairCount a) place told r
+          → ReleaseInC s licence before after place told r
+      go (released.Pairs m) o t = in-c (answer.Rows m) t o
+      go (released.Refused k l c) o t = in-c (answer.Refused k l c) t (release-number o, o)
+
+held-number : {v : List ℕ} {number : ℕ} → carrying.Held v number → 1 ≤ number
+held-number (carrying.times t) = omega arith
+held-number (carrying.counts t c) = omega arith
+held-number (carrying.hertz t c h) = omega arith
+
+module _ {form : Form} {s before after : List ℕ} where
+  carry-number : {number line column : ℕ} → carrying.CarryOutcome form s before after (carried.Refused number line column) → 1 ≤ number
+  carry-number (carrying.rule b u) = rule-number (formOf (other form)) s b
+  carry-number (carrying.held f h u) = held-number h
+  carry-number (carrying.short g l u) = omega arith
+
+  pub carry-in-c : {place told : List ℕ} {r : ℤ} → CarryTold form s before after place told r → CarryInC form s before after place told r
+  unfolding Says byteCount
+  carry-in-c {place} {told} {r} t = go (t .answer) (carry-outcome (t .asked)) (t .told)
+    where
+      go : (a : Carried) → carrying.CarryOutcome form s before after a → Told (byteCount a) place told r
+          → CarryInC form s before after place told r
+      go (carried.Bytes n) o t = in-c (answer.Rows n) t o
+      go (carried.Refused k l c) o t = in-c (answer.Refused k l c) t (carry-number o, o)

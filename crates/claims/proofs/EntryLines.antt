@@ -1,0 +1,122 @@
+-- Margins, working and headroom of every value line told to a program in C.
+use Prim.Native.Nat.{ℕ, zero, suc, _*_, _≤_}
+use mathlib.Core.Path.{_≡_, refl, sym, _∙_}
+use mathlib.Core.Bool.{Bool, true, false, cond}
+use mathlib.Core.List.{List, [], _∷_}
+use native.Mathlib.Omega.{arith}
+use lib.Dec.{ltb}
+use lib.IntN.{ℤ, pos}
+use lib.ListN.{length}
+use borrow.Author.Tests.{ltb-true, ltb-false}
+use Rattle.tables.specs.Parts.{partAt}
+use Rattle.case.specs.declared.Case.{Case}
+use Rattle.case.specs.Columns.{columns}
+use Rattle.case.specs.Bounds.{Bounds}
+use Rattle.case.proofs.BoundsSound.{bounds-sound}
+use Rattle.judgement.specs.declared.Judgement.{Judgement}
+use Rattle.judgement.specs.declared.Judgement.the-variants as judged
+use Rattle.judgement.specs.Sheet.{judgement}
+use Rattle.row.specs.Ends.{rowOf}
+use Rattle.margin.specs.Meaning.{Right, RightMargins}
+use Rattle.margin.proofs.Right.{right-margins}
+use Rattle.working.specs.Working.{RightWorked}
+use Rattle.headroom.specs.Headroom as headroom
+use Rattle.sheet.specs.declared.Answer.the-variants as answer
+use Rattle.sheet.specs.Answer.{cases}
+use Rattle.hocsimbur.proofs.Answers.{bounds-answered}
+use Rattle.c_line.specs.declared.Question.{Question}
+use Rattle.c_line.specs.declared.Question.the-variants as question
+use Rattle.c_line.specs.Line as line
+use Rattle.c_line.proofs.LineParts.{is-worked}
+use Rattle.c_lines.specs.Lines.{linesBy, linesAnswer, Filled, ArrayAfter, LinesTold}
+use Rattle.claims.specs.Words.{BreaksNone, caseAt}
+use Rattle.claims.specs.Entries as entries
+use Rattle.claims.proofs.Sheets.{cases-count, bounds-at}
+use Rattle.claims.proofs.Workings.{working-outcome}
+use Rattle.claims.proofs.Later.{headroom-outcome}
+use Rattle.claims.proofs.Entries.{Says, in-c, rule-number}
+
+-- ---- every question: what its numbers say of a case within its bounds is all that differs
+
+module _ (q : Question) (Line : Case → List ℤ → Type 0)
+    (says : (c : Case) (part : List ℤ) → Bounds c → line.LineOf q c part → Line c part) where
+  abbrev width : ℕ
+  width = line.widthOf q
+
+  every-line : {s : List ℕ} {before after : List ℤ} {n : ℕ} → BreaksNone s n → width * n ≤ length before
+      → Filled q (cases s) before after → entries.EveryLine width Line s before after n
+  every-line {s} {before} {after} {n} e l f =
+      let k = cases-count s n e in
+      record {
+        breaks-none = e;
+        fits = l;
+        line = λ i h. says (caseAt s i) (partAt width after i) (bounds-at s e i h) (f .parts i (omega (arith, k)));
+        rest-kept = rw k (f .rest);
+        same-length = f .size;
+      }
+
+  answer-says : (s : List ℕ) (before after : List ℤ) (j : Judgement) → judgement columns s ≡ j
+      → ArrayAfter q s before after (linesBy width (length before) j)
+      → Says (entries.EveryLine width Line s before after) (entries.LinesRefused width Line s before after)
+      (linesBy width (length before) j)
+  unfolding Says ArrayAfter linesBy
+  answer-says s before after (judged.Refused k l c) e h = (rule-number columns s e, entries.rule e h)
+  answer-says s before after (judged.Lines n) e h = roomy (ltb (length before) (width * n)) refl h
+    where
+      roomy : (b : Bool) → ltb (length before) (width * n) ≡ b
+          → ArrayAfter q s before after (cond b (answer.Refused 8 0 0) (answer.Rows n))
+          → Says (entries.EveryLine width Line s before after) (entries.LinesRefused width Line s before after)
+          (cond b (answer.Refused 8 0 0) (answer.Rows n))
+      roomy true p h =
+          (omega arith, entries.short (record { lines = n; breaks-none = e; short = ltb-true (length before) (width * n) p }) h)
+      roomy false p h = every-line e (ltb-false (length before) (width * n) p) h
+
+  lines-in-c : {s : List ℕ} {before after : List ℤ} {place told : List ℕ} {r : ℤ} → LinesTold q s before after place told r
+      → entries.LinesInC width Line s before after place told r
+  unfolding linesAnswer
+  lines-in-c {s} {before} {after} t =
+      let a = t .asked in
+      in-c (t .answer) (t .told)
+      (rw (a .answer-is) (answer-says s before after (judgement columns s) refl (rw (a .answer-is) at (a .array-is))))
+
+-- ---- the three
+
+margins-say : (c : Case) (part : List ℤ) → Bounds c → line.MarginsLine c part → entries.MarginNumbers c part
+unfolding Right rowOf
+margins-say c part b l =
+    let right : RightMargins c (l .mesh) (l .step) = rw (l .margins) at (right-margins b) in
+    rw (l .is)
+    (entries.margins {m = l .mesh} {k = l .step} (λ r a. let z : r ≡ rowOf c = let e = bounds-answered b a in cc in rw z (l .margins)) (right .mesh-below) (right .step-below)
+    (λ a h. (
+      λ w. right .safe-both (let z : w .row ≡ rowOf c = let e = sym (w .is) ∙ bounds-answered b h in cc in rw z at (w .verdict)),
+      λ p. record { row = rowOf c; is = bounds-answered b h; verdict = right .both-safe (p .0) (p .1) },
+    )))
+
+working-says : (c : Case) (part : List ℤ) → Bounds c → line.WorkingLine c part → entries.WorkingNumbers c part
+unfolding RightWorked
+working-says c part b l =
+    rw (l .is) (entries.working (working-outcome (record { answer = sym (is-worked b); right = l .right })))
+
+headroom-says : (c : Case) (part : List ℤ) → Bounds c → line.HeadroomLine c part → entries.HeadroomNumber c part
+unfolding line.RightFault headroom.RightRoom headroom.checked
+headroom-says c part b l = rw (l .is) (go (l .fault) (l .right))
+  where
+    go : (fault : ℕ) → line.RightFault c fault → entries.HeadroomNumber c (pos fault ∷ [])
+    go zero h = entries.none (headroom-outcome (record { checks = bounds-sound b; right = h }))
+    go (suc k) h = entries.up-to (headroom-outcome (record { checks = bounds-sound b; right = h }))
+
+module _ {s : List ℕ} {before after : List ℤ} {place told : List ℕ} {r : ℤ} where
+  pub margins-in-c : LinesTold question.Margins s before after place told r
+      → entries.LinesInC 2 entries.MarginNumbers s before after place told r
+  unfolding line.LineOf line.widthOf
+  margins-in-c t = lines-in-c question.Margins entries.MarginNumbers margins-say t
+
+  pub working-in-c : LinesTold question.Working s before after place told r
+      → entries.LinesInC 30 entries.WorkingNumbers s before after place told r
+  unfolding line.LineOf line.widthOf
+  working-in-c t = lines-in-c question.Working entries.WorkingNumbers working-says t
+
+  pub headroom-in-c : LinesTold question.Headroom s before after place told r
+      → entries.LinesInC 1 entries.HeadroomNumber s before after place told r
+  unfolding line.LineOf line.widthOf
+  headroom-in-c t = lines-in-c question.Headroom entries.HeadroomNumber headroom-says t

@@ -1,0 +1,155 @@
+-- The entries for programs in C beside the rows, of no document: what a caller has is the signed number r, the arrays, and a lent place in
+-- which a refusal points. The outcomes are those of the operations' own questions.
+use Prim.Native.Nat.{ℕ, _*_, _≤_, _<_}
+use mathlib.Core.Path.{_≡_}
+use mathlib.Core.Logic.{_↔_}
+use mathlib.Core.List.{List, [], _∷_, _++_}
+use lib.IntN.{ℤ, pos, negℤ}
+use lib.ListN.{length, drop}
+use lib.Signed.{_≤ℤ_}
+use Rattle.tables.specs.Parts.{partAt}
+use Rattle.exact.specs.Exact.{exactly, _·x_, AtOrBelow}
+use Rattle.case.specs.declared.Case.{Case}
+use Rattle.case.specs.declared.Form.{Form}
+use Rattle.formulas.specs.Mesh.{mesh}
+use Rattle.formulas.specs.Step.{step}
+use Rattle.formulas.specs.Tolerable.{tolerableTouch, tolerableStep}
+use Rattle.row.specs.declared.Row.{Row}
+use Rattle.row.specs.declared.Verdict.the-variants.{Safe}
+use Rattle.row.specs.Row.{numbers}
+use Rattle.margin.specs.declared.Compared.the-variants as compared
+use Rattle.margin.specs.Margin.{marginsOf}
+use Rattle.margin.specs.Meaning.{share}
+use Rattle.working.specs.declared.Quantities.{Quantities}
+use Rattle.working.specs.declared.Worked.the-variants as worked
+use Rattle.headroom.specs.declared.Room.the-variants as room
+use Rattle.stations.specs.declared.Summed.the-variants as summed
+use Rattle.release.specs.declared.Released.the-variants as released
+use Rattle.conversion.specs.declared.Carried.the-variants as carried
+use Rattle.readings.specs.declared.Report.{Report}
+use Rattle.readings.specs.declared.Sounding.the-variants as sounding
+use Rattle.staged.specs.declared.SplitAnswer.the-variants as split
+use Rattle.yards.specs.declared.FewestLines.the-variants as yards
+use Rattle.hocsimbur.specs.declared.RowAnswer.{RowAnswer}
+use Rattle.hocsimbur.specs.declared.RowAnswer.the-variants as answered
+use Rattle.hocsimbur.specs.Asked.{RowAnswered, AnsweredWith}
+use Rattle.c_reply.specs.Reply.{soilNumbers}
+use Rattle.c_line.specs.Line.{workingNumbers}
+use Rattle.claims.specs.Words.{BreaksNone, Breaks, TooShort, caseAt}
+use Rattle.claims.specs.Measured.{SoilOutcome, SplitOutcome}
+use Rattle.claims.specs.Yards.{FewestOutcome}
+use Rattle.claims.specs.Workings.{WorkingOutcome}
+use Rattle.claims.specs.Later.{HeadroomOutcome}
+use Rattle.claims.specs.Summary.{SummaryOutcome}
+use Rattle.claims.specs.Releases.{ReleaseOutcome}
+use Rattle.claims.specs.Carried.{CarryOutcome}
+
+-- ---- one manner
+
+-- line and column of a refusal in the first two numbers of a place; one of fewer numbers is as it was
+pub record PointsAt (line column : ℕ) (place told : List ℕ) : Type 0 where
+  pub two : {a b : ℕ} {rest : List ℕ} → place ≡ a ∷ b ∷ rest → told ≡ line ∷ column ∷ rest
+  pub fewer : length place < 2 → told ≡ place
+
+-- every answer: a count, and the place as it was; or a refusal's number, which is not 0, made negative
+pub data InC (Counted : ℕ → Type 0) (Refused : ℕ → ℕ → ℕ → Type 0) (place told : List ℕ) : ℤ → Type 0 where
+  count : {n : ℕ} → Counted n → told ≡ place → InC Counted Refused place told (pos n)
+  refusal : {number line column : ℕ} → 1 ≤ number → Refused number line column → PointsAt line column place told
+      → InC Counted Refused place told (negℤ (pos number))
+
+-- ---- an operation on arrays of the caller's: the outcome of its own question
+
+abbrev pub SummaryInC : List ℕ → List ℤ → List ℤ → List ℤ → List ℤ → List ℕ → List ℕ → ℤ → Type 0
+SummaryInC s rowsBefore rows before after =
+    InC (λ m. (n : ℕ) × SummaryOutcome s rowsBefore rows before after (summed.Summary n m))
+    (λ number line column. SummaryOutcome s rowsBefore rows before after (summed.Refused number line column))
+
+abbrev pub ReleaseInC : List ℕ → List ℕ → List ℤ → List ℤ → List ℕ → List ℕ → ℤ → Type 0
+ReleaseInC s licence before after =
+    InC (λ m. ReleaseOutcome s licence before after (released.Pairs m))
+    (λ number line column. ReleaseOutcome s licence before after (released.Refused number line column))
+
+abbrev pub CarryInC : Form → List ℕ → List ℕ → List ℕ → List ℕ → List ℕ → ℤ → Type 0
+CarryInC form s before after =
+    InC (λ n. CarryOutcome form s before after (carried.Bytes n))
+    (λ number line column. CarryOutcome form s before after (carried.Refused number line column))
+
+-- ---- a report as numbers in an array
+
+module _ (Numbers : ℕ → List ℤ → Type 0) (before after : List ℤ) where
+  -- the numbers, which have room, and past the last what the array held
+  pub data Reported : ℕ → Type 0 where
+    reported : {count : ℕ} {zs : List ℤ} → Numbers count zs → length zs ≤ length before → after ≡ zs ++ drop (length zs) before
+        → Reported count
+
+  -- the operation's own refusals come first, then 8 of an array too short; each leaves it as it was
+  pub data ReportRefused (Own : ℕ → ℕ → ℕ → Type 0) : ℕ → ℕ → ℕ → Type 0 where
+    own : {number line column : ℕ} → Own number line column → after ≡ before → ReportRefused Own number line column
+    short : {count : ℕ} {zs : List ℤ} → Numbers count zs → length before < length zs → after ≡ before → ReportRefused Own 8 0 0
+
+abbrev pub ReportInC : (ℕ → List ℤ → Type 0) → (ℕ → ℕ → ℕ → Type 0) → List ℤ → List ℤ → List ℕ → List ℕ → ℤ → Type 0
+ReportInC Numbers Own before after = InC (Reported Numbers before after) (ReportRefused Numbers before after Own)
+
+-- 7, and the ends of least, greatest and mean and the soil column
+pub data SoilNumbers (list : List ℕ) : ℕ → List ℤ → Type 0 where
+  soil : {report : Report} → SoilOutcome list (sounding.Soil report) → SoilNumbers list 7 (soilNumbers report)
+
+abbrev pub SoilInC : List ℕ → List ℤ → List ℤ → List ℕ → List ℕ → ℤ → Type 0
+SoilInC list = ReportInC (SoilNumbers list) (λ number line column. SoilOutcome list (sounding.Refused number line column))
+
+-- 3, and the grid's two parts and the split
+pub data SplitNumbers (s : List ℤ) : ℕ → List ℤ → Type 0 where
+  grid : {a b : ℤ} {k : ℕ} → SplitOutcome s (split.Grid a b k) → SplitNumbers s 3 (a ∷ b ∷ pos k ∷ [])
+
+abbrev pub SplitInC : List ℤ → List ℤ → List ℤ → List ℕ → List ℕ → ℤ → Type 0
+SplitInC s = ReportInC (SplitNumbers s) (λ number line column. SplitOutcome s (split.Refused number line column))
+
+-- 1 with lines, rods and how many yards were tried, or 0 with 0, 0 and how many, of the one value line of a sheet
+pub data FewestNumbers (s : List ℕ) (side : ℕ) : ℕ → List ℤ → Type 0 where
+  found : {lines rods tried : ℕ} → BreaksNone s 1 → FewestOutcome (caseAt s 0) side (yards.Found lines rods tried)
+      → FewestNumbers s side 1 (pos lines ∷ pos rods ∷ pos tried ∷ [])
+  none : {tried : ℕ} → BreaksNone s 1 → FewestOutcome (caseAt s 0) side (yards.None tried)
+      → FewestNumbers s side 0 (pos 0 ∷ pos 0 ∷ pos tried ∷ [])
+
+-- the sheet's own refusals, 4 at line 3 of more value lines, then the search's
+pub data FewestRefused (s : List ℕ) (side : ℕ) : ℕ → ℕ → ℕ → Type 0 where
+  rule : {number line column : ℕ} → Breaks s number line column → FewestRefused s side number line column
+  lines : {n : ℕ} → BreaksNone s n → 2 ≤ n → FewestRefused s side 4 3 0
+  search : {number line column : ℕ} → BreaksNone s 1 → FewestOutcome (caseAt s 0) side (yards.Refused number line column)
+      → FewestRefused s side number line column
+
+abbrev pub FewestInC : List ℕ → ℕ → List ℤ → List ℤ → List ℕ → List ℕ → ℤ → Type 0
+FewestInC s side = ReportInC (FewestNumbers s side) (FewestRefused s side)
+
+-- ---- some numbers of every value line
+
+module _ (width : ℕ) (Line : Case → List ℤ → Type 0) (s : List ℕ) (before after : List ℤ) where
+  -- each line has its own numbers, in the sheet's order, and numbers past the last keep what they held
+  pub record EveryLine (n : ℕ) : Type 0 where
+    pub breaks-none : BreaksNone s n
+    pub fits : width * n ≤ length before
+    pub line : (i : ℕ) → i < n → Line (caseAt s i) (partAt width after i)
+    pub rest-kept : drop (width * n) after ≡ drop (width * n) before
+    pub same-length : length after ≡ length before
+
+  pub data LinesRefused : ℕ → ℕ → ℕ → Type 0 where
+    rule : {number line column : ℕ} → Breaks s number line column → after ≡ before → LinesRefused number line column
+    short : TooShort s (length before) width → after ≡ before → LinesRefused 8 0 0
+
+abbrev pub LinesInC : ℕ → (Case → List ℤ → Type 0) → List ℕ → List ℤ → List ℤ → List ℕ → List ℕ → ℤ → Type 0
+LinesInC width Line s before after = InC (EveryLine width Line s before after) (LinesRefused width Line s before after)
+
+-- the margins of the case's row, true of the exact values; the case is answered safe exactly where neither is above 0
+pub data MarginNumbers (c : Case) : List ℤ → Type 0 where
+  margins : {m k : ℤ} → ((r : Row) → RowAnswered c (answered.Is r) → marginsOf (numbers r) ≡ compared.Margins m k)
+      → AtOrBelow (mesh c) (exactly (share m) ·x tolerableTouch c)
+      → AtOrBelow (step c) (exactly (share k) ·x tolerableStep c)
+      → ((a : RowAnswer) → RowAnswered c a → AnsweredWith Safe a ↔ (m ≤ℤ pos 0) × (k ≤ℤ pos 0)) → MarginNumbers c (m ∷ k ∷ [])
+
+pub data WorkingNumbers (c : Case) : List ℤ → Type 0 where
+  working : {w : Quantities} → WorkingOutcome c (worked.Is w) → WorkingNumbers c (workingNumbers w)
+
+-- the greatest fault current at which the case, all else equal, is answered safe, or 0 where none is
+pub data HeadroomNumber (c : Case) : List ℤ → Type 0 where
+  up-to : {F : ℕ} → HeadroomOutcome c (room.UpTo F) → HeadroomNumber c (pos F ∷ [])
+  none : HeadroomOutcome c room.None → HeadroomNumber c (pos 0 ∷ [])
