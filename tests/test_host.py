@@ -4,11 +4,14 @@ import random
 import re
 import struct
 import unittest
+from math import ceil, floor
 from pathlib import Path
 
 import calculator as calc
 import entries
+import headroom
 import host
+import margins
 import release
 import sheets
 import summary
@@ -259,6 +262,79 @@ class Released(unittest.TestCase):
                 self.assertTrue(self.told(*numbers), numbers)
         self.assertTrue(self.told(*right[:7], 0))
         self.assertTrue(self.told(*right[:7], self.fault - 100))
+
+
+class Stub:
+    """Stands for the library: the rows are the calculator's own, and every other entry answers what is set."""
+
+    answer, numbers = 0, []
+
+    def ask(self, name, read, written):
+        if name != "rows_at":
+            return self.answer, [self.numbers]
+        rows = [calc.row_at(case, DEPTH) for case in calc.read_sheet(read[0][1])]
+        return len(rows), [b"".join(host.ROW.pack(*row) for row in rows)]
+
+
+class LineNumbers(unittest.TestCase):
+    """The judges of margins, working and headroom asked from C tell wrong numbers, on two lines of document 01's sample yard."""
+
+    CASES = margins.seasons(7, [(1, margins.SAMPLE), (2, margins.SAMPLE._replace(soil=100))])
+    SHEET = sheets.sheet_of(CASES)
+
+    def parts(self, name):
+        """Right numbers of each line, from the calculators."""
+        if name == "margins":
+            return [list(margins.margin_of(calc.row_at(case, DEPTH))[3:]) for case in self.CASES]
+        if name == "headroom":
+            return [[headroom.between(case)[1]] for case in self.CASES]
+        return [[end for some, pair in zip(working.QUANTITIES, working.working(case, DEPTH))
+                 for end in (floor(pair.lower * some.units), ceil(pair.upper * some.units))] for case in self.CASES]
+
+    def told(self, name, numbers, room=None, answer=2, sheet=None):
+        library, judge = Stub(), getattr(entries, name + "_wrong")
+        library.answer, library.numbers = answer, numbers
+        sheet = self.SHEET if sheet is None else sheet
+        return entries.line_wrong(library, name, judge, sheet, calc.read_sheet(sheet), len(numbers) if room is None else room)
+
+    def test_right(self):
+        for name in entries.WIDTHS:
+            self.assertEqual(self.told(name, sum(self.parts(name), []) + [entries.FILL]), [])
+
+    def test_wrong_number(self):
+        for name, width in entries.WIDTHS.items():
+            right = sum(self.parts(name), [])
+            for place in range(2 * width):
+                wrong = [*right[:place], right[place] + right[place] // 1000 + 10, *right[place + 1:]]
+                self.assertTrue(self.told(name, wrong), (name, place))
+
+    def test_wrong_order(self):
+        for name in entries.WIDTHS:
+            first, second = self.parts(name)
+            self.assertTrue(self.told(name, second + first))
+            self.assertTrue(self.told(name, first + first))
+        first, second = self.parts("margins")
+        self.assertTrue(self.told("margins", first[::-1] + second))
+
+    def test_wrong_array(self):
+        for name, width in entries.WIDTHS.items():
+            right = sum(self.parts(name), [])
+            self.assertTrue(self.told(name, right, answer=1))
+            self.assertTrue(self.told(name, right, answer=Refusal(8, 0, 0)))
+            self.assertTrue(self.told(name, right + [0]))
+            self.assertTrue(self.told(name, [*right[:-1]]))
+            short = [entries.FILL] * (2 * width - 1)
+            self.assertEqual(self.told(name, short, answer=Refusal(8, 0, 0)), [])
+            self.assertTrue(self.told(name, [0, *short[1:]] if width > 1 else [0], answer=Refusal(8, 0, 0)))
+            self.assertTrue(self.told(name, short, answer=Refusal(8, 1, 0)))
+
+    def test_refused(self):
+        sheet = self.SHEET.replace(b"season", b"month")
+        refusal = calc.read_sheet(sheet)
+        for name in entries.WIDTHS:
+            self.assertEqual(self.told(name, [entries.FILL] * 3, answer=refusal, sheet=sheet), [])
+            self.assertTrue(self.told(name, [entries.FILL, 0, entries.FILL], answer=refusal, sheet=sheet))
+            self.assertTrue(self.told(name, [entries.FILL] * 3, answer=2, sheet=sheet))
 
 
 if __name__ == "__main__":
