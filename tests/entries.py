@@ -197,12 +197,14 @@ def headroom_wrong(library, sheet, cases, parts):
     """By the verdicts of rows at the fault current and at 1 A more."""
     def verdict(case):
         return rows_of(library, sheets.sheet_of([case]), 1)[0][2]
-    return [wrong for case, (fault,) in zip(cases, parts, strict=True) for wrong in headroom.judge(case, fault or headroom.NONE, verdict)]
+    return [wrong for case, (fault,) in zip(cases, parts, strict=True)
+            for wrong in headroom.judge(case, fault or headroom.NONE, verdict)]
 
 
 def line_sheets():
     """Those stored for the summary, then some by number, of which many are refused."""
-    return dict.fromkeys([*(sheet for sheet, _, _ in summary.blocks()), *(sheets.numbered_sheet(SEED, number)[1] for number in range(NUMBERED))])
+    stored = [sheet for sheet, _, _ in summary.blocks()]
+    return dict.fromkeys([*stored, *(sheets.numbered_sheet(SEED, number)[1] for number in range(NUMBERED))])
 
 
 def line_wrong(library, name, judge, sheet, cases, room):

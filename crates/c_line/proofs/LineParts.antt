@@ -88,7 +88,7 @@ module _ {c : Case} (b : Bounds c) where
   unfolding headroom.RightRoom RightFault
   no-fault a e = rw e at (a .right)
 
-  pub headroom-some : {A : Type 0} {r : Room} {number line column : ℕ} → headroom.HeadroomAnswered c r → r ≡ room.Refused number line column → A
+  pub headroom-some : {r : Room} {number line column : ℕ} → headroom.HeadroomAnswered c r → r ≡ room.Refused number line column → ⊥
   unfolding headroom.checked
   headroom-some a e = let z = sym (bounds-sound b) ∙ a .checks ∙ ap headroom.checked e in clash cc
 

@@ -44,8 +44,8 @@ module _ (question : Question) {wide : ℕ} (is : wide ≡ widthOf question) whe
   part-within {n} {i} h l = rw is (omega (arith, part-before (widthOf question) n i l))
 
   -- one line more
-  pub line-filled : (cs : List Case) {i : ℕ} {before t : List ℤ} (part : List ℤ) → FilledTo question cs i before t → wide * i + wide ≤ length t
-      → LineOf question (getD cs i (caseOf [])) part
+  pub line-filled : (cs : List Case) {i : ℕ} {before t : List ℤ} (part : List ℤ) → FilledTo question cs i before t
+      → wide * i + wide ≤ length t → LineOf question (getD cs i (caseOf [])) part
       → FilledTo question cs (i + 1) before (putMid (wide * i) (wide * i + wide - wide * i) t part)
   line-filled cs {i} {before} {t} part f h l =
       filled-step f (put-written-as wide i t part is h (line-length question (getD cs i (caseOf [])) part l)) l

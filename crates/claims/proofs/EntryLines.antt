@@ -16,6 +16,7 @@ use Rattle.case.proofs.BoundsSound.{bounds-sound}
 use Rattle.judgement.specs.declared.Judgement.{Judgement}
 use Rattle.judgement.specs.declared.Judgement.the-variants as judged
 use Rattle.judgement.specs.Sheet.{judgement}
+use Rattle.row.specs.declared.Row.{Row}
 use Rattle.row.specs.Ends.{rowOf}
 use Rattle.margin.specs.Meaning.{Right, RightMargins}
 use Rattle.margin.proofs.Right.{right-margins}
@@ -23,6 +24,9 @@ use Rattle.working.specs.Working.{RightWorked}
 use Rattle.headroom.specs.Headroom as headroom
 use Rattle.sheet.specs.declared.Answer.the-variants as answer
 use Rattle.sheet.specs.Answer.{cases}
+use Rattle.hocsimbur.specs.declared.RowAnswer.{RowAnswer}
+use Rattle.hocsimbur.specs.declared.RowAnswer.the-variants as answered
+use Rattle.hocsimbur.specs.Asked.{RowAnswered}
 use Rattle.hocsimbur.proofs.Answers.{bounds-answered}
 use Rattle.c_line.specs.declared.Question.{Question}
 use Rattle.c_line.specs.declared.Question.the-variants as question
@@ -81,14 +85,21 @@ module _ (q : Question) (Line : Case → List ℤ → Type 0)
 
 -- ---- the three
 
+-- a case within its bounds is answered with its row
+answered-row : {c : Case} {a : RowAnswer} {r : Row} → Bounds c → RowAnswered c a → a ≡ answered.Is r → r ≡ rowOf c
+answered-row b h e = let z = sym e ∙ bounds-answered b h in cc
+
 margins-say : (c : Case) (part : List ℤ) → Bounds c → line.MarginsLine c part → entries.MarginNumbers c part
 unfolding Right rowOf
 margins-say c part b l =
     let right : RightMargins c (l .mesh) (l .step) = rw (l .margins) at (right-margins b) in
     rw (l .is)
-    (entries.margins {m = l .mesh} {k = l .step} (λ r a. let z : r ≡ rowOf c = let e = bounds-answered b a in cc in rw z (l .margins)) (right .mesh-below) (right .step-below)
+    (entries.margins {m = l .mesh} {k = l .step}
+    (λ r a. rw (answered-row b a refl) (l .margins))
+    (right .mesh-below)
+    (right .step-below)
     (λ a h. (
-      λ w. right .safe-both (let z : w .row ≡ rowOf c = let e = sym (w .is) ∙ bounds-answered b h in cc in rw z at (w .verdict)),
+      λ w. right .safe-both (rw (answered-row b h (w .is)) at (w .verdict)),
       λ p. record { row = rowOf c; is = bounds-answered b h; verdict = right .both-safe (p .0) (p .1) },
     )))
 

@@ -93,7 +93,8 @@ unfolding ReplySays splitReply
 split-in-c {s} t = report-in-c _ _ (splitReply (staged.answer s)) (t .numbers) (t .told) (says (staged.answer s) (split-outcome refl))
   where
     says : (a : SplitAnswer) → measured.SplitOutcome s a
-        → ReplySays (entries.SplitNumbers s) (λ number line column. measured.SplitOutcome s (split.Refused number line column)) (splitReply a)
+        → ReplySays (entries.SplitNumbers s) (λ number line column. measured.SplitOutcome s (split.Refused number line column))
+        (splitReply a)
     says (split.Grid x y k) o = entries.grid o
     says (split.Refused k l c) o = (split-number o, o)
 

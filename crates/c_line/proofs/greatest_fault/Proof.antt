@@ -17,7 +17,7 @@ returns-2 c =
 returns-3 : tie.Need-returns-3
 returns-3 c =
     let h = c .before .before in
-    headroom-some (h .before .pre) (h .headroom .ensures) (c .enum-told2 .given .1)
+    absurd (headroom-some (h .before .pre) (h .headroom .ensures) (c .enum-told2 .given .1))
 
 pub greatest-fault-spec : {M : Type 1} → statement M
 greatest-fault-spec =

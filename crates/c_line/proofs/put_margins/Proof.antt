@@ -15,7 +15,8 @@ held : (c : tie.After-known-told) → SFits w64 (c .before .mesh .given .0 .0) �
 held c = search needs
 
 -- what the margins were asked of
-asked : (m : tie.After-margins) → m .margins .result ≡ marginsOf (numbers (rowOf (m .before .before .before .before .before .before .args .c)))
+asked : (m : tie.After-margins)
+    → m .margins .result ≡ marginsOf (numbers (rowOf (m .before .before .before .before .before .before .args .c)))
 asked m =
     let p = m .before .before .before in
     m .margins .ensures ∙ ap marginsOf (p .put-row .ensures ∙ ap numbers (p .before .before .work-row .ensures))
