@@ -7,33 +7,33 @@ use Rattle.margin.specs.Margin.{comparable, margin, fourMargins}
 use Rattle.margin.proofs.compare.Statement.{statement}
 use Rattle.margin.proofs.compare.Tie as tie
 
-first : (c : tie.After-comparable) → c .comparable .result ≡ comparable (c .before .args .mesh) (c .before .args .«tolerable_touch»)
-first c = rw (toZ-ofZ (c .before .fits .mesh), toZ-ofZ (c .before .fits .«tolerable_touch»)) at (c .comparable .ensures)
+first : (c : tie.After-comparable) → c .comparable .result ≡ comparable (c .before .args .mesh) (c .before .args .tolerable-touch)
+first c = rw (toZ-ofZ (c .before .fits .mesh), toZ-ofZ (c .before .fits .tolerable-touch)) at (c .comparable .ensures)
 
 second : (c : tie.After-comparable2)
-    → c .comparable2 .result ≡ comparable (c .before .before .before .args .step) (c .before .before .before .args .«tolerable_step»)
+    → c .comparable2 .result ≡ comparable (c .before .before .before .args .step) (c .before .before .before .args .tolerable-step)
 second c =
     let s = c .before .before .before in
-    rw (toZ-ofZ (s .fits .step), toZ-ofZ (s .fits .«tolerable_step»)) at (c .comparable2 .ensures)
+    rw (toZ-ofZ (s .fits .step), toZ-ofZ (s .fits .tolerable-step)) at (c .comparable2 .ensures)
 
 -- both pairs may be compared
 module _ (c : tie.Then2) where
   abbrev start : tie.Start
   start = c .before .before .before .before
 
-  mesh-tested : comparable (start .args .mesh) (start .args .«tolerable_touch») ≡ true
+  mesh-tested : comparable (start .args .mesh) (start .args .tolerable-touch) ≡ true
   mesh-tested = sym (first (c .before .before .before)) ∙ c .before .before .if1 .taken
 
-  step-tested : comparable (start .args .step) (start .args .«tolerable_step») ≡ true
+  step-tested : comparable (start .args .step) (start .args .tolerable-step) ≡ true
   step-tested = sym (second (c .before)) ∙ c .if2 .taken
 
 margin-requires : tie.Need-margin-requires
-margin-requires c κs = rw (toZ-ofZ (start c .fits .mesh), toZ-ofZ (start c .fits .«tolerable_touch»), mesh-tested c) tt
+margin-requires c κs = rw (toZ-ofZ (start c .fits .mesh), toZ-ofZ (start c .fits .tolerable-touch), mesh-tested c) tt
 
 margin-requires-2 : tie.Need-margin-requires-2
 margin-requires-2 c κs =
     let d = c .before in
-    rw (toZ-ofZ (start d .fits .step), toZ-ofZ (start d .fits .«tolerable_step»), step-tested d) tt
+    rw (toZ-ofZ (start d .fits .step), toZ-ofZ (start d .fits .tolerable-step), step-tested d) tt
 
 returns : tie.Need-returns
 unfolding fourMargins
@@ -42,10 +42,10 @@ returns c =
     let s = start d in
     let mesh =
     back (c .before .margin .result) (c .before .margin .ok)
-    ∙ (rw (toZ-ofZ (s .fits .mesh), toZ-ofZ (s .fits .«tolerable_touch»)) at (c .before .margin .ensures)) in
+    ∙ (rw (toZ-ofZ (s .fits .mesh), toZ-ofZ (s .fits .tolerable-touch)) at (c .before .margin .ensures)) in
     let step =
     back (c .margin2 .result) (c .margin2 .ok)
-    ∙ (rw (toZ-ofZ (s .fits .step), toZ-ofZ (s .fits .«tolerable_step»)) at (c .margin2 .ensures))
+    ∙ (rw (toZ-ofZ (s .fits .step), toZ-ofZ (s .fits .tolerable-step)) at (c .margin2 .ensures))
     in
     rw (mesh-tested d, step-tested d, mesh, step)
 

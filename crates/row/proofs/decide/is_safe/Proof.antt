@@ -9,8 +9,8 @@ use Rattle.row.proofs.decide.is_safe.Tie as tie
 
 -- the ends that are compared fit
 held : (s : tie.Start)
-    → SFits w64 (s .args .mesh .upper) × SFits w64 (s .args .«tolerable_touch» .lower) × SFits w64 (s .args .step .upper)
-    × SFits w64 (s .args .«tolerable_step» .lower)
+    → SFits w64 (s .args .mesh .upper) × SFits w64 (s .args .tolerable-touch .lower) × SFits w64 (s .args .step .upper)
+    × SFits w64 (s .args .tolerable-step .lower)
 held s = search needs
 
 returns : tie.Need-returns

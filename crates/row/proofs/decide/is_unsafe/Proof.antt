@@ -9,7 +9,7 @@ use Rattle.row.proofs.decide.is_unsafe.Tie as tie
 
 -- the ends that are compared fit
 held : (s : tie.Start)
-    → SFits w64 (s .args .«tolerable_touch» .upper) × SFits w64 (s .args .mesh .lower) × SFits w64 (s .args .«tolerable_step» .upper)
+    → SFits w64 (s .args .tolerable-touch .upper) × SFits w64 (s .args .mesh .lower) × SFits w64 (s .args .tolerable-step .upper)
     × SFits w64 (s .args .step .lower)
 held s = search needs
 
