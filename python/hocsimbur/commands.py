@@ -10,7 +10,7 @@ from typing import Callable, List, Optional, TypeVar
 from . import __version__, checking, core, listing, sheets, site, spreadsheet
 from .amounts import Unclear, length
 from .decimals import exact
-from .output import HELD, REFUSED, WELL, read, show, tell, write
+from .output import HELD, REFUSED, WELL, Failed, read, show, tell, write
 from .words import Asked, refusal
 
 Answer = TypeVar("Answer")
@@ -100,14 +100,19 @@ def summary(arguments: argparse.Namespace) -> int:
 # ---- estimators
 
 def _one_line(arguments: argparse.Namespace) -> bytes:
-    """The sheet with the one line that a station and a season choose; the sheet itself where nothing is chosen."""
+    """The sheet with the one line that a station and a season choose, and with another length of rods; itself where nothing is chosen.
+
+    Of rods, rodlen and place only rodlen is read, but a line has all three or none."""
     sheet, station, season = read(arguments.file), arguments.station, arguments.season
-    if station is None and season is None:
+    if station is None and season is None and arguments.rodlen is None:
         return sheet
     ask(lambda: core.rows(sheet), Asked(sheet), arguments.file)
     chosen = [case for case in sheets.cases(sheet) if station in (None, case["station"]) and season in (None, case["season"])]
     if not chosen:
         raise Stopped([f"the sheet has no line for {_chosen(station, season)}"], of=arguments.file)
+    if arguments.rodlen is not None:
+        rods = {"rods": 4, "rodlen": _clear("rodlen", length, arguments.rodlen), "place": 1}
+        chosen = [dict(case, **rods) for case in chosen]
     return sheets.text(chosen)
 
 
@@ -139,7 +144,7 @@ def fewest(arguments: argparse.Namespace) -> int:
 
 def wenner(arguments: argparse.Namespace) -> int:
     if bool(arguments.reading) == bool(arguments.file):
-        raise Stopped(["give either a file of readings or --reading METRES,OHMS once for each reading"])
+        raise Failed("give either a file of readings or --reading METRES,OHMS once for each reading")
     if arguments.file:
         measured = _clear(arguments.file, site.readings, read(arguments.file))
     else:
@@ -154,11 +159,11 @@ def wenner(arguments: argparse.Namespace) -> int:
 def staged(arguments: argparse.Namespace) -> int:
     if arguments.file:
         if arguments.injected or arguments.branch:
-            raise Stopped(["give either a file or --injected and --branch"])
+            raise Failed("give either a file or --injected and --branch")
         measured = _clear(arguments.file, site.currents, read(arguments.file))
     else:
         if not arguments.injected:
-            raise Stopped(["give a file, or --injected and a --branch for each branch"])
+            raise Failed("give a file, or --injected and a --branch for each branch")
         measured = [_clear(f"current {one}", site.current, one) for one in [arguments.injected, *(arguments.branch or [])]]
     handed, moved = site.rounded(measured) if measured else ([], 0)
     split = ask(lambda: core.split(handed), Asked(parts=handed))
@@ -170,20 +175,28 @@ def staged(arguments: argparse.Namespace) -> int:
 
 # ---- sheets from elsewhere
 
-def import_sheet(arguments: argparse.Namespace) -> int:
-    try:
-        made = spreadsheet.make(read(arguments.file))
-    except spreadsheet.Refusals as refusals:
-        raise Stopped(refusals.said, of=arguments.file, after="nothing was written") from None
-    for change in made.changes.told():
-        tell(change)
+def _accepted(made: spreadsheet.Made) -> None:
+    """Asks the library whether it takes what was made: a sheet of today's names, or one of the former for `carry`."""
     if {"ms", "lines"} & set(sheets.cells(sheets.lines(made.sheet)[0])):
         ask(lambda: core.carry(made.sheet), Asked(made.sheet, former=True, line_numbers=made.numbers))
         tell("note: the sheet has the former 18 names; `hocsimbur carry` makes today's sheet of it")
-    else:
-        found = checking.check(made.sheet, made.numbers)
-        if found:
-            raise Stopped([one.said for one in found], of=arguments.file, after="nothing was written")
+        return
+    found = checking.check(made.sheet, made.numbers)
+    if found:
+        raise Stopped([one.said for one in found])
+
+
+def import_sheet(arguments: argparse.Namespace) -> int:
+    try:
+        made = spreadsheet.make(read(arguments.file))
+        for change in made.changes.told():
+            tell(change)
+        _accepted(made)
+    except spreadsheet.Refusals as refusals:
+        raise Stopped(refusals.said, of=arguments.file, after="nothing was written") from None
+    except Stopped as stopped:
+        stopped.of, stopped.after = arguments.file, "nothing was written"
+        raise
     if arguments.output:
         write(arguments.output, made.sheet, arguments.force, sources=(arguments.file,))
     else:

@@ -153,8 +153,7 @@ def _side(refused: Refused, asked: Asked) -> str:
 
 
 def _no_rods(refused: Refused, asked: Asked) -> str:
-    return (f"{asked.place(2, 'rodlen')}: the length of a rod is 0 mm; yards with rods are tried too, so give rods, rodlen and place, "
-            "for example 4, 3000 and 1 (only rodlen is read of the three)")
+    return f"{asked.place(2, 'rodlen')}: the length of a rod is 0 mm, and yards with rods are tried too; give their length, as --rodlen 3m"
 
 
 def _test(refused: Refused, asked: Asked) -> str:

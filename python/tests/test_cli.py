@@ -104,6 +104,11 @@ class Statuses(unittest.TestCase):
             done = run("fewest", "examples/rods.csv", "--station", "303", f"--side={side}")
             self.assertEqual((done.status, done.out), (1, ""), side)
             self.assertRegex(done.err, "^(examples/rods.csv: )?side: ")
+        self.assertEqual(run("fewest", "tests/sample.csv", "--season", "1", "--side", "70m", "--rodlen", "7.5m", "--csv").out, "found,8,40,33\n")
+        self.assertIn("rodlen (column 19): 500 mm is not in 0 or 1000..10000",
+                      run("fewest", "tests/sample.csv", "--season", "1", "--side", "70m", "--rodlen", "500mm").err)
+        self.assertIn("rodlen: '3 feet' is no length", run("fewest", "tests/sample.csv", "--season", "1", "--side", "70m", "--rodlen", "3 feet").err)
+        self.assertIn("give their length, as --rodlen 3m", run("fewest", "tests/sample.csv", "--season", "1", "--side", "70m").err)
         self.assertIn("only one is taken here", run("fewest", "examples/rods.csv", "--side", "60m").err)
         self.assertIn("no line for station 9", run("fewest", "examples/rods.csv", "--side", "60m", "--station", "9").err)
 

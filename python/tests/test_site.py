@@ -99,11 +99,16 @@ class Readings(unittest.TestCase):
                 (["--reading", "1,1001"], "reading 1, resistance: 1,001 Ω is not in 0.001..1,000 Ω"),
                 (["--reading", "4294968.296,10"], "reading 4294968.296,10: distance: 4,294,968.296 is far out of range"),
                 (["--reading=-1,1"], "reading -1,1: distance: −1 is far out of range"),
-                ([], "give either a file of readings or --reading METRES,OHMS once for each reading"),
                 (["tests/sample.csv"], "tests/sample.csv: line 1: the names must be metres,ohms; here they are station,season")):
             done = run("wenner", *arguments)
             self.assertEqual((done.status, done.out), (1, ""))
             self.assertTrue(done.err.startswith(said), done.err)
+
+    def test_neither_or_both(self):
+        for command, arguments in (("wenner", []), ("wenner", ["x.csv", "--reading", "1,1"]), ("staged", []), ("staged", ["--branch", "1,0"]),
+                                   ("staged", ["x.csv", "--branch", "1,0"]), ("staged", ["x.csv", "--injected", "1,0"])):
+            done = run(command, *arguments)
+            self.assertEqual((done.status, done.out, done.err[:16]), (3, "", "hocsimbur: give "))
 
     def test_texts_refused(self):
         for text, said in ((b"", "the text is empty; its first line is metres,ohms"), (b"metres,ohms\n", "there is no reading"),
@@ -179,9 +184,6 @@ class Staged(unittest.TestCase):
                 (["--injected", "1000,0", "--branch", "4@360.1"], "current 4@360.1: angle: 360.1 is not in −360..360 degrees"),
                 (["--injected", "0,0", "--branch", "1,0"], "the injected current is 0"),
                 (["--injected", "2000,0", "--branch", "1,0"], "injected, in-phase part: 2,000 A is not in −1,000..1,000 A"),
-                ([], "give a file, or --injected and a --branch for each branch"),
-                (["--branch", "1,0"], "give a file, or --injected and a --branch for each branch"),
-                (["tests/sample.csv", "--branch", "1,0"], "give either a file or --injected and --branch"),
                 (["tests/sample.csv"], "tests/sample.csv: line 1: the names must be in_phase,quadrature or size,angle")):
             done = run("staged", *arguments)
             self.assertEqual((done.status, done.out), (1, ""))

@@ -186,8 +186,8 @@ class OfOthers(unittest.TestCase):
         rods = changed(ONE, rods=4, rodlen=3000, place=1)
         self.assertEqual(said(lambda: core.fewest(rods, 2000), Asked(rods, most_lines=1, side=2000)), "side: 2 m is not in 2.5..720 m")
         self.assertEqual(said(lambda: core.fewest(ONE, 70000), Asked(ONE, most_lines=1, side=70000)),
-                         "line 2, rodlen (column 19): the length of a rod is 0 mm; yards with rods are tried too, so give rods, rodlen and "
-                         "place, for example 4, 3000 and 1 (only rodlen is read of the three)")
+                         "line 2, rodlen (column 19): the length of a rod is 0 mm, and yards with rods are tried too; "
+                         "give their length, as --rodlen 3m")
         self.assertEqual(said(lambda: core.fewest(SAMPLE, 70000), Asked(SAMPLE, most_lines=1)),
                          "line 3: the sheet has 2 lines of values, and only one is taken here; choose it by --station and --season")
 
