@@ -68,6 +68,7 @@ class Command(unittest.TestCase):
     def test_no_refusal(self):
         self.assertEqual(run("check", "tests/sample.csv"), (0, "2 lines, no refusal\n", ""))
         self.assertEqual(run("check", "--csv", "tests/sample.csv"), (0, "", ""))
+        self.assertEqual(run("check", "-", stdin=b"".join(SAMPLE.splitlines(keepends=True)[:2])), (0, "1 line, no refusal\n", ""))
 
     def test_conclusions(self):
         self.assertTrue(run("check", "-", stdin=changed(fault=1)).out.endswith("\n1 line is refused; nothing was worked\n"))

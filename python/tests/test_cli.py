@@ -10,7 +10,7 @@ import sys
 import tempfile
 import unittest
 
-from hocsimbur import cli, core, help_texts, terminal
+from hocsimbur import cli, core, help_texts, report, terminal
 
 from .common import PYTHON, ROOT, SAMPLE, process, run
 
@@ -63,7 +63,8 @@ class Help(unittest.TestCase):
 
 class Statuses(unittest.TestCase):
     def test_release(self):
-        self.assertEqual(run("release", "examples/portfolio.csv", "--licence", "examples/licence.csv").status, 2)
+        done = run("release", "examples/portfolio.csv", "--licence", "examples/licence.csv")
+        self.assertEqual((done.status, done.err), (2, ""))
         self.assertEqual(run("release", "examples/refused-5.csv").status, 1)
         self.assertEqual(run("release", "-", "--licence", "examples/licence.csv", stdin=b"").status, 1)
         with tempfile.TemporaryDirectory() as folder:
@@ -97,9 +98,8 @@ class Statuses(unittest.TestCase):
         self.assertEqual(run("fewest", "examples/rods.csv", "--station", "303", "--side", "60m", "--csv"), (0, "found,9,28,63\n", ""))
         for side in ("60000", "60000mm", "60.000m"):
             self.assertEqual(run("fewest", "examples/rods.csv", "--station", "303", "--side", side, "--csv").out, "found,9,28,63\n")
-        self.assertEqual(run("fewest", "examples/rods.csv", "--station", "303", "--side", "2501mm").status, 0)
-        done = run("fewest", "examples/rods.csv", "--station", "303", "--side", "719.999m")
-        self.assertEqual((done.status, done.out[:17]), (2, "no yard was tried"))
+        self.assertEqual(run("fewest", "examples/rods.csv", "--station", "303", "--side", "719.999m"), (
+            2, "no yard was tried: no count of conductors from 2 to 25 parts 719.999 m into whole mm from 2.5 to 30 m\n", ""))
         for side in ("60,0m", "60.0005m", "60km", "1m", "-60m", "1" * 30):
             done = run("fewest", "examples/rods.csv", "--station", "303", f"--side={side}")
             self.assertEqual((done.status, done.out), (1, ""), side)
@@ -118,6 +118,9 @@ class Statuses(unittest.TestCase):
             done = run("report", "tests/sample.csv", "--date", "1 July 2026", "-o", str(page))
             self.assertEqual((done.status, done.out), (2, ""))
             self.assertEqual(run("report", "tests/sample.csv", "--date", "1 July 2026").out, page.read_text(encoding="utf-8"))
+            self.assertIn("sample.csv, 1 July 2026", page.read_text(encoding="utf-8"))
+            self.assertEqual(run("report", "-", "-o", str(page), stdin=SAMPLE).status, 2)
+            self.assertIn(f"standard input, {report.today()}", page.read_text(encoding="utf-8"))
             self.assertEqual(run("report", "examples/refused-5.csv", "-o", str(page)).status, 1)
 
     def test_next_of_no_station(self):
