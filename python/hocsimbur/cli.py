@@ -63,7 +63,7 @@ def _report(parser: argparse.ArgumentParser) -> None:
 
 
 def _next(parser: argparse.ArgumentParser) -> None:
-    _file(parser)
+    _sheet(parser)
     _licence(parser)
     parser.add_argument("--station", type=int, metavar="N", help="this station alone; without it every station that is held")
 

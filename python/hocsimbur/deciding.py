@@ -11,6 +11,7 @@ from .commands import Stopped, worked
 from .output import HELD, WELL, Failed, read, show, tell, write
 from .terminal import commas, paint
 
+NEXT_NAMES = ("station", "change", "kind", "season", "name", "value")
 RELEASE_NAMES = ("station", "decision", "missing", "unsafe", "undecided", "other_yard", "small_wire", "fault_A")
 
 
@@ -84,6 +85,13 @@ def _chosen(portfolio: decision.Portfolio, station: Optional[int]) -> List[decis
     return [one for one in named if not one.released]
 
 
+def _cells(station: decision.Station, changes: List[advice.Change]) -> List[Tuple[object, ...]]:
+    """The cells that each change sets: the station, the change's number and kind, the season, the name and the value."""
+    return [(station.station, number, change.kind, line.season, name, case[name])
+            for number, change in enumerate(changes, 1) for line, case in zip(station.lines, change.lines)
+            for name in case if case[name] != line.case[name]]
+
+
 def next_changes(arguments: argparse.Namespace) -> int:
     granted = _licence(arguments)
 
@@ -92,6 +100,9 @@ def next_changes(arguments: argparse.Namespace) -> int:
         return [(one, advice.changes(sheet, one.station, granted)) for one in held]
 
     found = worked(arguments, question)
+    if arguments.csv:
+        show(commas(NEXT_NAMES, [cell for one, changes in found for cell in _cells(one, changes)]))
+        return HELD if found else WELL
     if not found:
         show("nothing is held, nothing is to be changed\n")
         return WELL

@@ -3,6 +3,8 @@ from __future__ import annotations
 
 from typing import Dict, NamedTuple
 
+from . import __version__
+
 ABOUT = """Substation ground grids after IEEE Std 80: verdicts, release, reports and refusals in words.
 Every number comes from the proved library; what is shown is rounded outward."""
 
@@ -104,7 +106,8 @@ COMMANDS: Dict[str, Text] = {
 """),
     "next": Text(
         "the least single changes that make a held station safe",
-        "For a station that is held, the least single changes that are answered safe in every season.",
+        "For a station that is held, the least single changes that are answered safe in every season.\n"
+        "With --csv: every cell of the sheet that a change sets.",
         """  $ hocsimbur next examples/portfolio.csv --licence examples/licence.csv --station 118
   station 118 Dunmore  HELD      wire: 495 kcmil needed, 5.0 mm solid has 38
     wire: 17.9 mm, solid and round (now 5.0 mm); a stranded one must be thicker
@@ -174,7 +177,7 @@ COMMANDS: Dict[str, Text] = {
     "version": Text(
         "the versions of this package and of the library",
         "The versions of this package and of the library that it asks.",
-        """  $ hocsimbur version
-  hocsimbur 1.0.0, library 1.0.0
+        f"""  $ hocsimbur version
+  hocsimbur {__version__}, library {__version__}
 """),
 }

@@ -10,7 +10,7 @@ import sys
 import tempfile
 import unittest
 
-from hocsimbur import cli, core, help_texts, report, terminal
+from hocsimbur import cli, core, help_texts, report, sheets, terminal
 
 from .common import PYTHON, ROOT, SAMPLE, process, run
 
@@ -122,6 +122,19 @@ class Statuses(unittest.TestCase):
             self.assertEqual(run("report", "-", "-o", str(page), stdin=SAMPLE).status, 2)
             self.assertIn(f"standard input, {report.today()}", page.read_text(encoding="utf-8"))
             self.assertEqual(run("report", "examples/refused-5.csv", "-o", str(page)).status, 1)
+
+    def test_next_for_machines(self):
+        """Each change, put into the sheet cell by cell, is answered safe in every season of the station."""
+        sheet = (ROOT / "examples" / "portfolio.csv").read_bytes()
+        done = run("next", "examples/portfolio.csv", "--licence", "examples/licence.csv", "--station", "104", "--csv")
+        names, *lines = [line.split(",") for line in done.out.split()]
+        self.assertEqual((done.status, names), (2, ["station", "change", "kind", "season", "name", "value"]))
+        self.assertLess({"rods", "conductors", "spacing", "resistivity", "shock"}, {line[2] for line in lines} | {"more"})
+        for number in {line[1] for line in lines}:
+            cases = [case for case in sheets.cases(sheet) if case["station"] == 104]
+            for _, _, _, season, name, value in (line for line in lines if line[1] == number):
+                next(case for case in cases if case["season"] == int(season))[name] = int(value)
+            self.assertEqual({row.verdict for row in core.rows(sheets.text(cases))}, {core.Verdict.SAFE})
 
     def test_next_of_no_station(self):
         done = run("next", "tests/sample.csv", "--station", "8")
