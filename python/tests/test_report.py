@@ -7,7 +7,7 @@ import re
 import unittest
 from typing import Dict, List
 
-from hocsimbur import core, decision, licence, report, sheets
+from hocsimbur import core, decision, licence, reasons, report, sheets
 
 from . import golden
 from .dom import Node, cells, read
@@ -38,6 +38,10 @@ def up(number: int, scale: int, places: int) -> str:
 def ends(pair, scale: int, places: int) -> str:
     lower, upper = down(pair[0], scale, places), up(pair[1], scale, places)
     return lower if lower == upper else f"{lower} to {upper}"
+
+
+def plain(text: str) -> str:
+    return text.replace("\u00a0", " ")
 
 
 def margin_words(margin: int, voltage, tolerable) -> str:
@@ -282,10 +286,16 @@ class Page(unittest.TestCase):
             for said in ("portfolio.csv", sha, f"Hocsimbur {core.version()}", DATE):
                 self.assertIn(said, one.text())
 
-    def test_decision_sentences(self):
-        for station in with_lines():
-            said = section(station).one("p", "decision").text()
-            self.assertTrue(said.startswith("Released:" if ASKED.release[station].released else "Held:"), station)
+    def test_sentences(self):
+        """Every sentence about a station stands on its page, in order."""
+        for one in decision.portfolio(SHEET, LICENCE).stations:
+            if one.lines:
+                page, wire = section(one.station), [] if one.answer.small_wire else [reasons.wire(one)]
+                self.assertEqual(page.one("p", "decision").text(), plain(" ".join(reasons.decision(one))))
+                said = [reasons.differences(one), reasons.outside(one), *reasons.undecided(one), reasons.current(one), *wire]
+                cautions = [f"Caution: {caution}" for caution in reasons.cautions(one)]
+                self.assertEqual([item.text() for item in page.all("li")], [plain(text) for text in said + cautions if text])
+                self.assertEqual(page.one("p", "decision").text().split(":")[0], "Released" if ASKED.release[one.station].released else "Held")
 
     def test_cautions(self):
         told = {station: len(list(section(station).all("li", "caution"))) for station in with_lines()}
