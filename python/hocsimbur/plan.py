@@ -11,7 +11,8 @@ from typing import Dict, List, Tuple
 from . import decimals, labels
 from .core import Pair
 from .decimals import NO_BREAK as NB
-from .decision import YARD, Line, Station
+from .decision import Station
+from .lines import YARD, Line
 
 LEFT, TOP, WIDTH, HEIGHT = 300, 140, 2140, 1320  # the room for the grid itself
 WHOLE_WIDTH = 2500

@@ -11,8 +11,9 @@ from .asking import FAULT_MOST
 from .core import Pair, Verdict
 from .decimals import NO_BREAK as NB
 from .decimals import grouped
-from .decision import BELOW, NOT_PARTED, Compared, Missing, OtherYard, Portfolio, Reason, Size, Station, Undecided, Unsafe, kcmil
+from .decision import Missing, OtherYard, Portfolio, Reason, Size, Station, Undecided, Unsafe, kcmil
 from .labels import listed
+from .lines import BELOW, NOT_PARTED, Compared
 
 
 class Told(NamedTuple):

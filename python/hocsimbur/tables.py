@@ -7,8 +7,9 @@ from typing import Callable, List, NamedTuple, Tuple
 from . import decimals, labels, reasons
 from .core import Pair
 from .decimals import NO_BREAK as NB
-from .decision import ABOVE, BELOW, NOT_PARTED, YARD, Compared, Line, Station
+from .decision import Station
 from .drawing import LIMIT, Scale, axis, bar, between, mark, no_bar, word
+from .lines import ABOVE, BELOW, NOT_PARTED, YARD, Compared, Line
 from .markup import caption, cell, element, group, head, row, seen, span, spoken, table
 from .names import METALS
 

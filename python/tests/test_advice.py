@@ -4,13 +4,13 @@ from __future__ import annotations
 import decimal
 import unittest
 
-from hocsimbur import advice, asking, core, decision, sheets
+from hocsimbur import advice, asking, candidates, core, decision, sheets
 from hocsimbur.core import Verdict
 
 from .portfolios import CASES, LICENCE, SHEET, case, granted, verdicts
 
-KINDS = {"rods": advice.rods, "conductors": advice.conductors, "spacing": advice.spacing, "thickness": advice.thickness,
-         "resistivity": advice.resistivity, "layer": advice.layer, "shock": advice.shock}
+KINDS = {"rods": candidates.rods, "conductors": candidates.conductors, "spacing": candidates.spacing, "thickness": candidates.thickness,
+         "resistivity": candidates.resistivity, "layer": candidates.layer, "shock": candidates.shock}
 CHANGED = {"rods": {"rods", "rodlen", "place"}, "conductors": {"across", "along", "space"}, "spacing": {"space"}, "thickness": {"thick"},
            "resistivity": {"layer"}, "layer": {"layer", "thick"}, "shock": {"shock"}, "wire": {"dia"}, "yard": set(decision.YARD)}
 
@@ -63,8 +63,8 @@ class Safe(unittest.TestCase):
         tried = 0
         for station, change in self.each():
             if change.kind in KINDS:
-                candidates = [one.lines for one in KINDS[change.kind](own(station))]
-                before = candidates[:candidates.index(change.lines)]
+                tries = [one.lines for one in KINDS[change.kind](own(station))]
+                before = tries[:tries.index(change.lines)]
                 tried += len(before)
                 for lines in before:
                     self.assertNotEqual(set(verdicts(lines)), {Verdict.SAFE}, (station, change.words))
@@ -149,18 +149,18 @@ class Words(unittest.TestCase):
         found = {change.kind: change.lines for change in advice.changes(sheets.text(lines), 104, granted(104, (1, 2)))}
         self.assertEqual([one["layer"] for one in found["resistivity"]], [9000, 3200])
         self.assertEqual([one["shock"] for one in found["shock"]], [40, 350])
-        self.assertEqual({one.lines[0]["thick"] for one in advice.thickness(tuple(lines)) if one.lines[1]["thick"] <= 250}, {250})
+        self.assertEqual({one.lines[0]["thick"] for one in candidates.thickness(tuple(lines)) if one.lines[1]["thick"] <= 250}, {250})
 
     def test_from_four_rods_up(self):
-        counts = [one.lines[0]["rods"] for one in advice.rods((case(101, 1, rods=0, rodlen=0, place=0),))]
+        counts = [one.lines[0]["rods"] for one in candidates.rods((case(101, 1, rods=0, rodlen=0, place=0),))]
         self.assertEqual(counts, list(range(4, 201)))
-        self.assertEqual(next(advice.rods((case(101, 1, rods=2),))).lines[0]["rods"], 4)
-        self.assertEqual(next(advice.rods((case(101, 1, rods=9),))).lines[0]["rods"], 10)
+        self.assertEqual(next(candidates.rods((case(101, 1, rods=2),))).lines[0]["rods"], 4)
+        self.assertEqual(next(candidates.rods((case(101, 1, rods=9),))).lines[0]["rods"], 10)
 
     def test_outline_stays(self):
         for values in (dict(), dict(across=13, along=7, space=4950), dict(across=2, along=3, space=30000)):
             before = case(101, 1, **values)
-            for one in advice.conductors((before,)):
+            for one in candidates.conductors((before,)):
                 after = one.lines[0]
                 for way in ("across", "along"):
                     self.assertEqual((after[way] - 1) * after["space"], (before[way] - 1) * before["space"])
@@ -170,7 +170,7 @@ class Words(unittest.TestCase):
         lines = (case(101, 1), case(101, 2, layer=100, thick=20), case(101, 3, shock=9))
         for kind in ("rods", "conductors", "spacing", "thickness", "resistivity", "shock"):
             asking.verdicts([one for tried in KINDS[kind](lines) for one in tried.lines])  # none is refused
-        asking.verdicts([one for tried in advice.layer((case(101, 1, layer=0, thick=0), case(101, 2))) for one in tried.lines])
+        asking.verdicts([one for tried in candidates.layer((case(101, 1, layer=0, thick=0), case(101, 2))) for one in tried.lines])
 
     def test_missing(self):
         self.assertEqual([change.words for change in of(110)], ["missing: measure and add a line for season 3"])

@@ -6,7 +6,8 @@ import unittest
 
 from hocsimbur import asking, core, decision, licence, sheets
 from hocsimbur.core import Verdict
-from hocsimbur.decision import ABOVE, BELOW, NOT_PARTED, Missing, OtherYard, SmallWire, Undecided, Unsafe
+from hocsimbur.decision import Missing, OtherYard, SmallWire, Undecided, Unsafe
+from hocsimbur.lines import ABOVE, BELOW, NOT_PARTED
 
 from .portfolios import CASES, LICENCE, SHEET, case, granted, station
 

@@ -4,9 +4,9 @@ from __future__ import annotations
 import unittest
 
 from hocsimbur import decision, plan, reasons
-from hocsimbur.decimals import NO_BREAK
-from hocsimbur.decision import Compared
 from hocsimbur.core import Pair
+from hocsimbur.decimals import NO_BREAK
+from hocsimbur.lines import Compared
 
 from .portfolios import LICENCE, SHEET, case, granted, station
 

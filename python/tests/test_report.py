@@ -8,6 +8,7 @@ import unittest
 from typing import Dict, List
 
 from hocsimbur import core, decision, licence, reasons, report, sheets
+from hocsimbur.lines import YARD
 
 from . import golden
 from .dom import Node, cells, read
@@ -141,7 +142,7 @@ class StationPages(unittest.TestCase):
             marked = [name for name, row in zip(names, rows) if "differs" in row.classes]
             self.assertEqual(marked, [name for name in names if len({one[name] for one in lines}) > 1])
             of_yard = [name for name, row in zip(names, rows) if "yard" in row.classes]
-            self.assertEqual(of_yard, [name for name in marked if name in decision.YARD])
+            self.assertEqual(of_yard, [name for name in marked if name in YARD])
 
     def test_bars(self):
         for station in with_lines():
@@ -295,7 +296,8 @@ class Page(unittest.TestCase):
                 said = [reasons.differences(one), reasons.outside(one), *reasons.undecided(one), reasons.current(one), *wire]
                 cautions = [f"Caution: {caution}" for caution in reasons.cautions(one)]
                 self.assertEqual([item.text() for item in page.all("li")], [plain(text) for text in said + cautions if text])
-                self.assertEqual(page.one("p", "decision").text().split(":")[0], "Released" if ASKED.release[one.station].released else "Held")
+                word = "Released" if ASKED.release[one.station].released else "Held"
+                self.assertEqual(page.one("p", "decision").text().split(":")[0], word)
 
     def test_cautions(self):
         told = {station: len(list(section(station).all("li", "caution"))) for station in with_lines()}

@@ -6,8 +6,8 @@ import unittest
 
 from .common import PYTHON
 
-MODULES = ("advice", "asking", "decimals", "decision", "drawing", "labels", "licence", "markup", "pages", "plan", "reasons", "report",
-           "style", "tables")
+MODULES = ("advice", "asking", "candidates", "decimals", "decision", "drawing", "labels", "licence", "lines", "markup", "pages", "plan",
+           "reasons", "report", "style", "tables")
 
 
 class Source(unittest.TestCase):
