@@ -33,11 +33,6 @@ def verdicts(cases: Sequence[Case]) -> List[core.Verdict]:
     return [row.verdict for row in _each(cases, lambda sheet, count: core.rows(sheet))]
 
 
-def margins(cases: Sequence[Case]) -> List[core.Margins]:
-    """The margins of each case."""
-    return _each(cases, lambda sheet, count: core.margins(sheet))
-
-
 def small_wires(cases: Sequence[Case]) -> List[bool]:
     """Of each case, whether its conductor is too small."""
     def ask(sheet: bytes, count: int) -> List[bool]:
