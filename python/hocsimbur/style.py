@@ -164,6 +164,7 @@ figcaption{font-size:.78rem;color:var(--grey);line-height:1.35;margin-top:.2rem}
   .pf .why,.pf .why td{display:block}.pf .why td{padding:.35rem 0 0}
   .key span{white-space:normal;display:block}
   .two.top,.two.low{display:block}
+  .asides li+li{margin-top:.35rem}
   .plan,.wrk,.two.low>div+div{margin-top:1.2rem}
   /* bars: season and words over a bar over the two voltages */
   .bars,.bars tbody,.bars thead{display:block}.bars thead th:not(.axh){display:none}.bars thead tr,.bars thead .axh{display:block;padding:0}.bars caption{display:block}
