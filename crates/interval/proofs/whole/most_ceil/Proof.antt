@@ -26,7 +26,8 @@ small c =
     let n = negℤ (s .a) in
     let below = size-neg (s .a) in
     rw (lesser c)
-    (min-cases (λ z. natAbs z < 2 ^ 63) (floorZ n (s .d)) (floorZ n (s .e)) (λ h. omega (arith, size-floor n (s .d), below, c .before .pre .1))
+    (min-cases (λ z. natAbs z < 2 ^ 63) (floorZ n (s .d)) (floorZ n (s .e))
+    (λ h. omega (arith, size-floor n (s .d), below, c .before .pre .1))
     (λ h. omega (arith, size-floor n (s .e), below, c .before .pre .1)))
 
 sub-result : tie.Need-sub-result

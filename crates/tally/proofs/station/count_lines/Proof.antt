@@ -26,7 +26,8 @@ within c = omega (arith, start c .pre .1 .1, c .before .loop .inv .within, c .lo
 bounds : (c : tie.After-line-case Inv-loop μ-loop) → Bounds (c .line-case .result)
 bounds c =
     let i = c .before .before .before in
-    rw (c .line-case .ensures) (start i .pre .1 .0 (i .before .loop .i - 1) (omega (arith, i .before .loop .inv .within, i .loop-test .taken)))
+    rw (c .line-case .ensures)
+    (start i .pre .1 .0 (i .before .loop .i - 1) (omega (arith, i .before .loop .inv .within, i .loop-test .taken)))
 
 loop-holds : tie.Need-loop-holds Inv-loop μ-loop
 loop-holds c = counting-start _ _ _ _

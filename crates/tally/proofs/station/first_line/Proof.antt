@@ -38,7 +38,8 @@ line-case-requires c κs = within (c .before .before)
 
 loop-again : tie.Need-loop-again Inv-loop μ-loop
 loop-again c =
-    let i = c .before .before .before in first-own (i .before .loop .inv) (i .loop-test .taken) (c .before .if1 .taken) (c .line-case .ensures)
+    let i = c .before .before .before in
+    first-own (i .before .loop .inv) (i .loop-test .taken) (c .before .if1 .taken) (c .line-case .ensures)
 
 loop-again-2 : tie.Need-loop-again-2 Inv-loop μ-loop
 loop-again-2 c = let i = c .before .before in first-other (i .before .loop .inv) (i .loop-test .taken) (c .if1 .left)
