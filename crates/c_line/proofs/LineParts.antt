@@ -3,7 +3,7 @@ use Prim.Native.Nat.{ℕ, zero, suc, _≤_}
 use mathlib.Core.Path.{_≡_, refl, sym, ap, _∙_}
 use mathlib.Core.List.{List, [], _∷_, _++_, append-nil}
 use native.Mathlib.Omega.{arith}
-use lib.IntN.{ℤ, pos}
+use lib.IntN.{ℤ}
 use lib.ListN.{length, drop, set}
 use lib.Seq.{drop-length}
 use mir.Syntax.{w64}
@@ -12,7 +12,7 @@ use mir.Facts.{toZ-ofZ}
 use Rattle.interval.proofs.Bits.{read}
 use Rattle.text.proofs.Clash.{clash}
 use Rattle.case.specs.declared.Case.{Case}
-use Rattle.case.specs.Check.{recordJudged, recordAnswer}
+use Rattle.case.specs.Check.{recordAnswer}
 use Rattle.case.specs.Bounds.{Bounds}
 use Rattle.case.proofs.BoundsSound.{bounds-sound}
 use Rattle.row.specs.Row.{numbers}

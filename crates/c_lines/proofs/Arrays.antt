@@ -1,6 +1,6 @@
 -- The claim about a sheet and an array, from the answer and the numbers of each line; over the question, and so over width and numbers.
 use Prim.Native.Nat.{ℕ, _+_, _*_, _-_, _≤_, _<_, _^_}
-use mathlib.Core.Path.{_≡_, refl, sym, _∙_}
+use mathlib.Core.Path.{_≡_, refl}
 use mathlib.Core.Bool.{Bool, true, false, cond}
 use mathlib.Core.List.{List, []}
 use native.Mathlib.Nat.{mul-le-mul}

@@ -1,6 +1,6 @@
 -- What the entries for programs in C tell: one manner, and the operations that fill arrays of the caller's.
 use Prim.Native.Nat.{ℕ, _≤_, _<_}
-use mathlib.Core.Path.{_≡_, refl, ap, _∙_}
+use mathlib.Core.Path.{_≡_, refl, _∙_}
 use mathlib.Core.List.{List, [], _∷_}
 use native.Mathlib.Omega.{arith}
 use lib.IntN.{ℤ}
@@ -25,7 +25,6 @@ use Rattle.c_entry.specs.Place.{placeAfter}
 use Rattle.c_entry.specs.Told.{Told}
 use Rattle.c_counts.specs.Counts.{stationCount, pairCount, byteCount}
 use Rattle.c_questions.specs.Operations.{SummaryTold, ReleaseTold, CarryTold}
-use Rattle.claims.specs.Words.{Breaks}
 use Rattle.claims.specs.Summary as summary
 use Rattle.claims.specs.Releases as releases
 use Rattle.claims.specs.Carried as carrying

@@ -1,6 +1,5 @@
 -- `working_numbers` lists the ends one by one; each fits 64 bits with its sign.
 use borrow.Author.Needs.{needs}
-use mir.Syntax.{w64}
 use mir.Facts.{toZ-ofZ}
 use Rattle.interval.proofs.Bits.{Held}
 use Rattle.c_line.specs.Line.{workingNumbers}

@@ -9,7 +9,6 @@ use Rattle.tables.specs.Parts.{partAt}
 use Rattle.tables.proofs.Filling.{filled-start, filled-end}
 use Rattle.case.specs.Columns.{nameCount}
 use Rattle.case.specs.Case.{caseOf}
-use Rattle.case.specs.Bounds.{Bounds}
 use Rattle.sheet.specs.Rows.{storedCases}
 use Rattle.sheet.proofs.StoredCases.{cases-count, stored-case}
 use Rattle.c_lines.proofs.Arrays.{FilledTo, part-within, line-filled}
