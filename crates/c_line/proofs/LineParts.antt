@@ -26,13 +26,14 @@ use Rattle.working.specs.declared.Quantities.{Quantities}
 use Rattle.working.specs.declared.Worked.{Worked}
 use Rattle.working.specs.declared.Worked.the-variants as worked
 use Rattle.working.specs.Ends.{workingOf}
+use Rattle.working.specs.Numbers.{workingNumbers}
 use Rattle.working.specs.Working.{workingAnswer, RightWorked, WorkingAnswered}
 use Rattle.headroom.specs.declared.Room.{Room}
 use Rattle.headroom.specs.declared.Room.the-variants as room
 use Rattle.headroom.specs.Headroom as headroom
 use Rattle.c_line.specs.declared.Question.{Question}
 use Rattle.c_line.specs.declared.Question.the-variants.{Margins, Working, Headroom}
-use Rattle.c_line.specs.Line.{widthOf, workingNumbers, MarginsLine, WorkingLine, RightFault, LineOf}
+use Rattle.c_line.specs.Line.{widthOf, MarginsLine, WorkingLine, RightFault, LineOf}
 
 -- as many numbers as a part has take the place of all of it
 pub put-whole : (zs part : List ℤ) → length part ≡ length zs → zs ++ drop (length zs) part ≡ zs

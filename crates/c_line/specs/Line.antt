@@ -8,8 +8,8 @@ use Rattle.row.specs.Row.{numbers}
 use Rattle.row.specs.Ends.{rowOf}
 use Rattle.margin.specs.declared.Compared.the-variants as compared
 use Rattle.margin.specs.Margin.{marginsOf}
-use Rattle.working.specs.declared.Quantities.{Quantities}
 use Rattle.working.specs.Ends.{workingOf}
+use Rattle.working.specs.Numbers.{workingNumbers}
 use Rattle.working.specs.Working.{RightWorking}
 use Rattle.headroom.specs.Headroom as room
 use Rattle.c_line.specs.declared.Question.{Question}
@@ -27,15 +27,6 @@ pub record MarginsLine (c : Case) (part : List ℤ) : Type 0 where
   pub step : ℤ
   pub is : part ≡ mesh ∷ step ∷ []
   pub margins : marginsOf (numbers (rowOf c)) ≡ compared.Margins mesh step
-
--- the lower and the upper end of each quantity, in the order of the working
-unfoldable pub workingNumbers : Quantities → List ℤ
-workingNumbers w =
-    w .cs .lower ∷ w .cs .upper ∷ w .«root_time» .lower ∷ w .«root_time» .upper ∷ w .side .lower ∷ w .side .upper
-    ∷ w .lc .lower ∷ w .lc .upper ∷ w .lr .lower ∷ w .lr .upper ∷ w .lt .lower ∷ w .lt .upper
-    ∷ w .lm .lower ∷ w .lm .upper ∷ w .ls .lower ∷ w .ls .upper ∷ w .n .lower ∷ w .n .upper
-    ∷ w .ki .lower ∷ w .ki .upper ∷ w .kii .lower ∷ w .kii .upper ∷ w .kh .lower ∷ w .kh .upper
-    ∷ w .km .lower ∷ w .km .upper ∷ w .ks .lower ∷ w .ks .upper ∷ w .driven .lower ∷ w .driven .upper ∷ []
 
 -- the working of the case, which is right
 pub record WorkingLine (c : Case) (part : List ℤ) : Type 0 where

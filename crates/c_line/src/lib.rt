@@ -2,7 +2,7 @@
 ghost use mathlib.Core.Path.{_≡_};
 ghost use lib.ListN.{length};
 ghost use Rattle.case.specs.Bounds.{Bounds};
-ghost use Rattle.c_line.specs.Line.{widthOf, workingNumbers, MarginsLine, WorkingLine, RightFault, HeadroomLine, LineOf};
+ghost use Rattle.c_line.specs.Line.{widthOf, MarginsLine, WorkingLine, RightFault, HeadroomLine, LineOf};
 use c_reply::put_first;
 use case::Case;
 use headroom::Room;
@@ -12,10 +12,12 @@ use margin::margins;
 use row::ROW_LENGTH;
 use row::put_row;
 use row::work_row;
-use working::Quantities;
+use working::WORKING_NUMBERS;
 use working::Worked;
 use working::working;
+use working::working_numbers;
 
+// What is asked of a value line.
 pub enum Question {
     Margins,
     Working,
@@ -23,8 +25,6 @@ pub enum Question {
 }
 
 const MARGIN_NUMBERS: usize = 2;
-
-const WORKING_NUMBERS: usize = 30;
 
 const HEADROOM_NUMBERS: usize = 1;
 
@@ -55,44 +55,6 @@ fn put_margins(c: Case, part: &mut [i64])
         // no row has none
         Compared::None => {}
     }
-}
-
-// The ends in the order of the quantities.
-fn working_numbers(w: Quantities) -> [i64; WORKING_NUMBERS]
-    ensures { λ r. ⌜ r ≡ workingNumbers w ⌝ }
-{
-    [
-        w.cs.lower,
-        w.cs.upper,
-        w.root_time.lower,
-        w.root_time.upper,
-        w.side.lower,
-        w.side.upper,
-        w.lc.lower,
-        w.lc.upper,
-        w.lr.lower,
-        w.lr.upper,
-        w.lt.lower,
-        w.lt.upper,
-        w.lm.lower,
-        w.lm.upper,
-        w.ls.lower,
-        w.ls.upper,
-        w.n.lower,
-        w.n.upper,
-        w.ki.lower,
-        w.ki.upper,
-        w.kii.lower,
-        w.kii.upper,
-        w.kh.lower,
-        w.kh.upper,
-        w.km.lower,
-        w.km.upper,
-        w.ks.lower,
-        w.ks.upper,
-        w.driven.lower,
-        w.driven.upper,
-    ]
 }
 
 // The working of the case.

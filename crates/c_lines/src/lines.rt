@@ -17,9 +17,7 @@ use judgement::Judgement;
 use judgement::VALUES;
 use judgement::read;
 use sheet::Answer;
-
-// The refusal of an array without room for the numbers.
-const ARRAY_SHORT: u32 = 8;
+use sheet::TABLE_SHORT;
 
 // The numbers of n lines of values, which are sound.
 fn write_lines(question: Question, values: &[u32], n: usize, numbers: &mut [i64])
@@ -50,7 +48,7 @@ fn fill_lines(question: Question, s: &[u8], values: &mut [u32], numbers: &mut [i
         Judgement::Refused(number, line, column) => Answer::Refused(number, line, column),
         Judgement::Lines(n) => {
             if numbers.len() < width(question) * n {
-                return Answer::Refused(ARRAY_SHORT, 0, 0);
+                return Answer::Refused(TABLE_SHORT, 0, 0);
             }
             write_lines(question, values, n, numbers);
             Answer::Rows(n)

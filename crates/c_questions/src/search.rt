@@ -11,6 +11,7 @@ use case::NAMES;
 use case::case_of;
 use judgement::Judgement;
 use judgement::VALUES;
+use judgement::WRONG_LINE_COUNT;
 use judgement::read;
 use yards::FewestLines;
 use yards::fewest_lines;
@@ -21,7 +22,7 @@ fn search_line(values: &[u32], n: usize, side: u32) -> FewestLines
     ensures { λ r. ⌜ CasesFewest side (storedCases (now (values .entry)) n) r ⌝ }
 {
     if n != 1 {
-        return FewestLines::Refused(4, 3, 0);
+        return FewestLines::Refused(WRONG_LINE_COUNT, 3, 0);
     }
     fewest_lines(case_of(&values[..NAMES]), side)
 }

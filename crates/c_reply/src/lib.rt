@@ -7,6 +7,7 @@ ghost use Rattle.c_reply.specs.Reply.{Numbers, soilNumbers, soilReply, s
 use readings::Report;
 use readings::Sounding;
 use sheet::Answer;
+use sheet::TABLE_SHORT;
 use staged::SplitAnswer;
 use yards::FewestLines;
 
@@ -32,7 +33,7 @@ fn reply(count: usize, zs: &[i64], numbers: &mut [i64]) -> Answer
     ensures { λ r. ⌜ Replied (Numbers count (now (zs .entry))) (now (numbers .entry)) (now (numbers .exit)) r ⌝ }
 {
     if numbers.len() < zs.len() {
-        return Answer::Refused(8, 0, 0);
+        return Answer::Refused(TABLE_SHORT, 0, 0);
     }
     put_first(zs, numbers);
     Answer::Rows(count)

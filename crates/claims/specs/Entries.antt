@@ -34,7 +34,7 @@ use Rattle.hocsimbur.specs.declared.RowAnswer.{RowAnswer}
 use Rattle.hocsimbur.specs.declared.RowAnswer.the-variants as answered
 use Rattle.hocsimbur.specs.Asked.{RowAnswered, AnsweredWith}
 use Rattle.c_reply.specs.Reply.{soilNumbers}
-use Rattle.c_line.specs.Line.{workingNumbers}
+use Rattle.working.specs.Numbers.{workingNumbers}
 use Rattle.claims.specs.Words.{BreaksNone, Breaks, TooShort, caseAt}
 use Rattle.claims.specs.Measured.{SoilOutcome, SplitOutcome}
 use Rattle.claims.specs.Yards.{FewestOutcome}

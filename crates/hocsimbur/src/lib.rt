@@ -36,6 +36,8 @@ pub use stations::summary;
 pub use working::Quantities;
 pub use working::Worked;
 pub use working::working;
+// The thirty ends of a working, in the order of its quantities.
+pub use working::working_numbers;
 pub use yards::FewestLines;
 pub use yards::fewest_lines;
 

@@ -7,7 +7,6 @@ use hocsimbur::FewestLines;
 use hocsimbur::Interval;
 use hocsimbur::Number;
 use hocsimbur::Pair;
-use hocsimbur::Quantities;
 use hocsimbur::Room;
 use hocsimbur::Row;
 use hocsimbur::RowAnswer;
@@ -76,46 +75,13 @@ pub fn room(answer: Room) {
     }
 }
 
-fn pairs(w: Quantities) {
-    let ends = [
-        w.cs.lower,
-        w.cs.upper,
-        w.root_time.lower,
-        w.root_time.upper,
-        w.side.lower,
-        w.side.upper,
-        w.lc.lower,
-        w.lc.upper,
-        w.lr.lower,
-        w.lr.upper,
-        w.lt.lower,
-        w.lt.upper,
-        w.lm.lower,
-        w.lm.upper,
-        w.ls.lower,
-        w.ls.upper,
-        w.n.lower,
-        w.n.upper,
-        w.ki.lower,
-        w.ki.upper,
-        w.kii.lower,
-        w.kii.upper,
-        w.kh.lower,
-        w.kh.upper,
-        w.km.lower,
-        w.km.upper,
-        w.ks.lower,
-        w.ks.upper,
-        w.driven.lower,
-        w.driven.upper,
-    ];
-    numbers(&ends);
-}
-
 // The working of a case.
 pub fn quantities(answer: Worked) {
     match answer {
-        Worked::Is(w) => pairs(w),
+        Worked::Is(w) => {
+            let ends = hocsimbur::working_numbers(w);
+            numbers(&ends);
+        }
         Worked::Refused(why, line, column) => refused(why, line, column),
     }
 }

@@ -1,4 +1,5 @@
 pub mod Surface
 pub mod Ends
+pub mod Numbers
 pub mod Working
 pub mod Examples

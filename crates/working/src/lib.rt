@@ -6,11 +6,15 @@ ghost use Rattle.interval.specs.Operations.{point};
 ghost use Rattle.case.specs.Bounds.{Bounds};
 ghost use Rattle.step.specs.Ends.{stepLength};
 ghost use Rattle.working.specs.Ends.{layerFactor, workingOf};
+ghost use Rattle.working.specs.Numbers.{workingNumbers};
 ghost use Rattle.working.specs.Working.{WorkingAnswered};
 use case::Case;
 use case::Judged;
 use case::judge;
 use interval::Interval;
+
+// How many numbers a working has: two ends of fifteen quantities.
+pub const WORKING_NUMBERS: usize = 30;
 
 // A pair of ends for each quantity.
 pub struct Quantities {
@@ -109,4 +113,42 @@ pub fn working(c: Case) -> Worked
         Judged::Sound => Worked::Is(work(c)),
         Judged::Refused(number, line, column) => Worked::Refused(number, line, column),
     }
+}
+
+// The ends in the order of the quantities.
+pub fn working_numbers(w: Quantities) -> [i64; WORKING_NUMBERS]
+    ensures { λ r. ⌜ r ≡ workingNumbers w ⌝ }
+{
+    [
+        w.cs.lower,
+        w.cs.upper,
+        w.root_time.lower,
+        w.root_time.upper,
+        w.side.lower,
+        w.side.upper,
+        w.lc.lower,
+        w.lc.upper,
+        w.lr.lower,
+        w.lr.upper,
+        w.lt.lower,
+        w.lt.upper,
+        w.lm.lower,
+        w.lm.upper,
+        w.ls.lower,
+        w.ls.upper,
+        w.n.lower,
+        w.n.upper,
+        w.ki.lower,
+        w.ki.upper,
+        w.kii.lower,
+        w.kii.upper,
+        w.kh.lower,
+        w.kh.upper,
+        w.km.lower,
+        w.km.upper,
+        w.ks.lower,
+        w.ks.upper,
+        w.driven.lower,
+        w.driven.upper,
+    ]
 }

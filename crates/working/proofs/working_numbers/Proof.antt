@@ -2,9 +2,9 @@
 use borrow.Author.Needs.{needs}
 use mir.Facts.{toZ-ofZ}
 use Rattle.interval.proofs.Bits.{Held}
-use Rattle.c_line.specs.Line.{workingNumbers}
-use Rattle.c_line.proofs.working_numbers.Statement.{statement}
-use Rattle.c_line.proofs.working_numbers.Tie as tie
+use Rattle.working.specs.Numbers.{workingNumbers}
+use Rattle.working.proofs.working_numbers.Statement.{statement}
+use Rattle.working.proofs.working_numbers.Tie as tie
 
 module _ (s : tie.Start) where
   first-held : let w = s .args .w in Held (w .cs) × Held (w .«root_time») × Held (w .side) × Held (w .lc) × Held (w .lr)
@@ -23,36 +23,11 @@ returns c =
     let n = next-held (c .before) in
     let l = last-held (c .before) in
     simp (
-      toZ-ofZ (f .0 .0),
-      toZ-ofZ (f .0 .1),
-      toZ-ofZ (f .1 .0),
-      toZ-ofZ (f .1 .1),
-      toZ-ofZ (f .2 .0),
-      toZ-ofZ (f .2 .1),
-      toZ-ofZ (f .3 .0),
-      toZ-ofZ (f .3 .1),
-      toZ-ofZ (f .4 .0),
-      toZ-ofZ (f .4 .1),
-      toZ-ofZ (n .0 .0),
-      toZ-ofZ (n .0 .1),
-      toZ-ofZ (n .1 .0),
-      toZ-ofZ (n .1 .1),
-      toZ-ofZ (n .2 .0),
-      toZ-ofZ (n .2 .1),
-      toZ-ofZ (n .3 .0),
-      toZ-ofZ (n .3 .1),
-      toZ-ofZ (n .4 .0),
-      toZ-ofZ (n .4 .1),
-      toZ-ofZ (l .0 .0),
-      toZ-ofZ (l .0 .1),
-      toZ-ofZ (l .1 .0),
-      toZ-ofZ (l .1 .1),
-      toZ-ofZ (l .2 .0),
-      toZ-ofZ (l .2 .1),
-      toZ-ofZ (l .3 .0),
-      toZ-ofZ (l .3 .1),
-      toZ-ofZ (l .4 .0),
-      toZ-ofZ (l .4 .1),
+      toZ-ofZ (f .0 .0), toZ-ofZ (f .0 .1), toZ-ofZ (f .1 .0), toZ-ofZ (f .1 .1), toZ-ofZ (f .2 .0), toZ-ofZ (f .2 .1),
+      toZ-ofZ (f .3 .0), toZ-ofZ (f .3 .1), toZ-ofZ (f .4 .0), toZ-ofZ (f .4 .1), toZ-ofZ (n .0 .0), toZ-ofZ (n .0 .1),
+      toZ-ofZ (n .1 .0), toZ-ofZ (n .1 .1), toZ-ofZ (n .2 .0), toZ-ofZ (n .2 .1), toZ-ofZ (n .3 .0), toZ-ofZ (n .3 .1),
+      toZ-ofZ (n .4 .0), toZ-ofZ (n .4 .1), toZ-ofZ (l .0 .0), toZ-ofZ (l .0 .1), toZ-ofZ (l .1 .0), toZ-ofZ (l .1 .1),
+      toZ-ofZ (l .2 .0), toZ-ofZ (l .2 .1), toZ-ofZ (l .3 .0), toZ-ofZ (l .3 .1), toZ-ofZ (l .4 .0), toZ-ofZ (l .4 .1),
     )
 
 pub working-numbers-spec : {M : Type 1} → statement M
