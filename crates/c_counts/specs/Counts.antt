@@ -1,6 +1,5 @@
 -- The answers of operations as a count or a refusal, with number, line and column.
-use Rattle.sheet.specs.declared.Answer.{Answer}
-use Rattle.sheet.specs.declared.Answer.the-variants.{Rows, Refused}
+use Rattle.sheet.specs.declared.Answer.{Answer, the-variants.{Rows, Refused}}
 use Rattle.stations.specs.declared.Summed.{Summed}
 use Rattle.stations.specs.declared.Summed.the-variants as summed
 use Rattle.release.specs.declared.Released.{Released}

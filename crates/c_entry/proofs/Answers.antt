@@ -1,23 +1,16 @@
 -- The claim about a sheet and its buffer, from the judgement and the rows.
 use Prim.Native.Nat.{ℕ, _*_, _/_, _≤_, _<_}
-use mathlib.Core.Path.{_≡_, refl, sym, ap, _∙_}
-use mathlib.Core.List.{List}
+use mathlib.Core.{Path.{_≡_, refl, sym, ap, _∙_}, List.{List}}
 use native.Mathlib.Omega.{arith}
-use lib.IntN.{ℤ}
-use lib.ListN.{length}
+use lib.{IntN.{ℤ}, ListN.{length}}
 use borrow.Author.Tests.{lt-ltb, le-ltb}
 use Rattle.case.specs.Columns.{columns}
 use Rattle.row.specs.Row.{rowLength}
-use Rattle.judgement.specs.declared.Judgement.{Judgement}
+use Rattle.judgement.specs.{declared.Judgement.{Judgement}, Sheet.{judgement}}
 use Rattle.judgement.specs.declared.Judgement.the-variants as judged
-use Rattle.judgement.specs.Sheet.{judgement}
-use Rattle.sheet.specs.declared.Answer.{Answer}
-use Rattle.sheet.specs.declared.Answer.the-variants.{Rows, Refused}
-use Rattle.sheet.specs.Answer.{tableRefused, answerBy, answer, cases}
+use Rattle.sheet.specs.{declared.Answer.{Answer, the-variants.{Rows, Refused}}, Answer.{tableRefused, answerBy, answer, cases}}
 use Rattle.sheet.proofs.Accepted.{accepted}
-use Rattle.c_entry.specs.Bytes.{numberBytes}
-use Rattle.c_entry.specs.Room.{Few}
-use Rattle.c_entry.specs.Answer.{signedAnswer}
+use Rattle.c_entry.specs.{Bytes.{numberBytes}, Room.{Few}, Answer.{signedAnswer}}
 use Rattle.c_entry.specs.Buffer.{rowBytes, Filled, BufferAfter, answerFor, InBytes, Answered}
 
 module _ {j : Judgement} (s t : List ℕ) (judged-is : j ≡ judgement columns s) where
@@ -32,13 +25,11 @@ module _ {j : Judgement} (s t : List ℕ) (judged-is : j ≡ judgement columns s
   -- a buffer short of 160 bytes a line
   pub in-bytes-short : {n : ℕ} → j ≡ judged.Lines n → length t < rowBytes * n → InBytes s t t (Refused 8 0 0)
   unfolding BufferAfter answerFor answer answerBy tableRefused
-  in-bytes-short {n} e h =
-      record { answer-is = rw (← judged-is, e, lt-ltb room (rowLength * n) (omega arith)); buffer-is = refl }
+  in-bytes-short {n} e h = record { answer-is = rw (← judged-is, e, lt-ltb room (rowLength * n) (omega arith)); buffer-is = refl }
 
   pub in-bytes-rows : {n : ℕ} {u : List ℕ} → j ≡ judged.Lines n → rowBytes * n ≤ length t → Filled (cases s) t u → InBytes s t u (Rows n)
   unfolding BufferAfter answerFor answer answerBy
-  in-bytes-rows {n} e h f =
-      record { answer-is = rw (← judged-is, e, le-ltb room (rowLength * n) (omega arith)); buffer-is = f }
+  in-bytes-rows {n} e h f = record { answer-is = rw (← judged-is, e, le-ltb room (rowLength * n) (omega arith)); buffer-is = f }
 
 -- ---- the answer as one number
 

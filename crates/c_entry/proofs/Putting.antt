@@ -1,21 +1,12 @@
 -- Numbers put one after the other: each has its own eight bytes.
 use Prim.Native.Nat.{ℕ, _+_, _-_, _*_, _≤_, _<_}
-use mathlib.Core.Path.{_≡_, refl, sym, ap, _∙_}
-use mathlib.Core.Logic.{_⊎_, inl, inr}
-use mathlib.Core.List.{List, [], _∷_, _++_, append-assoc, append-nil}
-use native.Mathlib.Nat.{eq-or-lt-of-le}
-use native.Mathlib.Numerals.{add-one}
-use native.Mathlib.Omega.{arith}
-use lib.IntN.{ℤ, pos}
-use lib.ListN.{length, getD, take, drop}
-use lib.Seq.{take-suc, take-add, take-all}
-use mir.Syntax.{w64}
-use mir.Val.{SFits}
+use mathlib.Core.{Path.{_≡_, refl, sym, ap, _∙_}, Logic.{_⊎_, inl, inr}, List.{List, [], _∷_, _++_, append-assoc, append-nil}}
+use native.Mathlib.{Nat.{eq-or-lt-of-le}, Numerals.{add-one}, Omega.{arith}}
+use lib.{IntN.{ℤ, pos}, ListN.{length, getD, take, drop}, Seq.{take-suc, take-add, take-all}}
+use mir.{Syntax.{w64}, Val.{SFits}}
 use borrow.Rule.Slice.PartMut.{putMid}
-use Rattle.tables.specs.Parts.{Written}
-use Rattle.tables.proofs.Writing.{put-written}
-use Rattle.c_entry.specs.Bytes.{numberBytes, bytesOf, bytesOfAll, numbersOf}
-use Rattle.c_entry.specs.Put.{Put}
+use Rattle.tables.{specs.Parts.{Written}, proofs.Writing.{put-written}}
+use Rattle.c_entry.specs.{Bytes.{numberBytes, bytesOf, bytesOfAll, numbersOf}, Put.{Put}}
 use Rattle.c_entry.proofs.Reading.{bytes-length, numbers-back}
 
 -- the bytes of the first n numbers, each of which fits 64 signed bits, are put into a part of so many bytes

@@ -1,26 +1,16 @@
 -- The answer as one number is 1 to 256, or −8 to −1.
 use Prim.Native.Nat.{ℕ, zero, suc, _*_, _/_, _≤_}
-use mathlib.Core.Path.{_≡_, refl, sym}
-use mathlib.Core.Bool.{Bool, true, false, cond}
-use mathlib.Core.List.{List}
+use mathlib.Core.{Path.{_≡_, refl, sym}, Bool.{Bool, true, false, cond}, List.{List}}
 use native.Mathlib.Omega.{arith}
-use lib.Dec.{ltb}
-use lib.IntN.{ℤ}
-use lib.ListN.{length}
+use lib.{Dec.{ltb}, IntN.{ℤ}, ListN.{length}}
 use Rattle.text.proofs.Clash.{clash}
 use Rattle.case.specs.Columns.{columns}
 use Rattle.row.specs.Row.{rowLength}
-use Rattle.judgement.specs.declared.Judgement.{Judgement}
+use Rattle.judgement.{specs.{declared.Judgement.{Judgement}, Sheet.{judgement}}, proofs.Numbers.{Numbered, number, judgement-numbered}}
 use Rattle.judgement.specs.declared.Judgement.the-variants as judged
-use Rattle.judgement.specs.Sheet.{judgement}
-use Rattle.judgement.proofs.Numbers.{Numbered, number, judgement-numbered}
-use Rattle.sheet.specs.declared.Answer.{Answer}
-use Rattle.sheet.specs.declared.Answer.the-variants.{Rows, Refused}
-use Rattle.sheet.specs.Answer.{tableRefused, answerBy, answer}
+use Rattle.sheet.specs.{declared.Answer.{Answer, the-variants.{Rows, Refused}}, Answer.{tableRefused, answerBy, answer}}
 use Rattle.sheet.proofs.Accepted.{accepted}
-use Rattle.c_entry.specs.Bytes.{numberBytes}
-use Rattle.c_entry.specs.Answer.{signedAnswer, InRange}
-use Rattle.c_entry.specs.Buffer.{answerFor, Answered}
+use Rattle.c_entry.specs.{Bytes.{numberBytes}, Answer.{signedAnswer, InRange}, Buffer.{answerFor, Answered}}
 
 -- ---- a refusal has a number from 1 to 8: a judgement's is 1 to 7
 

@@ -1,15 +1,10 @@
 -- What is read from the bytes of a number is the number, and from the bytes of some numbers those numbers.
 use Prim.Native.Nat.{ℕ, zero, suc, _-_, _/_, _^_, _≤_, _<_}
-use mathlib.Core.Path.{_≡_, refl, ap, _∙_}
-use mathlib.Core.List.{List, [], _∷_}
-use native.Mathlib.Nat.{pow-suc, div-lt-iff-lt-mul}
-use native.Mathlib.Omega.{arith}
+use mathlib.Core.{Path.{_≡_, refl, ap, _∙_}, List.{List, [], _∷_}}
+use native.Mathlib.{Nat.{pow-suc, div-lt-iff-lt-mul}, Omega.{arith}}
 use borrow.Author.Tests.{lt-ltb, le-ltb}
-use lib.IntN.{ℤ, pos, negsuc}
-use lib.ListN.{length, getD}
-use lib.Seq.{take-at, drop-at}
-use mir.Syntax.{w64}
-use mir.Val.{SFits}
+use lib.{IntN.{ℤ, pos, negsuc}, ListN.{length, getD}, Seq.{take-at, drop-at}}
+use mir.{Syntax.{w64}, Val.{SFits}}
 use Rattle.c_entry.specs.Bytes.{numberBytes, littleEndian, twosComplement, bytesOf, bytesOfAll, natOf, signedOf, numberOf, numbersOf}
 
 pub word-back : (k n : ℕ) → n < 256 ^ k → natOf (littleEndian k n) ≡ n

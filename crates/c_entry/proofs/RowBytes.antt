@@ -1,20 +1,13 @@
 -- The bytes of one row, put in their place: they are read back as the row's numbers.
 use Prim.Native.Nat.{ℕ, _+_, _-_, _*_, _≤_}
-use mathlib.Core.Path.{_≡_, refl, sym, ap, _∙_}
-use mathlib.Core.List.{List, [], _∷_}
+use mathlib.Core.{Path.{_≡_, refl, sym, ap, _∙_}, List.{List, [], _∷_}}
 use native.Mathlib.Omega.{arith}
-use lib.IntN.{ℤ}
-use lib.ListN.{length, length-append}
+use lib.{IntN.{ℤ}, ListN.{length, length-append}}
 use borrow.Rule.Slice.PartMut.{putMid}
 use Rattle.tables.proofs.Writing.{put-written}
-use Rattle.case.specs.declared.Case.{Case}
-use Rattle.case.specs.Bounds.{Bounds}
-use Rattle.row.specs.Row.{numbers, row-length}
-use Rattle.row.specs.Ends.{rowOf}
-use Rattle.row.proofs.Right.{right-row}
-use Rattle.c_entry.specs.Bytes.{numberBytes, bytesOf, bytesOfAll, numbersOf}
-use Rattle.c_entry.specs.Buffer.{rowBytes, RowBytes}
-use Rattle.c_entry.specs.Put.{Put, RowPut}
+use Rattle.case.specs.{declared.Case.{Case}, Bounds.{Bounds}}
+use Rattle.row.{specs.{Row.{numbers, row-length}, Ends.{rowOf}}, proofs.Right.{right-row}}
+use Rattle.c_entry.specs.{Bytes.{numberBytes, bytesOf, bytesOfAll, numbersOf}, Buffer.{rowBytes, RowBytes}, Put.{Put, RowPut}}
 use Rattle.c_entry.proofs.Reading.{bytes-length}
 
 bytes-all-length : (zs : List ℤ) → length (bytesOfAll zs) ≡ numberBytes * length zs

@@ -3,8 +3,7 @@
 use Prim.Native.Nat.{_≤_, _<_}
 use lib.IntN.{ℤ, pos, negsuc, negℤ}
 use Rattle.judgement.specs.Limits.{mostLines}
-use Rattle.sheet.specs.declared.Answer.{Answer}
-use Rattle.sheet.specs.declared.Answer.the-variants.{Rows, Refused}
+use Rattle.sheet.specs.declared.Answer.{Answer, the-variants.{Rows, Refused}}
 
 unfoldable pub signedAnswer : Answer → ℤ
 signedAnswer (Rows count) = pos count

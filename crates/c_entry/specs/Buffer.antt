@@ -3,21 +3,13 @@
 -- refusal's number made negative with the buffer untouched; bytes past the last row keep what they held. A buffer short of 160 bytes a line
 -- is refused with 8."
 use Prim.Native.Nat.{ℕ, _/_}
-use mathlib.Core.Path.{_≡_}
-use mathlib.Core.List.{List, []}
-use lib.IntN.{ℤ}
-use lib.ListN.{length, getD}
+use mathlib.Core.{Path.{_≡_}, List.{List, []}}
+use lib.{IntN.{ℤ}, ListN.{length, getD}}
 use Rattle.tables.specs.Parts as parts
-use Rattle.case.specs.declared.Case.{Case}
-use Rattle.case.specs.Case.{caseOf}
-use Rattle.row.specs.Row.{numbers, rowLength}
-use Rattle.row.specs.Ends.{rowOf}
-use Rattle.sheet.specs.declared.Answer.{Answer}
-use Rattle.sheet.specs.declared.Answer.the-variants.{Rows, Refused}
-use Rattle.sheet.specs.Answer.{answer, cases}
-use Rattle.sheet.specs.Table.{RowOf}
-use Rattle.c_entry.specs.Bytes.{numberBytes, bytesOfAll, numbersOf}
-use Rattle.c_entry.specs.Answer.{signedAnswer}
+use Rattle.case.specs.{declared.Case.{Case}, Case.{caseOf}}
+use Rattle.row.specs.{Row.{numbers, rowLength}, Ends.{rowOf}}
+use Rattle.sheet.specs.{declared.Answer.{Answer, the-variants.{Rows, Refused}}, Answer.{answer, cases}, Table.{RowOf}}
+use Rattle.c_entry.specs.{Bytes.{numberBytes, bytesOfAll, numbersOf}, Answer.{signedAnswer}}
 
 -- "160 bytes a line"
 abbrev pub rowBytes : ℕ

@@ -1,10 +1,7 @@
 -- Numbers as bytes. Document 02 (i): "rows come back as eight-byte little-endian signed numbers".
 use Prim.Native.Nat.{ℕ, zero, suc, _+_, _-_, _*_, _/_, _%_, _^_}
-use mathlib.Core.Bool.{cond}
-use mathlib.Core.List.{List, [], _∷_, _++_}
-use lib.Dec.{ltb}
-use lib.IntN.{ℤ, pos, negsuc}
-use lib.ListN.{take, drop}
+use mathlib.Core.{Bool.{cond}, List.{List, [], _∷_, _++_}}
+use lib.{Dec.{ltb}, IntN.{ℤ, pos, negsuc}, ListN.{take, drop}}
 
 -- how many bytes a number has
 abbrev pub numberBytes : ℕ

@@ -1,12 +1,10 @@
 -- Bytes computed on numbers, at the ends of 64 bits and around 0; the answer as one number; and where a refusal points.
 use Prim.Native.Nat.{_-_, _^_}
-use mathlib.Core.Path.{_≡_, refl}
-use mathlib.Core.List.{List, [], _∷_, map}
+use mathlib.Core.{Path.{_≡_, refl}, List.{List, [], _∷_, map}}
 use lib.IntN.{ℤ, pos, negsuc}
 use Rattle.sheet.specs.declared.Answer.the-variants.{Rows, Refused}
 use Rattle.c_entry.specs.Bytes.{littleEndian, twosComplement, bytesOf, bytesOfAll, natOf, signedOf, numberOf, numbersOf}
-use Rattle.c_entry.specs.Answer.{signedAnswer}
-use Rattle.c_entry.specs.Place.{placeAfter}
+use Rattle.c_entry.specs.{Answer.{signedAnswer}, Place.{placeAfter}}
 
 -- 0, 1, 255, 256, 1908000000, -1, -256, -257, and the greatest and the least
 numbers : List ℤ

@@ -1,10 +1,8 @@
 -- Where a refusal points: its line and column, for the side panel to show the cell.
 use Prim.Native.Nat.{ℕ}
-use mathlib.Core.Path.{_≡_}
-use mathlib.Core.List.{List, [], _∷_}
+use mathlib.Core.{Path.{_≡_}, List.{List, [], _∷_}}
 use lib.IntN.{ℤ}
-use Rattle.sheet.specs.declared.Answer.{Answer}
-use Rattle.sheet.specs.declared.Answer.the-variants.{Rows, Refused}
+use Rattle.sheet.specs.declared.Answer.{Answer, the-variants.{Rows, Refused}}
 use Rattle.c_entry.specs.Buffer.{answerFor, Answered}
 
 -- line and column in the first two numbers; a count of rows changes nothing, nor does a place of fewer than two numbers

@@ -1,15 +1,11 @@
 -- Numbers put as bytes, and a row put into the buffer.
 use Prim.Native.Nat.{ℕ}
-use mathlib.Core.Path.{_≡_}
-use mathlib.Core.List.{List}
-use lib.IntN.{ℤ}
-use lib.ListN.{length}
+use mathlib.Core.{Path.{_≡_}, List.{List}}
+use lib.{IntN.{ℤ}, ListN.{length}}
 use Rattle.tables.specs.Parts.{Written}
 use Rattle.case.specs.declared.Case.{Case}
-use Rattle.row.specs.Row.{numbers, rowLength}
-use Rattle.row.specs.Ends.{rowOf}
-use Rattle.c_entry.specs.Bytes.{bytesOfAll, numbersOf}
-use Rattle.c_entry.specs.Buffer.{rowBytes}
+use Rattle.row.specs.{Row.{numbers, rowLength}, Ends.{rowOf}}
+use Rattle.c_entry.specs.{Bytes.{bytesOfAll, numbersOf}, Buffer.{rowBytes}}
 
 -- some bytes are those of some numbers, and what is read from them is those numbers
 pub record Put (zs : List ℤ) (part : List ℕ) : Type 0 where

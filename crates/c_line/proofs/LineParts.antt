@@ -1,44 +1,27 @@
 -- What the three questions put in a part of their own, of a case within its bounds.
 use Prim.Native.Nat.{ℕ, zero, suc, _≤_}
-use mathlib.Core.Path.{_≡_, refl, sym, ap, _∙_}
-use mathlib.Core.List.{List, [], _∷_, _++_, append-nil}
+use mathlib.Core.{Path.{_≡_, refl, sym, ap, _∙_}, List.{List, [], _∷_, _++_, append-nil}}
 use native.Mathlib.Omega.{arith}
-use lib.IntN.{ℤ}
-use lib.ListN.{length, drop, set}
-use lib.Seq.{drop-length}
-use mir.Syntax.{w64}
-use mir.Val.{SFits}
-use mir.Facts.{toZ-ofZ}
+use lib.{IntN.{ℤ}, ListN.{length, drop, set}, Seq.{drop-length}}
+use mir.{Syntax.{w64}, Val.{SFits}, Facts.{toZ-ofZ}}
 use Rattle.interval.proofs.Bits.{read}
 use Rattle.text.proofs.Clash.{clash}
-use Rattle.case.specs.declared.Case.{Case}
-use Rattle.case.specs.Check.{recordAnswer}
-use Rattle.case.specs.Bounds.{Bounds}
-use Rattle.case.proofs.BoundsSound.{bounds-sound}
-use Rattle.row.specs.Row.{numbers}
-use Rattle.row.specs.Ends.{rowOf}
-use Rattle.margin.specs.declared.Compared.{Compared}
+use Rattle.case.{specs.{declared.Case.{Case}, Check.{recordAnswer}, Bounds.{Bounds}}, proofs.BoundsSound.{bounds-sound}}
+use Rattle.row.specs.{Row.{numbers}, Ends.{rowOf}}
+use Rattle.margin.{specs.{declared.Compared.{Compared}, Margin.{marginsOf}, Meaning.{Right}}, proofs.Right.{right-margins}}
 use Rattle.margin.specs.declared.Compared.the-variants as compared
-use Rattle.margin.specs.Margin.{marginsOf}
-use Rattle.margin.specs.Meaning.{Right}
-use Rattle.margin.proofs.Right.{right-margins}
-use Rattle.working.specs.declared.Quantities.{Quantities}
-use Rattle.working.specs.declared.Worked.{Worked}
-use Rattle.working.specs.declared.Worked.the-variants as worked
-use Rattle.working.specs.Ends.{workingOf}
-use Rattle.working.specs.Numbers.{workingNumbers}
+use Rattle.working.specs.{declared.{Quantities.{Quantities}, Worked.{Worked}}, Ends.{workingOf}, Numbers.{workingNumbers}}
 use Rattle.working.specs.Working.{workingAnswer, RightWorked, WorkingAnswered}
+use Rattle.working.specs.declared.Worked.the-variants as worked
 use Rattle.headroom.specs.declared.Room.{Room}
 use Rattle.headroom.specs.declared.Room.the-variants as room
 use Rattle.headroom.specs.Headroom as headroom
-use Rattle.c_line.specs.declared.Question.{Question}
-use Rattle.c_line.specs.declared.Question.the-variants.{Margins, Working, Headroom}
+use Rattle.c_line.specs.declared.Question.{Question, the-variants.{Margins, Working, Headroom}}
 use Rattle.c_line.specs.Line.{widthOf, MarginsLine, WorkingLine, RightFault, LineOf}
 
 -- as many numbers as a part has take the place of all of it
 pub put-whole : (zs part : List ℤ) → length part ≡ length zs → zs ++ drop (length zs) part ≡ zs
-put-whole zs part e =
-    ap (λ (k : ℕ). zs ++ drop k part) (sym e) ∙ ap (λ (l : List ℤ). zs ++ l) (drop-length part) ∙ append-nil zs
+put-whole zs part e = ap (λ (k : ℕ). zs ++ drop k part) (sym e) ∙ ap (λ (l : List ℤ). zs ++ l) (drop-length part) ∙ append-nil zs
 
 -- two numbers that code holds as bits
 pub read-both : {x y : ℤ} → SFits w64 x → SFits w64 y → _≡_ {A = List ℤ} (read x ∷ read y ∷ []) (x ∷ y ∷ [])

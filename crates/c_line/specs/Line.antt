@@ -1,19 +1,14 @@
 -- The numbers of one value line, by what is asked: margins, working, headroom.
 use Prim.Native.Nat.{ℕ, zero, suc}
-use mathlib.Core.Path.{_≡_}
-use mathlib.Core.List.{List, [], _∷_}
+use mathlib.Core.{Path.{_≡_}, List.{List, [], _∷_}}
 use lib.IntN.{ℤ, pos}
 use Rattle.case.specs.declared.Case.{Case}
-use Rattle.row.specs.Row.{numbers}
-use Rattle.row.specs.Ends.{rowOf}
+use Rattle.row.specs.{Row.{numbers}, Ends.{rowOf}}
 use Rattle.margin.specs.declared.Compared.the-variants as compared
 use Rattle.margin.specs.Margin.{marginsOf}
-use Rattle.working.specs.Ends.{workingOf}
-use Rattle.working.specs.Numbers.{workingNumbers}
-use Rattle.working.specs.Working.{RightWorking}
+use Rattle.working.specs.{Ends.{workingOf}, Numbers.{workingNumbers}, Working.{RightWorking}}
 use Rattle.headroom.specs.Headroom as room
-use Rattle.c_line.specs.declared.Question.{Question}
-use Rattle.c_line.specs.declared.Question.the-variants.{Margins, Working, Headroom}
+use Rattle.c_line.specs.declared.Question.{Question, the-variants.{Margins, Working, Headroom}}
 
 -- how many numbers a line has
 unfoldable pub widthOf : Question → ℕ

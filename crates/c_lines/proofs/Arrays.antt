@@ -1,33 +1,18 @@
 -- The claim about a sheet and an array, from the answer and the numbers of each line; over the question, and so over width and numbers.
 use Prim.Native.Nat.{ℕ, _+_, _*_, _-_, _≤_, _<_, _^_}
-use mathlib.Core.Path.{_≡_, refl}
-use mathlib.Core.Bool.{Bool, true, false, cond}
-use mathlib.Core.List.{List, []}
-use native.Mathlib.Nat.{mul-le-mul}
-use native.Mathlib.Omega.{arith}
-use lib.Dec.{ltb}
-use lib.IntN.{ℤ}
-use lib.ListN.{length, getD}
+use mathlib.Core.{Path.{_≡_, refl}, Bool.{Bool, true, false, cond}, List.{List, []}}
+use native.Mathlib.{Nat.{mul-le-mul}, Omega.{arith}}
+use lib.{Dec.{ltb}, IntN.{ℤ}, ListN.{length, getD}}
 use borrow.Author.Tests.{lt-ltb, le-ltb}
 use borrow.Rule.Slice.PartMut.{putMid}
 use Rattle.tables.specs.Parts as parts
-use Rattle.tables.proofs.Writing.{put-written-as, part-before}
-use Rattle.tables.proofs.Filling.{filled-step}
-use Rattle.case.specs.declared.Case.{Case}
-use Rattle.case.specs.Case.{caseOf}
-use Rattle.case.specs.Columns.{columns}
-use Rattle.judgement.specs.declared.Judgement.{Judgement}
+use Rattle.tables.proofs.{Writing.{put-written-as, part-before}, Filling.{filled-step}}
+use Rattle.case.specs.{declared.Case.{Case}, Case.{caseOf}, Columns.{columns}}
+use Rattle.judgement.{specs.{declared.Judgement.{Judgement}, Limits.{mostLines}, Sheet.{judgement}}, proofs.Accepted.{accepted}}
 use Rattle.judgement.specs.declared.Judgement.the-variants as judged
-use Rattle.judgement.specs.Limits.{mostLines}
-use Rattle.judgement.specs.Sheet.{judgement}
-use Rattle.judgement.proofs.Accepted.{accepted}
-use Rattle.sheet.specs.declared.Answer.{Answer}
-use Rattle.sheet.specs.declared.Answer.the-variants.{Rows, Refused}
-use Rattle.sheet.specs.Answer.{cases}
+use Rattle.sheet.specs.{declared.Answer.{Answer, the-variants.{Rows, Refused}}, Answer.{cases}}
 use Rattle.c_entry.specs.Room.{Few}
-use Rattle.c_line.specs.declared.Question.{Question}
-use Rattle.c_line.specs.Line.{widthOf, LineOf}
-use Rattle.c_line.proofs.LineParts.{line-length, width-most}
+use Rattle.c_line.{specs.{declared.Question.{Question}, Line.{widthOf, LineOf}}, proofs.LineParts.{line-length, width-most}}
 use Rattle.c_lines.specs.Lines.{linesBy, linesAnswer, Filled, ArrayAfter, LinesAnswered}
 
 -- ---- line after line
@@ -66,14 +51,12 @@ module _ {j : Judgement} {question : Question} (s : List ℕ) (t : List ℤ) (ju
   pub answered-short : {n wide : ℕ} → wide ≡ widthOf question → j ≡ judged.Lines n → length t < wide * n
       → LinesAnswered question s t t (Refused 8 0 0)
   unfolding ArrayAfter linesAnswer linesBy
-  answered-short {n} is e h =
-      record { answer-is = rw (← judged-is, e, ← is, lt-ltb _ _ h); array-is = refl }
+  answered-short {n} is e h = record { answer-is = rw (← judged-is, e, ← is, lt-ltb _ _ h); array-is = refl }
 
   pub answered-lines : {n wide : ℕ} {u : List ℤ} → wide ≡ widthOf question → j ≡ judged.Lines n → wide * n ≤ length t
       → Filled question (cases s) t u → LinesAnswered question s t u (Rows n)
   unfolding ArrayAfter linesAnswer linesBy
-  answered-lines {n} is e h f =
-      record { answer-is = rw (← judged-is, e, ← is, le-ltb _ _ h); array-is = f }
+  answered-lines {n} is e h f = record { answer-is = rw (← judged-is, e, ← is, le-ltb _ _ h); array-is = f }
 
 -- ---- the count has 64 signed bits
 

@@ -1,24 +1,14 @@
 -- The numbers of every value line of a sheet in an array that the caller lends: one claim over every question, every sheet and every array.
 use Prim.Native.Nat.{ℕ, _*_}
-use mathlib.Core.Path.{_≡_}
-use mathlib.Core.Bool.{cond}
-use mathlib.Core.List.{List, []}
-use lib.Dec.{ltb}
-use lib.IntN.{ℤ}
-use lib.ListN.{length, getD}
+use mathlib.Core.{Path.{_≡_}, Bool.{cond}, List.{List, []}}
+use lib.{Dec.{ltb}, IntN.{ℤ}, ListN.{length, getD}}
 use Rattle.tables.specs.Parts as parts
-use Rattle.case.specs.declared.Case.{Case}
-use Rattle.case.specs.Case.{caseOf}
-use Rattle.case.specs.Columns.{columns}
-use Rattle.judgement.specs.declared.Judgement.{Judgement}
+use Rattle.case.specs.{declared.Case.{Case}, Case.{caseOf}, Columns.{columns}}
+use Rattle.judgement.specs.{declared.Judgement.{Judgement}, Sheet.{judgement}}
 use Rattle.judgement.specs.declared.Judgement.the-variants as judged
-use Rattle.judgement.specs.Sheet.{judgement}
-use Rattle.sheet.specs.declared.Answer.{Answer}
-use Rattle.sheet.specs.declared.Answer.the-variants.{Rows, Refused}
-use Rattle.sheet.specs.Answer.{cases}
+use Rattle.sheet.specs.{declared.Answer.{Answer, the-variants.{Rows, Refused}}, Answer.{cases}}
 use Rattle.c_entry.specs.Told.{Told}
-use Rattle.c_line.specs.declared.Question.{Question}
-use Rattle.c_line.specs.Line.{widthOf, LineOf}
+use Rattle.c_line.specs.{declared.Question.{Question}, Line.{widthOf, LineOf}}
 
 -- the sheet's own refusals, then 8 where the array is shorter than the numbers of its lines, or the count of value lines
 unfoldable pub linesBy : (width room : ℕ) → Judgement → Answer

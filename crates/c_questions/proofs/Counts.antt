@@ -1,40 +1,26 @@
 -- The counts that operations answer have 64 signed bits: a table has room for so many parts.
 use Prim.Native.Nat.{ℕ, _*_, _≤_, _<_, _^_}
-use mathlib.Core.Path.{_≡_, refl}
-use mathlib.Core.Bool.{Bool, true, false, cond}
-use mathlib.Core.List.{List, []}
+use mathlib.Core.{Path.{_≡_, refl}, Bool.{Bool, true, false, cond}, List.{List, []}}
 use native.Mathlib.Omega.{arith}
-use lib.Dec.{ltb}
-use lib.IntN.{ℤ}
-use lib.ListN.{length}
+use lib.{Dec.{ltb}, IntN.{ℤ}, ListN.{length}}
 use borrow.Author.Tests.{ltb-false}
 use Rattle.text.proofs.Clash.{clash}
-use Rattle.case.specs.declared.Form.{Form}
-use Rattle.case.specs.Columns.{columns}
-use Rattle.case.specs.Parts.{formOf}
-use Rattle.judgement.specs.declared.Judgement.{Judgement}
+use Rattle.case.specs.{declared.Form.{Form}, Columns.{columns}, Parts.{formOf}}
+use Rattle.judgement.specs.{declared.Judgement.{Judgement}, Sheet.{judgement}}
 use Rattle.judgement.specs.declared.Judgement.the-variants as judged
-use Rattle.judgement.specs.Sheet.{judgement}
 use Rattle.sheet.specs.declared.Answer as sheets
 use Rattle.sheet.specs.declared.Answer.the-variants as sheet
 use Rattle.sheet.specs.Answer.{answer}
-use Rattle.stations.specs.declared.Summed.{Summed}
-use Rattle.stations.specs.declared.Summed.the-variants as summed
-use Rattle.stations.specs.Summary.{stations, stationLength}
+use Rattle.stations.specs.{declared.Summed.{Summed}, Summary.{stations, stationLength}}
 use Rattle.stations.specs.Answer.{sheetRows, summaryRefused, answerAfter, summaryAnswer, SummaryAnswered}
-use Rattle.release.specs.declared.licence.Wrong.{Wrong}
-use Rattle.release.specs.declared.licence.Wrong.the-variants.{At, Nothing}
-use Rattle.release.specs.declared.Released.{Released}
-use Rattle.release.specs.declared.Released.the-variants as released
-use Rattle.release.specs.Licence.{pairsOf, badCount, firstWrong}
-use Rattle.release.specs.Pair.{pairLength}
+use Rattle.stations.specs.declared.Summed.the-variants as summed
+use Rattle.release.specs.declared.{licence.Wrong.{Wrong, the-variants.{At, Nothing}}, Released.{Released}}
+use Rattle.release.specs.{Licence.{pairsOf, badCount, firstWrong}, Pair.{pairLength}}
 use Rattle.release.specs.Answer.{roomAnswer, afterPairs, licenceAnswer, afterSheet, releaseAnswer, ReleaseAnswered}
-use Rattle.conversion.specs.declared.Carried.{Carried}
+use Rattle.release.specs.declared.Released.the-variants as released
+use Rattle.conversion.{specs.{declared.Carried.{Carried}, Values.{other}, Sheet.{casesIn}}, proofs.RoundTrip.{carried-short}}
 use Rattle.conversion.specs.declared.Carried.the-variants as carried
-use Rattle.conversion.specs.Values.{other}
-use Rattle.conversion.specs.Sheet.{casesIn}
 use Rattle.conversion.specs.Answer as conversion
-use Rattle.conversion.proofs.RoundTrip.{carried-short}
 use Rattle.c_entry.specs.Room.{Few}
 use Rattle.c_counts.specs.Counts.{stationCount, pairCount, byteCount}
 

@@ -1,18 +1,13 @@
 -- The answer of a sheet's one line, from the lines that were stored.
 use Prim.Native.Nat.{ℕ, zero, suc}
-use mathlib.Core.Path.{_≡_, refl}
-use mathlib.Core.List.{List}
+use mathlib.Core.{Path.{_≡_, refl}, List.{List}}
 use lib.ListN.{take}
 use Rattle.tables.specs.Parts.{partsOf}
-use Rattle.case.specs.Case.{caseOf}
-use Rattle.case.specs.Columns.{columns, nameCount}
+use Rattle.case.specs.{Case.{caseOf}, Columns.{columns, nameCount}}
 use Rattle.judgement.specs.declared.Judgement.the-variants as judged
 use Rattle.judgement.specs.Sheet.{judgement}
-use Rattle.sheet.specs.Answer.{cases}
-use Rattle.sheet.specs.Rows.{storedCases}
-use Rattle.yards.specs.declared.FewestLines.{FewestLines}
-use Rattle.yards.specs.declared.FewestLines.the-variants.{Refused}
-use Rattle.yards.specs.Fewest.{FewestAnswered}
+use Rattle.sheet.specs.{Answer.{cases}, Rows.{storedCases}}
+use Rattle.yards.specs.{declared.FewestLines.{FewestLines, the-variants.{Refused}}, Fewest.{FewestAnswered}}
 use Rattle.c_questions.specs.OneLine.{CasesFewest, FewestBy, SheetFewest}
 
 pub not-one : (values : List ℕ) (side n : ℕ) → (n ≡ 1 → ⊥) → CasesFewest side (storedCases values n) (Refused 4 3 0)

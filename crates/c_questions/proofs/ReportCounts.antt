@@ -1,11 +1,8 @@
 -- The counts that reports answer have 64 signed bits.
 use Prim.Native.Nat.{ℕ, _<_, _^_}
-use mathlib.Core.Bool.{Bool, true, false, cond}
-use mathlib.Core.List.{List}
+use mathlib.Core.{Bool.{Bool, true, false, cond}, List.{List}}
 use native.Mathlib.Omega.{arith}
-use lib.Dec.{ltb}
-use lib.IntN.{ℤ}
-use lib.ListN.{length}
+use lib.{Dec.{ltb}, IntN.{ℤ}, ListN.{length}}
 use Rattle.sheet.specs.declared.Answer.{Answer}
 use Rattle.sheet.specs.declared.Answer.the-variants as sheet
 use Rattle.readings.specs.declared.Sounding.{Sounding}

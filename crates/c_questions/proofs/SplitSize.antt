@@ -1,24 +1,14 @@
 -- Every split has 64 signed bits: the grid current's parts are at most 17 times the largest, and the injected current is not 0.
 use Prim.Native.Nat.{ℕ, zero, suc, _+_, _*_, _≤_, _<_, _^_}
-use mathlib.Core.Path.{_≡_, refl}
-use mathlib.Core.Bool.{Bool, true, false, cond}
-use mathlib.Core.List.{List}
-use native.Mathlib.Omega.{arith}
-use native.Mathlib.Decide.{decLt}
-use native.Mathlib.Nat.{mul-le-mul}
-use lib.IntN.{ℤ, natAbs}
-use lib.ListN.{length}
+use mathlib.Core.{Path.{_≡_, refl}, Bool.{Bool, true, false, cond}, List.{List}}
+use native.Mathlib.{Omega.{arith}, Decide.{decLt}, Nat.{mul-le-mul}}
+use lib.{IntN.{ℤ, natAbs}, ListN.{length}}
 use Rattle.text.proofs.Clash.{clash}
-use Rattle.staged.specs.declared.SplitAnswer.{SplitAnswer}
-use Rattle.staged.specs.declared.SplitAnswer.the-variants.{Grid, Refused}
-use Rattle.staged.specs.Check.{badCount, anyOutside, noneInjected}
-use Rattle.staged.specs.Current.{everyOther, gridPart, inPhase, quadrature, squareOf}
-use Rattle.staged.specs.Split.{splitOf}
-use Rattle.staged.specs.Parts.{Sound, Parts, largestGridPart}
-use Rattle.staged.specs.Answer.{gridSquare, injectedSquare, gridAnswer, answer}
+use Rattle.staged.specs.{declared.SplitAnswer.{SplitAnswer, the-variants.{Grid, Refused}}, Check.{badCount, anyOutside, noneInjected}}
+use Rattle.staged.specs.{Current.{everyOther, gridPart, inPhase, quadrature, squareOf}, Split.{splitOf}}
+use Rattle.staged.specs.{Parts.{Sound, Parts, largestGridPart}, Answer.{gridSquare, injectedSquare, gridAnswer, answer}}
 use Rattle.staged.proofs.GridCurrent.{Left, left-start, left-step, left-end, left-small}
-use Rattle.staged.proofs.SoundTest.{parts, parts-after-first, injected-some}
-use Rattle.staged.proofs.Smallest.{split-least}
+use Rattle.staged.proofs.{SoundTest.{parts, parts-after-first, injected-some}, Smallest.{split-least}}
 use Rattle.c_reply.specs.Reply.{SmallSplit}
 
 grid-part-small : {s : List ℤ} → Parts s → natAbs (gridPart (everyOther s)) ≤ largestGridPart

@@ -1,12 +1,9 @@
 -- An answer that is told, under another name of it.
 use Prim.Native.Nat.{ℕ}
-use mathlib.Core.Path.{_≡_, ap, _∙_}
-use mathlib.Core.List.{List}
+use mathlib.Core.{Path.{_≡_, ap, _∙_}, List.{List}}
 use lib.IntN.{ℤ}
 use Rattle.sheet.specs.declared.Answer.{Answer}
-use Rattle.c_entry.specs.Answer.{signedAnswer}
-use Rattle.c_entry.specs.Place.{placeAfter}
-use Rattle.c_entry.specs.Told.{Told}
+use Rattle.c_entry.specs.{Answer.{signedAnswer}, Place.{placeAfter}, Told.{Told}}
 
 pub told-as : {a b : Answer} {place pointed : List ℕ} {r z : ℤ} → z ≡ r → a ≡ b → Told a place pointed r → Told b place pointed z
 told-as {a} {b} {place} q e t =

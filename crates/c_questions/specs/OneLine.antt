@@ -1,18 +1,12 @@
 -- The fewest lines for the one value line of a sheet and a side, as numbers in an array that the caller lends.
 use Prim.Native.Nat.{ℕ}
-use mathlib.Core.Path.{_≡_}
-use mathlib.Core.List.{List, [], _∷_}
+use mathlib.Core.{Path.{_≡_}, List.{List, [], _∷_}}
 use lib.IntN.{ℤ}
-use Rattle.case.specs.declared.Case.{Case}
-use Rattle.case.specs.Columns.{columns}
-use Rattle.judgement.specs.declared.Judgement.{Judgement}
+use Rattle.case.specs.{declared.Case.{Case}, Columns.{columns}}
+use Rattle.judgement.specs.{declared.Judgement.{Judgement}, Sheet.{judgement}}
 use Rattle.judgement.specs.declared.Judgement.the-variants as judged
-use Rattle.judgement.specs.Sheet.{judgement}
-use Rattle.sheet.specs.declared.Answer.{Answer}
-use Rattle.sheet.specs.Answer.{cases}
-use Rattle.yards.specs.declared.FewestLines.{FewestLines}
-use Rattle.yards.specs.declared.FewestLines.the-variants.{Refused}
-use Rattle.yards.specs.Fewest.{FewestAnswered}
+use Rattle.sheet.specs.{declared.Answer.{Answer}, Answer.{cases}}
+use Rattle.yards.specs.{declared.FewestLines.{FewestLines, the-variants.{Refused}}, Fewest.{FewestAnswered}}
 use Rattle.c_entry.specs.Told.{Told}
 use Rattle.c_reply.specs.Reply.{Replied, fewestReply}
 

@@ -1,15 +1,10 @@
 -- The answers of operations that report numbers of their own, as numbers in an array that the caller lends.
 use Prim.Native.Nat.{ℕ, _<_, _^_}
-use mathlib.Core.Path.{_≡_}
-use mathlib.Core.Bool.{cond}
-use mathlib.Core.List.{List, [], _∷_, _++_}
-use lib.Dec.{ltb}
-use lib.IntN.{ℤ, pos}
-use lib.ListN.{length, drop}
+use mathlib.Core.{Path.{_≡_}, Bool.{cond}, List.{List, [], _∷_, _++_}}
+use lib.{Dec.{ltb}, IntN.{ℤ, pos}, ListN.{length, drop}}
 use Rattle.sheet.specs.declared.Answer.{Answer}
 use Rattle.sheet.specs.declared.Answer.the-variants as sheet
-use Rattle.readings.specs.declared.Report.{Report}
-use Rattle.readings.specs.declared.Sounding.{Sounding}
+use Rattle.readings.specs.declared.{Report.{Report}, Sounding.{Sounding}}
 use Rattle.readings.specs.declared.Sounding.the-variants as sounding
 use Rattle.staged.specs.declared.SplitAnswer.{SplitAnswer}
 use Rattle.staged.specs.declared.SplitAnswer.the-variants as split

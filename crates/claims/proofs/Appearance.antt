@@ -1,18 +1,11 @@
 -- Numbers by first appearance: which line each comes from.
 use Prim.Native.Nat.{ℕ, suc, _+_, _<_}
-use mathlib.Core.Path.{_≡_, refl, sym, ap, _∙_}
-use mathlib.Core.Bool.{Bool, true, false, cond, _||_, false≢true}
-use mathlib.Core.List.{List, [], _∷_, _++_}
-use native.Mathlib.Decide.{ℕ-discrete}
-use native.Mathlib.Omega.{arith}
-use lib.Dec.{eqb}
-use lib.IntN.{ℤ, pos}
-use lib.ListN.{length, getD, drop, length-append, List·getD-append}
-use lib.Seq.{getD-append-add, getD-drop, drop-drop}
+use mathlib.Core.{Path.{_≡_, refl, sym, ap, _∙_}, Bool.{Bool, true, false, cond, _||_, false≢true}, List.{List, [], _∷_, _++_}}
+use native.Mathlib.{Decide.{ℕ-discrete}, Omega.{arith}}
+use lib.{Dec.{eqb}, IntN.{ℤ, pos}, ListN.{length, getD, drop, length-append, List·getD-append}, Seq.{getD-append-add, getD-drop, drop-drop}}
 use borrow.Author.Tests.{eq-eqb, ne-eqb}
 use Rattle.text.proofs.Clash.{clash}
-use Rattle.stations.specs.Summary.{sameZ, among, byAppearance}
-use Rattle.stations.proofs.Same.{same-refl, same-eq}
+use Rattle.stations.{specs.Summary.{sameZ, among, byAppearance}, proofs.Same.{same-refl, same-eq}}
 use Rattle.claims.specs.Summary.{ByAppearance}
 
 -- a number among others stands at some place

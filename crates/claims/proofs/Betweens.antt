@@ -1,15 +1,11 @@
 -- Tests by two ends, and a question that a test settles.
 use Prim.Native.Nat.{ℕ}
-use mathlib.Core.Path.{_≡_, refl}
-use mathlib.Core.Bool.{Bool, true, false, _&&_}
-use lib.Dec.{leb}
-use lib.IntN.{ℤ}
-use lib.Signed.{_≤ℤ_, leZ, leZ-yes}
+use mathlib.Core.{Path.{_≡_, refl}, Bool.{Bool, true, false, _&&_}}
+use lib.{Dec.{leb}, IntN.{ℤ}, Signed.{_≤ℤ_, leZ, leZ-yes}}
 use borrow.Author.Tests.{leb-true, le-leb}
 use mir.Facts.{and-yes as both, yes-and}
 use Rattle.text.proofs.Clash.{clash}
-use Rattle.case.specs.Bounds.{Between}
-use Rattle.case.proofs.Tests.{passed}
+use Rattle.case.{specs.Bounds.{Between}, proofs.Tests.{passed}}
 
 pub and-yes : (a b : Bool) → a && b ≡ true → (a ≡ true) × (b ≡ true)
 and-yes true b e = (refl, e)

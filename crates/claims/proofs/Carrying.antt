@@ -1,37 +1,24 @@
 -- Request (e): every answer to a sheet that is to be carried over, and back.
-use Prim.Native.Nat.{ℕ, zero, suc, _+_, _≤_, _<_}
-use Prim.Native.String.{String}
-use mathlib.Core.Path.{_≡_, refl, sym, ap, _∙_}
-use mathlib.Core.Bool.{Bool, true, false, cond, _&&_}
-use mathlib.Core.List.{List, [], _∷_, _++_, map}
+use Prim.Native.{Nat.{ℕ, zero, suc, _+_, _≤_, _<_}, String.{String}}
+use mathlib.Core.{Path.{_≡_, refl, sym, ap, _∙_}, Bool.{Bool, true, false, cond, _&&_}, List.{List, [], _∷_, _++_, map}}
 use native.Mathlib.Omega.{arith}
-use lib.Dec.{eqb, ltb}
-use lib.ListN.{length, getD, take, drop, length-append, length-drop, length-map}
-use lib.Seq.{take-at, drop-at}
+use lib.{Dec.{eqb, ltb}, ListN.{length, getD, take, drop, length-append, length-drop, length-map}, Seq.{take-at, drop-at}}
 use borrow.Author.Tests.{eqb-true, eqb-false, ne-eqb, ltb-true, ltb-false}
-use Rattle.text.proofs.Clash.{clash}
-use Rattle.text.specs.Text.{same}
-use Rattle.case.specs.declared.Form.{Form}
-use Rattle.case.specs.declared.Form.the-variants.{Present, Former}
-use Rattle.case.specs.Columns.{columns, formerColumns, name-count, former-name-count, nameIndex, named}
-use Rattle.case.specs.Parts.{formOf}
+use Rattle.text.{specs.Text.{same}, proofs.Clash.{clash}}
+use Rattle.case.specs.declared.Form.{Form, the-variants.{Present, Former}}
+use Rattle.case.specs.{Columns.{columns, formerColumns, name-count, former-name-count, nameIndex, named}, Parts.{formOf}}
 use Rattle.case.proofs.Tests.{_then_}
-use Rattle.judgement.specs.declared.Judgement.{Judgement}
+use Rattle.judgement.specs.{declared.Judgement.{Judgement}, Refusal.{nameRefused}}
+use Rattle.judgement.{specs.Sheet.{names, valueLines, namesJudgement, judgementWithin, judgement}, proofs.Accepted.{accepted}}
 use Rattle.judgement.specs.declared.Judgement.the-variants as judged
-use Rattle.header.specs.Header.{noColumns, wrongName}
-use Rattle.header.proofs.NamesStand.{names-stand}
-use Rattle.judgement.specs.Refusal.{nameRefused}
-use Rattle.judgement.specs.Sheet.{names, valueLines, namesJudgement, judgementWithin, judgement}
-use Rattle.judgement.proofs.Accepted.{accepted}
-use Rattle.conversion.specs.declared.Carried.{Carried}
-use Rattle.conversion.specs.declared.Carried.the-variants.{Bytes, Refused}
-use Rattle.conversion.specs.Values.{other, presentValues, formerValues, carried as carriedValues}
-use Rattle.conversion.specs.Sheet.{casesIn}
+use Rattle.header.{specs.Header.{noColumns, wrongName}, proofs.NamesStand.{names-stand}}
+use Rattle.conversion.specs.declared.Carried.{Carried, the-variants.{Bytes, Refused}}
+use Rattle.conversion.specs.{Values.{other, presentValues, formerValues, carried as carriedValues}, Sheet.{casesIn}}
 use Rattle.conversion.specs.Answer.{lineChange, changesFrom, changes, carriedText, roomAnswer, refusedOr, answer, bufferAfter, Answered}
 use Rattle.conversion.proofs.RoundTrip as trip
 use Rattle.claims.specs.Words.{Breaks}
-use Rattle.claims.specs.Carried.{AcceptedIn, lineIn, Into, Returns, Held, times, counts, hertz, Goes, NewSheet, Written}
-use Rattle.claims.specs.Carried.{CarryOutcome, rule, held, short, carried, BackOutcome}
+use Rattle.claims.specs.Carried.{AcceptedIn, lineIn, Into, Returns, Held, times, counts, hertz, Goes, NewSheet, Written, CarryOutcome}
+use Rattle.claims.specs.Carried.{rule, held, short, carried, BackOutcome}
 use Rattle.claims.specs.Carried as claim
 
 -- ---- the lines on the way back
@@ -68,8 +55,7 @@ line-changed v vs k {later} c =
         before (suc j) g = b j (omega arith)
 
     go : (a : Bool) → eqb (the "shock") (the "clear") ≡ a → (b : Bool) → eqb (the "clear") (the "wire") ≡ b → (d : Bool)
-        → eqb (the "across") (the "along") ≡ d
-        → (h : Bool) → eqb (the "hz") 60 ≡ h
+        → eqb (the "across") (the "along") ≡ d → (h : Bool) → eqb (the "hz") 60 ≡ h
         → Changed (v ∷ vs) k (cond (a && b) (cond d (cond h later (judged.Refused 11 k 0)) (judged.Refused 10 k 0)) (judged.Refused 9 k 0))
     go false e b f d g h i = here (times (λ t. eqb-false _ _ e (t .0)))
     go true e false f d g h i = here (times (λ t. eqb-false _ _ f (t .1)))
@@ -168,8 +154,7 @@ back-way : {s before after : List ℕ} {n : ℕ} {j : Judgement} → AcceptedIn 
     → after ≡ bufferAfter Former s before (refusedOr j (roomAnswer (carriedText Former s) (length before)))
     → CarryOutcome Former s before after (refusedOr j (roomAnswer (carriedText Former s) (length before)))
 unfolding refusedOr bufferAfter formOf other
-back-way {s} {n = n} a (none all) b =
-    roomed (record { accepted = a; returns = λ e i l. all i (omega (arith, lines-count Former s n a)) }) b
+back-way {s} {n = n} a (none all) b = roomed (record { accepted = a; returns = λ e i l. all i (omega (arith, lines-count Former s n a)) }) b
 back-way {s} {n = n} a (first line i e l before h) b =
     rw e (held {i = i} (record { back = refl; lines = n; accepted = a; within = omega (arith, lines-count Former s n a); before = before })
     h b)
@@ -179,8 +164,10 @@ not-back e = clash cc
 
 way : (form : Form) {s before after : List ℕ} {n : ℕ} → AcceptedIn (other form) s n
     → after
-    ≡ bufferAfter form s before (refusedOr (changes form (casesIn (formOf (other form)) s)) (roomAnswer (carriedText form s) (length before)))
-    → CarryOutcome form s before after (refusedOr (changes form (casesIn (formOf (other form)) s)) (roomAnswer (carriedText form s) (length before)))
+    ≡ bufferAfter form s before
+    (refusedOr (changes form (casesIn (formOf (other form)) s)) (roomAnswer (carriedText form s) (length before)))
+    → CarryOutcome form s before after
+    (refusedOr (changes form (casesIn (formOf (other form)) s)) (roomAnswer (carriedText form s) (length before)))
 unfolding changes refusedOr formOf other
 way Present a b = roomed (record { accepted = a; returns = λ e. absurd (not-back e) }) b
 way Former {s} a b = back-way a (changed 2 (casesIn columns s)) b

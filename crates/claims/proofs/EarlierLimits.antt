@@ -3,8 +3,7 @@ use Prim.Native.Nat.{ℕ}
 use mathlib.Core.List.{List}
 use Rattle.case.specs.Columns.{columns}
 use Rattle.judgement.proofs.OtherLimits.{stored-sheet-kept, long-refused-earlier, many-refused-earlier}
-use Rattle.claims.specs.Words.{BreaksNone}
-use Rattle.claims.specs.Rules.{AcceptedEarlier, AboveEarlier}
+use Rattle.claims.specs.{Words.{BreaksNone}, Rules.{AcceptedEarlier, AboveEarlier}}
 
 -- "Stored sheets keep their rows."
 pub stored-sheet : (s : List ℕ) (n : ℕ) → AcceptedEarlier s n → BreaksNone s n

@@ -1,15 +1,11 @@
 -- What the entries for programs in C tell: one manner, and the operations that fill arrays of the caller's.
 use Prim.Native.Nat.{ℕ, _≤_, _<_}
-use mathlib.Core.Path.{_≡_, refl, _∙_}
-use mathlib.Core.List.{List, [], _∷_}
+use mathlib.Core.{Path.{_≡_, refl, _∙_}, List.{List, [], _∷_}}
 use native.Mathlib.Omega.{arith}
-use lib.IntN.{ℤ}
-use lib.ListN.{length}
-use Rattle.case.specs.declared.Form.{Form}
+use lib.{IntN.{ℤ}, ListN.{length}}
+use Rattle.case.specs.{declared.Form.{Form}, Columns.{Column, columns}, Parts.{formOf}}
 use Rattle.judgement.specs.declared.Judgement.the-variants as judged
 use Rattle.judgement.proofs.Numbers as judgements
-use Rattle.case.specs.Columns.{Column, columns}
-use Rattle.case.specs.Parts.{formOf}
 use Rattle.judgement.specs.Sheet.{judgement}
 use Rattle.sheet.specs.declared.Answer.{Answer}
 use Rattle.sheet.specs.declared.Answer.the-variants as answer
@@ -17,12 +13,9 @@ use Rattle.stations.specs.declared.Summed.{Summed}
 use Rattle.stations.specs.declared.Summed.the-variants as summed
 use Rattle.release.specs.declared.Released.{Released}
 use Rattle.release.specs.declared.Released.the-variants as released
-use Rattle.conversion.specs.declared.Carried.{Carried}
+use Rattle.conversion.specs.{declared.Carried.{Carried}, Values.{other}}
 use Rattle.conversion.specs.declared.Carried.the-variants as carried
-use Rattle.conversion.specs.Values.{other}
-use Rattle.c_entry.specs.Answer.{signedAnswer}
-use Rattle.c_entry.specs.Place.{placeAfter}
-use Rattle.c_entry.specs.Told.{Told}
+use Rattle.c_entry.specs.{Answer.{signedAnswer}, Place.{placeAfter}, Told.{Told}}
 use Rattle.c_counts.specs.Counts.{stationCount, pairCount, byteCount}
 use Rattle.c_questions.specs.Operations.{SummaryTold, ReleaseTold, CarryTold}
 use Rattle.claims.specs.Summary as summary

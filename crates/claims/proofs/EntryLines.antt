@@ -1,43 +1,28 @@
 -- Margins, working and headroom of every value line told to a program in C.
 use Prim.Native.Nat.{ℕ, zero, suc, _*_, _≤_}
-use mathlib.Core.Path.{_≡_, refl, sym, _∙_}
-use mathlib.Core.Bool.{Bool, true, false, cond}
-use mathlib.Core.List.{List, [], _∷_}
+use mathlib.Core.{Path.{_≡_, refl, sym, _∙_}, Bool.{Bool, true, false, cond}, List.{List, [], _∷_}}
 use native.Mathlib.Omega.{arith}
-use lib.Dec.{ltb}
-use lib.IntN.{ℤ, pos}
-use lib.ListN.{length}
+use lib.{Dec.{ltb}, IntN.{ℤ, pos}, ListN.{length}}
 use borrow.Author.Tests.{ltb-true, ltb-false}
 use Rattle.tables.specs.Parts.{partAt}
-use Rattle.case.specs.declared.Case.{Case}
-use Rattle.case.specs.Columns.{columns}
-use Rattle.case.specs.Bounds.{Bounds}
-use Rattle.case.proofs.BoundsSound.{bounds-sound}
-use Rattle.judgement.specs.declared.Judgement.{Judgement}
+use Rattle.case.{specs.{declared.Case.{Case}, Columns.{columns}, Bounds.{Bounds}}, proofs.BoundsSound.{bounds-sound}}
+use Rattle.judgement.specs.{declared.Judgement.{Judgement}, Sheet.{judgement}}
 use Rattle.judgement.specs.declared.Judgement.the-variants as judged
-use Rattle.judgement.specs.Sheet.{judgement}
-use Rattle.row.specs.declared.Row.{Row}
-use Rattle.row.specs.Ends.{rowOf}
-use Rattle.margin.specs.Meaning.{Right, RightMargins}
-use Rattle.margin.proofs.Right.{right-margins}
+use Rattle.row.specs.{declared.Row.{Row}, Ends.{rowOf}}
+use Rattle.margin.{specs.Meaning.{Right, RightMargins}, proofs.Right.{right-margins}}
 use Rattle.working.specs.Working.{RightWorked}
 use Rattle.headroom.specs.Headroom as headroom
 use Rattle.sheet.specs.declared.Answer.the-variants as answer
 use Rattle.sheet.specs.Answer.{cases}
-use Rattle.hocsimbur.specs.declared.RowAnswer.{RowAnswer}
+use Rattle.hocsimbur.{specs.{declared.RowAnswer.{RowAnswer}, Asked.{RowAnswered}}, proofs.Answers.{bounds-answered}}
 use Rattle.hocsimbur.specs.declared.RowAnswer.the-variants as answered
-use Rattle.hocsimbur.specs.Asked.{RowAnswered}
-use Rattle.hocsimbur.proofs.Answers.{bounds-answered}
-use Rattle.c_line.specs.declared.Question.{Question}
+use Rattle.c_line.{specs.declared.Question.{Question}, proofs.LineParts.{is-worked}}
 use Rattle.c_line.specs.declared.Question.the-variants as question
 use Rattle.c_line.specs.Line as line
-use Rattle.c_line.proofs.LineParts.{is-worked}
 use Rattle.c_lines.specs.Lines.{linesBy, linesAnswer, Filled, ArrayAfter, LinesTold}
 use Rattle.claims.specs.Words.{BreaksNone, caseAt}
 use Rattle.claims.specs.Entries as entries
-use Rattle.claims.proofs.Sheets.{cases-count, bounds-at}
-use Rattle.claims.proofs.Workings.{working-outcome}
-use Rattle.claims.proofs.Later.{headroom-outcome}
+use Rattle.claims.proofs.{Sheets.{cases-count, bounds-at}, Workings.{working-outcome}, Later.{headroom-outcome}}
 use Rattle.claims.proofs.Entries.{Says, in-c, rule-number}
 
 -- ---- every question: what its numbers say of a case within its bounds is all that differs
@@ -67,8 +52,7 @@ module _ (q : Question) (Line : Case → List ℤ → Type 0)
   answer-says s before after (judged.Refused k l c) e h = (rule-number columns s e, entries.rule e h)
   answer-says s before after (judged.Lines n) e h = roomy (ltb (length before) (width * n)) refl h
     where
-      roomy : (b : Bool) → ltb (length before) (width * n) ≡ b
-          → ArrayAfter q s before after (cond b (answer.Refused 8 0 0) (answer.Rows n))
+      roomy : (b : Bool) → ltb (length before) (width * n) ≡ b → ArrayAfter q s before after (cond b (answer.Refused 8 0 0) (answer.Rows n))
           → Says (entries.EveryLine width Line s before after) (entries.LinesRefused width Line s before after)
           (cond b (answer.Refused 8 0 0) (answer.Rows n))
       roomy true p h =
@@ -105,8 +89,7 @@ margins-say c part b l =
 
 working-says : (c : Case) (part : List ℤ) → Bounds c → line.WorkingLine c part → entries.WorkingNumbers c part
 unfolding RightWorked
-working-says c part b l =
-    rw (l .is) (entries.working (working-outcome (record { answer = sym (is-worked b); right = l .right })))
+working-says c part b l = rw (l .is) (entries.working (working-outcome (record { answer = sym (is-worked b); right = l .right })))
 
 headroom-says : (c : Case) (part : List ℤ) → Bounds c → line.HeadroomLine c part → entries.HeadroomNumber c part
 unfolding line.RightFault headroom.RightRoom headroom.checked

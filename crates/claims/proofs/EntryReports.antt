@@ -1,23 +1,14 @@
 -- Soil, split and fewest lines told to a program in C: the numbers of a report in an array.
 use Prim.Native.Nat.{ℕ, _≤_}
-use mathlib.Core.Path.{_≡_, refl, ap, _∙_}
-use mathlib.Core.Bool.{Bool, true, false, cond}
-use mathlib.Core.List.{List, [], _∷_, _++_}
+use mathlib.Core.{Path.{_≡_, refl, ap, _∙_}, Bool.{Bool, true, false, cond}, List.{List, [], _∷_, _++_}}
 use native.Mathlib.Omega.{arith}
-use lib.Dec.{ltb}
-use lib.IntN.{ℤ}
-use lib.ListN.{length, getD, drop}
+use lib.{Dec.{ltb}, IntN.{ℤ}, ListN.{length, getD, drop}}
 use borrow.Author.Tests.{ltb-true, ltb-false}
-use Rattle.case.specs.declared.Case.{Case}
-use Rattle.case.specs.Case.{caseOf}
-use Rattle.case.specs.Columns.{columns}
-use Rattle.judgement.specs.declared.Judgement.{Judgement}
+use Rattle.case.specs.{declared.Case.{Case}, Case.{caseOf}, Columns.{columns}}
+use Rattle.judgement.{specs.{declared.Judgement.{Judgement}, Sheet.{judgement}}, proofs.Accepted.{accepted}}
 use Rattle.judgement.specs.declared.Judgement.the-variants as judged
-use Rattle.judgement.specs.Sheet.{judgement}
-use Rattle.judgement.proofs.Accepted.{accepted}
-use Rattle.sheet.specs.declared.Answer.{Answer}
+use Rattle.sheet.specs.{declared.Answer.{Answer}, Answer.{cases}}
 use Rattle.sheet.specs.declared.Answer.the-variants as answer
-use Rattle.sheet.specs.Answer.{cases}
 use Rattle.readings.specs.declared.Sounding.{Sounding}
 use Rattle.readings.specs.declared.Sounding.the-variants as sounding
 use Rattle.staged.specs.declared.SplitAnswer.{SplitAnswer}
@@ -27,17 +18,13 @@ use Rattle.yards.specs.declared.FewestLines.{FewestLines}
 use Rattle.yards.specs.declared.FewestLines.the-variants as yards
 use Rattle.c_entry.specs.Told.{Told}
 use Rattle.c_reply.specs.Reply.{Reply, Numbers, Refused, replyAnswer, numbersAfter, Replied, soilReply, splitReply, fewestReply}
-use Rattle.c_questions.specs.Reports.{SoilTold, SplitTold}
-use Rattle.c_questions.specs.OneLine.{CasesFewest, FewestBy, SheetFewest, FewestTold}
+use Rattle.c_questions.specs.{Reports.{SoilTold, SplitTold}, OneLine.{CasesFewest, FewestBy, SheetFewest, FewestTold}}
 use Rattle.claims.specs.Words.{BreaksNone, caseAt}
 use Rattle.claims.specs.Record as record-checks
 use Rattle.claims.specs.Measured as measured
 use Rattle.claims.specs.Yards as yard
 use Rattle.claims.specs.Entries as entries
-use Rattle.claims.proofs.Sheets.{cases-count}
-use Rattle.claims.proofs.Readings.{soil-outcome}
-use Rattle.claims.proofs.StagedTests.{split-outcome}
-use Rattle.claims.proofs.Yards.{fewest-outcome}
+use Rattle.claims.proofs.{Sheets.{cases-count}, Readings.{soil-outcome}, StagedTests.{split-outcome}, Yards.{fewest-outcome}}
 use Rattle.claims.proofs.Entries.{Says, in-c, rule-number}
 
 -- ---- any report
@@ -137,8 +124,7 @@ module _ (s : List ℕ) (side : ℕ) where
   sheet-says (judged.Lines n) e a h = cases-say n e (cases s) refl a h
 
 pub fewest-in-c : {s : List ℕ} {side : ℕ} {before after : List ℤ} {place told : List ℕ} {r : ℤ}
-    → FewestTold s side before after place told r
-    → entries.FewestInC s side before after place told r
+    → FewestTold s side before after place told r → entries.FewestInC s side before after place told r
 unfolding SheetFewest
 fewest-in-c {s} {side} t =
     report-in-c _ _ (fewestReply (t .answer)) (t .numbers) (t .told)

@@ -1,37 +1,23 @@
 -- Headroom, and what cannot turn a yard red, of the answers of `row` and of the lines of sheets.
 use Prim.Native.Nat.{ℕ, _<_}
-use mathlib.Core.Path.{_≡_, refl, sym, _∙_}
-use mathlib.Core.List.{List}
+use mathlib.Core.{Path.{_≡_, refl, sym, _∙_}, List.{List}}
 use native.Mathlib.Omega.{arith}
 use lib.IntN.{ℤ, pos}
 use Rattle.text.proofs.Clash.{clash}
 use Rattle.tables.proofs.Parts.{part-entry}
-use Rattle.case.specs.declared.Case.{Case}
-use Rattle.case.specs.declared.Judged.{Judged}
+use Rattle.case.specs.{declared.{Case.{Case}, Judged.{Judged}}, Check.{recordJudged}}
 use Rattle.case.specs.declared.Judged.the-variants as judged
-use Rattle.case.specs.Check.{recordJudged}
-use Rattle.row.specs.declared.Row.{Row}
-use Rattle.row.specs.declared.Verdict.the-variants.{Safe}
-use Rattle.row.specs.NoWorse.{NoWorse}
-use Rattle.row.specs.LessSoil.{LessSoil}
-use Rattle.headroom.specs.declared.Room.{Room}
-use Rattle.headroom.specs.declared.Room.the-variants.{UpTo, None, Refused}
+use Rattle.row.specs.{declared.{Row.{Row}, Verdict.the-variants.{Safe}}, NoWorse.{NoWorse}, LessSoil.{LessSoil}}
+use Rattle.headroom.specs.declared.Room.{Room, the-variants.{UpTo, None, Refused}}
 use Rattle.headroom.specs.Headroom.{RightRoom, checked as found, HeadroomAnswered}
-use Rattle.sheet.specs.declared.Answer.the-variants.{Rows}
-use Rattle.sheet.specs.Table.{Answered}
-use Rattle.sheet.proofs.NoWorse.{no-worse-line-safe}
+use Rattle.sheet.{specs.{declared.Answer.the-variants.{Rows}, Table.{Answered}}, proofs.NoWorse.{no-worse-line-safe}}
 use Rattle.sheet.proofs.LessSoil.{drier-line-decides}
-use Rattle.hocsimbur.specs.declared.RowAnswer.{RowAnswer}
-use Rattle.hocsimbur.specs.declared.RowAnswer.the-variants.{Is}
-use Rattle.hocsimbur.specs.Asked.{RowAnswered, AnsweredWith}
-use Rattle.hocsimbur.proofs.NoWorse.{no-worse-row-safe}
-use Rattle.hocsimbur.proofs.HeadroomRows.{headroom-rows, no-headroom-rows}
-use Rattle.claims.specs.Words.{caseAt, verdictAt}
-use Rattle.claims.specs.Record.{RecordRefused, RecordSound}
-use Rattle.claims.specs.Later as claim
+use Rattle.hocsimbur.specs.{declared.RowAnswer.{RowAnswer, the-variants.{Is}}, Asked.{RowAnswered, AnsweredWith}}
+use Rattle.hocsimbur.proofs.{NoWorse.{no-worse-row-safe}, HeadroomRows.{headroom-rows, no-headroom-rows}}
+use Rattle.claims.specs.{Words.{caseAt, verdictAt}, Record.{RecordRefused, RecordSound}}
 use Rattle.claims.specs.Later.{HeadroomOutcome, up-to, none, EasedInside}
-use Rattle.claims.proofs.Records.{Checked, refused as checks-refuse, sound, checked, record-sound}
-use Rattle.claims.proofs.Sheets.{case-count}
+use Rattle.claims.specs.Later as claim
+use Rattle.claims.proofs.{Records.{Checked, refused as checks-refuse, sound, checked, record-sound}, Sheets.{case-count}}
 
 -- ---- headroom
 
@@ -60,8 +46,7 @@ headroom-outcome {c} {r} h = go r h
 -- ---- no worse, and drier
 
 pub no-worse : {c d : Case} {r : Row} {a : RowAnswer} → RowAnswered c (Is r) → r .verdict ≡ Safe → NoWorse c d → EasedInside d
-    → RowAnswered d a
-    → AnsweredWith Safe a
+    → RowAnswered d a → AnsweredWith Safe a
 no-worse h e n d a = no-worse-row-safe n (d .station) (d .season) (d .fault) (d .split) (d .shock) (d .body) h e a
 
 module _ {s t : List ℕ} {before after before′ after′ : List ℤ} {n m : ℕ} (h : Answered s before after (Rows n))

@@ -1,28 +1,17 @@
 -- The case of a value line has of each name the number under it.
-use Prim.Native.Nat.{ℕ, zero, suc, _-_, _<_}
-use Prim.Native.String.{String}
-use mathlib.Core.Path.{_≡_, refl, _∙_}
-use mathlib.Core.List.{List, [], _∷_, map}
+use Prim.Native.{Nat.{ℕ, zero, suc, _-_, _<_}, String.{String}}
+use mathlib.Core.{Path.{_≡_, refl, _∙_}, List.{List, [], _∷_, map}}
 use native.Mathlib.Omega.{arith}
 use lib.ListN.{length, getD, length-map, List·getD-map}
-use Rattle.text.specs.Text.{bytes}
-use Rattle.text.specs.Value.{numberFrom, valueOf}
-use Rattle.case.specs.Case.{caseOf}
-use Rattle.case.specs.Columns.{columns, name-count}
-use Rattle.header.specs.Header.{columnsOf}
-use Rattle.header.specs.Parts.{nameAt}
-use Rattle.header.specs.Names.{fieldAt}
-use Rattle.header.proofs.HeaderAccepted.{header-accepted}
+use Rattle.text.specs.{Text.{bytes}, Value.{numberFrom, valueOf}}
+use Rattle.case.specs.{Case.{caseOf}, Columns.{columns, name-count}}
+use Rattle.header.{specs.{Header.{columnsOf}, Parts.{nameAt}, Names.{fieldAt}}, proofs.HeaderAccepted.{header-accepted}}
 use Rattle.header.proofs.NamesStand.{Named, names-stand, name-stands}
 use Rattle.line.specs.Line.{wrongForm, lineValues, lineCase}
-use Rattle.judgement.specs.Sheet.{names, valueLines}
-use Rattle.judgement.specs.Wrong.{RightValues, WrongValues}
-use Rattle.judgement.proofs.ValueFields.{right-values, wrong-values}
+use Rattle.judgement.{specs.{Sheet.{names, valueLines}, Wrong.{RightValues, WrongValues}}, proofs.ValueFields.{right-values, wrong-values}}
 use Rattle.judgement.proofs.Causes.{wrongColumn}
-use Rattle.sheet.specs.Answer.{cases}
-use Rattle.sheet.proofs.StoredCases.{case-at}
-use Rattle.claims.specs.Words.{caseAt}
-use Rattle.claims.specs.Rules.{fieldsAt, Under, OwnLine}
+use Rattle.sheet.{specs.Answer.{cases}, proofs.StoredCases.{case-at}}
+use Rattle.claims.specs.{Words.{caseAt}, Rules.{fieldsAt, Under, OwnLine}}
 
 map-at : (f : ℕ → ℕ) (l : List ℕ) (k : ℕ) → k < length l → getD (map f l) k 0 ≡ f (getD l k 0)
 map-at f [] k h = absurd (omega arith)
@@ -33,8 +22,7 @@ map-at f (x ∷ l) (suc k) h = map-at f l k (omega arith)
 pub value-at : (at : List ℕ) (fields : List (List ℕ)) (k : ℕ) → k < length at
     → getD (lineValues at fields) k 0 ≡ valueOf (fieldAt fields (getD at k 0))
 unfolding lineValues valueOf numberFrom
-value-at at fields k h =
-    map-at (λ c. getD (map valueOf fields) (c - 1) 0) at k h ∙ List·getD-map valueOf fields (getD at k 0 - 1) []
+value-at at fields k h = map-at (λ c. getD (map valueOf fields) (c - 1) 0) at k h ∙ List·getD-map valueOf fields (getD at k 0 - 1) []
 
 -- fields that are right, or wrong, by the count of the form's names
 pub right-fields : (fields : List (List ℕ)) → wrongForm (length columns) 1 fields ≡ 0 → RightValues 22 fields

@@ -1,26 +1,14 @@
 -- The logarithm asked alone, and the margins of a row's numbers.
 use Prim.Native.Nat.{ℕ}
-use mathlib.Core.Path.{_≡_, refl, sym, _∙_}
-use mathlib.Core.Bool.{Bool, true, false, cond, _&&_, false≢true}
-use mathlib.Core.List.{List}
-use lib.Dec.{eqb}
-use lib.IntN.{ℤ, pos, natAbs}
-use lib.ListN.{length, getD}
+use mathlib.Core.{Path.{_≡_, refl, sym, _∙_}, Bool.{Bool, true, false, cond, _&&_, false≢true}, List.{List}}
+use lib.{Dec.{eqb}, IntN.{ℤ, pos, natAbs}, ListN.{length, getD}}
 use borrow.Author.Tests.{eqb-true, eqb-false}
-use Rattle.interval.specs.declared.Pair.{Pair}
-use Rattle.interval.specs.declared.Pair.the-variants.{Ends}
-use Rattle.exact.specs.Fraction.{whole, _÷f_}
-use Rattle.exact.specs.Logarithm.{lnOf}
-use Rattle.exact.specs.Reported.{ten}
-use Rattle.exact.specs.Answered.{RightPair}
+use Rattle.interval.specs.declared.Pair.{Pair, the-variants.{Ends}}
+use Rattle.exact.specs.{Fraction.{whole, _÷f_}, Logarithm.{lnOf}, Reported.{ten}, Answered.{RightPair}}
 use Rattle.numbers.proofs.Formulas.{number-logarithm}
-use Rattle.logarithm.specs.Ends.{lnEnds}
-use Rattle.logarithm.specs.Asked.{width, inside, refused, answerOf, Answered}
-use Rattle.margin.specs.declared.Compared.{Compared}
-use Rattle.margin.specs.declared.Compared.the-variants.{Margins, None}
-use Rattle.margin.specs.Margin.{margin, inRange, comparable, fourMargins, marginsOf}
-use Rattle.margin.specs.Meaning.{IsMargin}
-use Rattle.margin.proofs.Voltages.{voltages}
+use Rattle.logarithm.specs.{Ends.{lnEnds}, Asked.{width, inside, refused, answerOf, Answered}}
+use Rattle.margin.specs.declared.Compared.{Compared, the-variants.{Margins, None}}
+use Rattle.margin.{specs.{Margin.{margin, inRange, comparable, fourMargins, marginsOf}, Meaning.{IsMargin}}, proofs.Voltages.{voltages}}
 use Rattle.margin.proofs.Least.{is-margin}
 use Rattle.claims.specs.Measured.{LogarithmOutcome, upper, lower, ends, Comparable, MarginsOutcome, margins, none}
 use Rattle.claims.proofs.Betweens.{and-yes, between-yes, between-no, betweenℤ-yes, betweenℤ-is}

@@ -1,36 +1,22 @@
 -- What `verdict` prints, from what its text is promised to be.
 use Prim.Native.Nat.{ℕ, _≤_, _<_}
-use mathlib.Core.Path.{_≡_, refl, sym, ap, _∙_}
-use mathlib.Core.Bool.{Bool, true, false, cond}
-use mathlib.Core.List.{List, [], _∷_, _++_, map, append-nil}
+use mathlib.Core.{Path.{_≡_, refl, sym, ap, _∙_}, Bool.{Bool, true, false, cond}, List.{List, [], _∷_, _++_, map, append-nil}}
 use native.Mathlib.Omega.{arith}
-use lib.ListN.{length, getD, drop, length-map}
-use lib.Seq.{take-at, drop-at}
-use lib.Dec.{leb}
+use lib.{ListN.{length, getD, drop, length-map}, Seq.{take-at, drop-at}, Dec.{leb}}
 use borrow.Author.Tests.{leb-true, leb-false}
-use Rattle.case.specs.Case.{caseOf}
-use Rattle.case.specs.Columns.{columns}
+use Rattle.case.specs.{Case.{caseOf}, Columns.{columns}}
 use Rattle.text.specs.Text.{bytes}
-use Rattle.writing.specs.Decimal.{decimal}
-use Rattle.writing.specs.Text.{parted, moreFields, textOf}
-use Rattle.judgement.specs.declared.Judgement.{Judgement}
-use Rattle.judgement.specs.declared.Judgement.the-variants.{Lines, Refused}
-use Rattle.judgement.specs.Sheet.{judgement}
-use Rattle.row.specs.declared.Row.{Row}
-use Rattle.row.specs.Ends.{rowOf}
+use Rattle.writing.specs.{Decimal.{decimal}, Text.{parted, moreFields, textOf}}
+use Rattle.judgement.specs.{declared.Judgement.{Judgement, the-variants.{Lines, Refused}}, Sheet.{judgement}}
+use Rattle.row.specs.{declared.Row.{Row}, Ends.{rowOf}}
 use Rattle.sheet.specs.Answer.{cases}
 use Rattle.stations.specs.Answer.{sheetRows}
-use Rattle.listing.specs.declared.Program.the-variants.{Verdict}
-use Rattle.fields.specs.Refusal.{numbered, refusedText, unlessRefused}
-use Rattle.fields.specs.Listed.{listed}
-use Rattle.row_text.specs.Verdict.{verdictNames, verdictFields}
+use Rattle.listing.specs.{declared.Program.the-variants.{Verdict}, Programs.{programText}, Told.{Told}}
+use Rattle.fields.specs.{Refusal.{numbered, refusedText, unlessRefused}, Listed.{listed}}
+use Rattle.row_text.specs.{Verdict.{verdictNames, verdictFields}, Room.{textRoom}}
 use Rattle.sheet_text.specs.Texts.{verdictText}
-use Rattle.listing.specs.Programs.{programText}
-use Rattle.row_text.specs.Room.{textRoom}
-use Rattle.listing.specs.Told.{Told}
 use Rattle.claims.specs.Printed.{Printed, rowLine, VerdictOutcome, rows, refused, short}
-use Rattle.claims.proofs.Lines.{map-at}
-use Rattle.claims.proofs.Sheets.{cases-count}
+use Rattle.claims.proofs.{Lines.{map-at}, Sheets.{cases-count}}
 
 -- the line of a row
 abbrev line : Row → List ℕ

@@ -1,39 +1,22 @@
 -- Request (g): every answer to a list of readings.
 use Prim.Native.Nat.{ℕ, zero, suc, _+_, _*_, _/_, _%_, _≤_, _<_}
-use mathlib.Core.Path.{_≡_, refl, sym, ap, _∙_}
-use mathlib.Core.Bool.{Bool, true, false, cond, _&&_}
-use mathlib.Core.Logic.{inl, inr}
-use mathlib.Core.List.{List, [], _∷_, List·Memᴰ}
-use native.Mathlib.Omega.{arith}
-use native.Mathlib.Decide.{decLe}
-use lib.Dec.{leb, eqb, le→leb, lt→ltb, lit≤}
-use lib.IntN.{ℤ, pos, natAbs}
-use lib.ListN.{length, getD, drop}
-use lib.Seq.{getD-drop}
+use mathlib.Core.{Path.{_≡_, refl, sym, ap, _∙_}, Bool.{Bool, true, false, cond, _&&_}, Logic.{inl, inr}, List.{List, [], _∷_, List·Memᴰ}}
+use native.Mathlib.{Omega.{arith}, Decide.{decLe}}
+use lib.{Dec.{leb, eqb, le→leb, lt→ltb, lit≤}, IntN.{ℤ, pos, natAbs}, ListN.{length, getD, drop}, Seq.{getD-drop}}
 use lib.Signed.{_≤ℤ_, _<ℤ_, leZ-yes, ltZ-yes}
 use borrow.Author.Tests.{leb-true, leb-false, eqb-true, eqb-false}
 use Rattle.text.proofs.Clash.{clash}
-use Rattle.interval.specs.declared.Interval.{Interval}
-use Rattle.interval.specs.Operations.{natural}
-use Rattle.interval.specs.Whole.{ceilDiv}
+use Rattle.interval.specs.{declared.Interval.{Interval}, Operations.{natural}, Whole.{ceilDiv}}
 use Rattle.interval.proofs.Rounding.{ceilDiv-above, ceilDiv-by}
-use Rattle.exact.specs.Exact.{AtOrBelow}
-use Rattle.exact.specs.Reported.{ten}
-use Rattle.readings.specs.declared.outside.Range.{Range}
-use Rattle.readings.specs.declared.outside.Found.{Found}
-use Rattle.readings.specs.declared.outside.Found.the-variants.{At, Nothing}
-use Rattle.readings.specs.declared.Sounding.{Sounding}
-use Rattle.readings.specs.declared.Sounding.the-variants.{Soil, Refused}
-use Rattle.readings.specs.Reading.{Reading, pairsOf}
+use Rattle.exact.specs.{Exact.{AtOrBelow}, Reported.{ten}}
+use Rattle.readings.specs.declared.{outside.{Range.{Range}, Found.{Found, the-variants.{At, Nothing}}}, Sounding.{Sounding}}
+use Rattle.readings.specs.{declared.Sounding.the-variants.{Soil, Refused}, Reading.{Reading, pairsOf}}
 use Rattle.readings.specs.Limits.{distances, resistances, inRange}
 use Rattle.readings.specs.Refusal.{soundCount, numberIn, firstOutside, refusedAt, judged, answerOf}
-use Rattle.readings.specs.Resistivity.{apparent, least, greatest}
-use Rattle.readings.specs.Report.{μΩm, soilOf, RightReport}
-use Rattle.readings.specs.Ends.{productsOf, reportOf}
-use Rattle.readings.specs.Answer.{RightAnswer, Answered}
-use Rattle.readings.proofs.Pairs.{pair-count, pairAt, pairs-at}
-use Rattle.readings.proofs.Spans as spans
+use Rattle.readings.specs.{Resistivity.{apparent, least, greatest}, Report.{μΩm, soilOf, RightReport}, Ends.{productsOf, reportOf}}
+use Rattle.readings.{specs.Answer.{RightAnswer, Answered}, proofs.Pairs.{pair-count, pairAt, pairs-at}}
 use Rattle.readings.proofs.Extent.{least-below, greatest-above, least-some, greatest-some}
+use Rattle.readings.proofs.Spans as spans
 use Rattle.numbers.proofs.Readings.{reading-numbers}
 use Rattle.claims.specs.Measured.{WrongCount, DistanceInside, ResistanceInside, FirstPair, SoilReport, SoilOutcome, count, distance}
 use Rattle.claims.specs.Measured.{resistance, soil}
@@ -89,8 +72,7 @@ insideAt range column ps i = inRange range (numberIn column (getD ps i noReading
 data First (range : Range) (column place : ℕ) (ps : List Reading) : Found → Type 0 where
   nothing : ((i : ℕ) → i < length ps → insideAt range column ps i ≡ true) → First range column place ps Nothing
   at : (p i : ℕ) → p ≡ place + i → i < length ps → insideAt range column ps i ≡ false
-      → ((j : ℕ) → j < i → insideAt range column ps j ≡ true)
-      → First range column place ps (At p)
+      → ((j : ℕ) → j < i → insideAt range column ps j ≡ true) → First range column place ps (At p)
 
 first : (range : Range) (column place : ℕ) (ps : List Reading) → First range column place ps (firstOutside range column place ps)
 unfolding firstOutside insideAt
@@ -196,8 +178,7 @@ unfolding answerOf judged refusedAt RightAnswer
 soil-outcome {s} {r} a = rw (a .answer) (counted (soundCount (length s)) refl (rw (a .answer) at (a .right)))
   where
     judge : 1 ≤ length (pairsOf s) → ¬ WrongCount (length s) → (f g : Found) → First distances 1 1 (pairsOf s) f
-        → First resistances 2 1 (pairsOf s) g
-        → RightAnswer (pairsOf s) (refusedAt 13 1 f (refusedAt 14 2 g (Soil (reportOf (pairsOf s)))))
+        → First resistances 2 1 (pairsOf s) g → RightAnswer (pairsOf s) (refusedAt 13 1 f (refusedAt 14 2 g (Soil (reportOf (pairsOf s)))))
         → SoilOutcome s (refusedAt 13 1 f (refusedAt 14 2 g (Soil (reportOf (pairsOf s)))))
     judge some n (At _) g (at p i e l f b) k h =
         let z : p ≡ suc i = omega arith in rw z (distance {i = i} n (first-not s (distances-tested s) i l f b))

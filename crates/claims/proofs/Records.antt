@@ -1,51 +1,31 @@
 -- The checks of one case as a record, in the words of document 01.
 use Prim.Native.Nat.{ℕ, zero, suc, _+_, _≤_, _<_}
-use mathlib.Core.Path.{_≡_, refl, sym, _∙_}
-use mathlib.Core.Bool.{Bool, true, false, cond, _&&_}
-use mathlib.Core.Logic.{_⊎_, inl, inr}
-use mathlib.Core.List.{List, [], _∷_}
+use mathlib.Core.{Path.{_≡_, refl, sym, _∙_}, Bool.{Bool, true, false, cond, _&&_}, Logic.{_⊎_, inl, inr}, List.{List, [], _∷_}}
 use native.Mathlib.Omega.{arith}
-use lib.Dec.{eqb, leb, eqb·suc-zero}
-use lib.ListN.{length, getD}
+use lib.{Dec.{eqb, leb, eqb·suc-zero}, ListN.{length, getD}}
 use borrow.Author.Tests.{le-leb}
-use Rattle.text.proofs.Clash.{clash}
-use Rattle.text.specs.Text.{same}
-use Rattle.case.specs.declared.Case.{Case}
-use Rattle.case.specs.declared.Finding.the-variants as found
-use Rattle.case.specs.declared.Judged.{Judged}
-use Rattle.case.specs.declared.Judged.the-variants as judged
-use Rattle.case.specs.Case.{values}
+use Rattle.text.{specs.Text.{same}, proofs.Clash.{clash}}
+use Rattle.case.specs.{declared.{Case.{Case}, Judged.{Judged}}, Case.{values}}
 use Rattle.case.specs.Columns.{Form, columns, inRange, nameIndex, named, name-count}
 use Rattle.case.specs.Check.{leftOf, outOfRange, agree, disagreement, finding, caseFinding, countFrom, ownPlaces, recordFinding, judgedBy}
-use Rattle.case.specs.Check.{recordJudged, recordAnswer}
-use Rattle.case.specs.Parts.{rangeAt, InRanges}
-use Rattle.case.proofs.Agreement.{disagreement-is}
+use Rattle.case.{specs.{Check.{recordJudged, recordAnswer}, Parts.{rangeAt, InRanges}, Bounds.{Bounds}}, proofs.Agreement.{disagreement-is}}
 use Rattle.case.proofs.Bounds.{record-bounds}
-use Rattle.interval.specs.declared.Interval.{Interval}
-use Rattle.interval.specs.declared.Pair.{Pair}
+use Rattle.case.specs.declared.Finding.the-variants as found
+use Rattle.case.specs.declared.Judged.the-variants as judged
+use Rattle.interval.specs.declared.{Interval.{Interval}, Pair.{Pair}}
 use Rattle.interval.specs.declared.Pair.the-variants as pair
-use Rattle.exact.specs.Fraction.{Fraction}
-use Rattle.exact.specs.Ends.{Ends}
-use Rattle.exact.specs.Exact.{Exact}
-use Rattle.exact.specs.Reported.{Scale, Reports}
-use Rattle.case.specs.Bounds.{Bounds}
-use Rattle.formulas.specs.Decrement.{Df}
-use Rattle.formulas.specs.Resistance.{resistance}
-use Rattle.formulas.specs.Width.{μΩ, billionths, factorWidth, resistanceWidth}
+use Rattle.exact.specs.{Fraction.{Fraction}, Ends.{Ends}, Exact.{Exact}, Reported.{Scale, Reports}}
+use Rattle.formulas.specs.{Decrement.{Df}, Resistance.{resistance}, Width.{μΩ, billionths, factorWidth, resistanceWidth}}
 use Rattle.tolerable.specs.Ends.{touchEnds, stepEnds}
-use Rattle.row.specs.Ends.{rowOf}
-use Rattle.row.proofs.Right.{tolerable-touch-reports, tolerable-step-reports}
-use Rattle.numbers.specs.Number.{Number}
-use Rattle.numbers.proofs.Voltages.{case-numbers}
-use Rattle.hocsimbur.specs.declared.Number.{Number as SizeAnswer}
-use Rattle.hocsimbur.specs.declared.Number.the-variants as sized
-use Rattle.hocsimbur.specs.declared.Tolerable.{Tolerable}
-use Rattle.hocsimbur.specs.declared.Tolerable.the-variants as tolerable
-use Rattle.hocsimbur.specs.declared.RowAnswer.{RowAnswer}
-use Rattle.hocsimbur.specs.declared.RowAnswer.the-variants as row
+use Rattle.row.{specs.Ends.{rowOf}, proofs.Right.{tolerable-touch-reports, tolerable-step-reports}}
+use Rattle.numbers.{specs.Number.{Number}, proofs.Voltages.{case-numbers}}
+use Rattle.hocsimbur.specs.declared.{Number.{Number as SizeAnswer}, Tolerable.{Tolerable}, RowAnswer.{RowAnswer}}
 use Rattle.hocsimbur.specs.Asked.{pairAnswer, factorInRow, resistanceInRow, sizeByRow, sizeAnswer, tolerableAnswer, rowAnswer}
 use Rattle.hocsimbur.specs.Asked.{FactorAnswered, SizeAnswered, TolerableAnswered, ResistanceAnswered, RowAnswered}
 use Rattle.hocsimbur.proofs.Answers.{factor-right, resistance-right, smallest-size}
+use Rattle.hocsimbur.specs.declared.Number.the-variants as sized
+use Rattle.hocsimbur.specs.declared.Tolerable.the-variants as tolerable
+use Rattle.hocsimbur.specs.declared.RowAnswer.the-variants as row
 use Rattle.claims.specs.Record as claim
 use Rattle.claims.specs.Rules.{SurfaceAgrees, RodsAgree}
 use Rattle.claims.specs.Record.{RecordRefused, RecordSound, RowOutcome, PairOutcome, TolerableOutcome, SizeOutcome}

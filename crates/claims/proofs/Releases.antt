@@ -1,48 +1,33 @@
 -- Release in the words of the page: the checks of the licence, then what the eight numbers of a pair say.
 use Prim.Native.Nat.{ℕ, zero, suc, _+_, _*_, _/_, _%_, _≤_, _<_}
-use mathlib.Core.Path.{_≡_, refl}
-use mathlib.Core.Bool.{Bool, true, false, cond, not, _&&_, _||_}
-use mathlib.Core.Logic.{_⊎_, inl, inr}
-use mathlib.Core.List.{List, []}
+use mathlib.Core.{Path.{_≡_, refl}, Bool.{Bool, true, false, cond, not, _&&_, _||_}, Logic.{_⊎_, inl, inr}, List.{List, []}}
 use native.Mathlib.Omega.{arith}
-use lib.Dec.{leb, ltb, eqb}
-use lib.IntN.{ℤ}
-use lib.ListN.{length}
+use lib.{Dec.{leb, ltb, eqb}, IntN.{ℤ}, ListN.{length}}
 use borrow.Author.Tests.{ltb-true, ltb-false, eqb-true, eqb-false}
 use Rattle.text.proofs.Clash.{clash}
-use Rattle.case.specs.Columns.{columns}
-use Rattle.case.specs.Bounds.{Bounds}
-use Rattle.case.specs.Fault.{withFault}
-use Rattle.case.proofs.BoundsSound.{bounds-sound}
+use Rattle.case.{specs.{Columns.{columns}, Bounds.{Bounds}, Fault.{withFault}}, proofs.BoundsSound.{bounds-sound}}
 use Rattle.row.specs.Ends.{rowOf}
-use Rattle.judgement.specs.declared.Judgement.{Judgement}
+use Rattle.judgement.specs.{declared.Judgement.{Judgement}, Sheet.{judgement}}
 use Rattle.judgement.specs.declared.Judgement.the-variants as judged
-use Rattle.judgement.specs.Sheet.{judgement}
 use Rattle.sheet.specs.Answer.{cases}
 use Rattle.headroom.proofs.Halving.{fault-bounds}
 use Rattle.hocsimbur.specs.declared.RowAnswer.the-variants as answered
 use Rattle.hocsimbur.proofs.Answers.{row-told, row-sound, bounds-answered}
-use Rattle.release.specs.declared.licence.Wrong.{Wrong}
-use Rattle.release.specs.declared.licence.Wrong.the-variants.{At, Nothing}
-use Rattle.release.specs.declared.Released.{Released}
-use Rattle.release.specs.declared.Released.the-variants.{Pairs, Refused}
-use Rattle.release.specs.Licence.{pairsOf, badCount, among, wrongStation, wrongSeasons, firstWrong}
-use Rattle.release.specs.Earlier.{earlier, wrongAt}
+use Rattle.release.specs.declared.{licence.Wrong.{Wrong, the-variants.{At, Nothing}}, Released.{Released, the-variants.{Pairs, Refused}}}
+use Rattle.release.specs.{Licence.{pairsOf, badCount, among, wrongStation, wrongSeasons, firstWrong}, Earlier.{earlier, wrongAt}}
 use Rattle.release.specs.Pair.{pairLength, releaseOf}
 use Rattle.release.specs.Answer.{roomAnswer, afterPairs, licenceAnswer, afterSheet, releaseAnswer, Filled, TableAfter, ReleaseAnswered}
-use Rattle.release.specs.Meaning as meaning
 use Rattle.release.specs.Meaning.{stationAt, seasonsAt, LineOf}
 use Rattle.release.proofs.Pairs.{pair-count, Searching, searching-start, searching-found, searching-step, searching-end}
 use Rattle.release.proofs.Tables.{release-count}
 use Rattle.release.proofs.ReleasedStations.{pair-numbers, pair-station, one-or-two, released-means, released-none, none-released}
 use Rattle.release.proofs.ReleasedStations.{fault-means}
-use Rattle.claims.specs.Words.{BreaksNone, caseAt}
-use Rattle.claims.specs.Later.{FaultInside}
-use Rattle.claims.specs.Releases as claim
+use Rattle.release.specs.Meaning as meaning
+use Rattle.claims.specs.{Words.{BreaksNone, caseAt}, Later.{FaultInside}}
 use Rattle.claims.specs.Releases.{InPairs, StationSound, SeasonsSound, PairSound, PairWrong, ReleasedStation, SafeThroughout}
 use Rattle.claims.specs.Releases.{FaultReported, PairTold, ReleaseOutcome}
-use Rattle.claims.proofs.Betweens.{between-yes, between-no}
-use Rattle.claims.proofs.Sheets.{cases-count, bounds-at}
+use Rattle.claims.specs.Releases as claim
+use Rattle.claims.proofs.{Betweens.{between-yes, between-no}, Sheets.{cases-count, bounds-at}}
 
 -- ---- tests
 

@@ -1,36 +1,21 @@
 -- What a refusal says of a sheet, in document 01's words.
 use Prim.Native.Nat.{ℕ, _+_, _≤_, _<_}
-use mathlib.Core.Path.{_≡_, refl}
-use mathlib.Core.Bool.{Bool, true, false}
-use mathlib.Core.Logic.{_⊎_, inl, inr}
-use mathlib.Core.List.{List, []}
+use mathlib.Core.{Path.{_≡_, refl}, Bool.{Bool, true, false}, Logic.{_⊎_, inl, inr}, List.{List, []}}
 use native.Mathlib.Omega.{arith}
 use lib.ListN.{length, getD}
 use borrow.Author.Tests.{ne-eqb}
-use Rattle.text.proofs.Clash.{clash}
-use Rattle.text.specs.Text.{same}
-use Rattle.case.specs.Case.{caseOf}
-use Rattle.case.specs.Columns.{columns, name-count, nameIndex, named}
-use Rattle.case.specs.Check.{outOfRange, agree}
-use Rattle.header.specs.Parts.{nameAt}
-use Rattle.header.specs.Names.{StandsAt}
-use Rattle.header.proofs.HeaderAccepted.{header-accepted}
+use Rattle.text.{specs.Text.{same}, proofs.Clash.{clash}}
+use Rattle.case.specs.{Case.{caseOf}, Columns.{columns, name-count, nameIndex, named}, Check.{outOfRange, agree}}
+use Rattle.header.{specs.{Parts.{nameAt}, Names.{StandsAt}}, proofs.HeaderAccepted.{header-accepted}}
 use Rattle.header.proofs.NamesStand.{names-stand, name-stands, wrong-name}
 use Rattle.line.specs.Line.{wrongForm}
-use Rattle.judgement.specs.declared.Judgement.the-variants.{Lines, Refused}
-use Rattle.judgement.specs.declared.LineFinding.{LineFinding}
-use Rattle.judgement.specs.Limits.{today}
-use Rattle.judgement.specs.Refusal.{lineJudgement}
-use Rattle.judgement.specs.Findings.{repeats}
-use Rattle.judgement.specs.Sheet.{names, valueLines, judgement}
-use Rattle.judgement.proofs.Whole.{text-wrong}
-use Rattle.judgement.proofs.RangeBroken.{range-broken}
+use Rattle.judgement.specs.{declared.{Judgement.the-variants.{Lines, Refused}, LineFinding.{LineFinding}}, Limits.{today}}
+use Rattle.judgement.{specs.{Refusal.{lineJudgement}, Findings.{repeats}, Sheet.{names, valueLines, judgement}}, proofs.Whole.{text-wrong}}
+use Rattle.judgement.proofs.{RangeBroken.{range-broken}, LinesInTurn.{before, RefusedAt, refused-at, SeenBefore, repeats-line}}
 use Rattle.judgement.proofs.LineFound as line
-use Rattle.judgement.proofs.LinesInTurn.{before, RefusedAt, refused-at, SeenBefore, repeats-line}
 use Rattle.judgement.proofs.Causes as cause
-use Rattle.claims.specs.Words.{Breaks, caseAt}
+use Rattle.claims.specs.{Words.{Breaks, caseAt}, Rules.{fieldsAt, OwnLine, OutOfRange, SurfaceAgrees, RodsAgree, Disagrees, Broken}}
 use Rattle.claims.specs.Rules as rules
-use Rattle.claims.specs.Rules.{fieldsAt, OwnLine, OutOfRange, SurfaceAgrees, RodsAgree, Disagrees, Broken}
 use Rattle.claims.proofs.OwnLines.{columnsIn, valuesAt, value-at, right-fields, wrong-fields, case-is, own-line}
 use Rattle.claims.proofs.RulesKept.{same-key}
 
@@ -72,8 +57,7 @@ module _ (s : List ℕ) (i : ℕ) (h : i < length (valueLines s)) (right : cause
       differ (inl p) = not-both (zeros-agree _ _ (p .0) (p .1)) e
       differ (inr p) = not-both (others-agree _ _ (p .0) (p .1)) e
 
-  rods-disagree : line.rodsAgree columns (valuesAt s i) ≡ false
-      → Disagrees s i (named columns (columnsIn s) "rods")
+  rods-disagree : line.rodsAgree columns (valuesAt s i) ≡ false → Disagrees s i (named columns (columnsIn s) "rods")
   unfolding named nameIndex columns same nameAt
   rods-disagree e = rules.rods (rw (case-is s i h) differ) (stands-in 17 (omega arith))
     where

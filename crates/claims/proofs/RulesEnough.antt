@@ -1,43 +1,23 @@
 -- A sheet of which every rule holds is one that breaks none: each refusal contradicts its rule.
 use Prim.Native.Nat.{ℕ, zero, suc, _≤_, _<_}
-use mathlib.Core.Path.{_≡_, refl, sym, ap, _∙_}
-use mathlib.Core.Bool.{Bool, true, false, cond}
-use mathlib.Core.Logic.{_⊎_, inl, inr}
-use mathlib.Core.List.{List}
-use native.Mathlib.Decide.{ℕ-discrete}
-use native.Mathlib.Omega.{arith}
-use lib.Dec.{eqb}
-use lib.ListN.{length, getD}
+use mathlib.Core.{Path.{_≡_, refl, sym, ap, _∙_}, Bool.{Bool, true, false, cond}, Logic.{_⊎_, inl, inr}, List.{List}}
+use native.Mathlib.{Decide.{ℕ-discrete}, Omega.{arith}}
+use lib.{Dec.{eqb}, ListN.{length, getD}}
 use borrow.Author.Tests.{eqb-true}
-use Rattle.text.proofs.Clash.{clash}
-use Rattle.text.specs.Value.{valueOf}
-use Rattle.case.specs.declared.Case.{Case}
-use Rattle.case.specs.declared.Judged.the-variants.{Sound}
-use Rattle.case.specs.declared.Finding.the-variants as found
-use Rattle.case.specs.Case.{values}
-use Rattle.case.specs.Columns.{columns, name-count, inRange}
+use Rattle.text.{specs.Value.{valueOf}, proofs.Clash.{clash}}
+use Rattle.case.specs.{declared.{Case.{Case}, Judged.the-variants.{Sound}}, Case.{values}, Columns.{columns, name-count, inRange}}
 use Rattle.case.specs.Check.{outOfRange, disagreement, finding, caseFinding, countFrom, ownPlaces, recordFinding, judgedBy, recordJudged}
-use Rattle.case.specs.Parts.{rangeAt}
-use Rattle.case.specs.Bounds.{Bare, Layered, Rodless, Rodded, Bounds}
-use Rattle.case.proofs.Tests.{passed}
-use Rattle.case.proofs.Ranges.{Some, in-range, in-range-at}
-use Rattle.case.proofs.Values.{values-of-case}
-use Rattle.case.proofs.BoundsSound.{bounds-sound}
-use Rattle.header.specs.Parts.{nameAt}
-use Rattle.header.specs.Names.{fieldAt, StandsAt, WrongName, unknown, again, missing}
-use Rattle.header.proofs.NamesStand.{names-stand, name-stands, wrong-name}
-use Rattle.header.proofs.HeaderAccepted.{header-accepted}
-use Rattle.judgement.specs.declared.Judgement.{Judgement}
-use Rattle.judgement.specs.declared.Judgement.the-variants.{Lines, Refused}
-use Rattle.judgement.specs.Sheet.{names, valueLines, judgement}
-use Rattle.judgement.specs.Wrong.{RightValues, WrongValues, wrong-form, too-few, too-many}
+use Rattle.case.{specs.{Parts.{rangeAt}, Bounds.{Bare, Layered, Rodless, Rodded, Bounds}}, proofs.Tests.{passed}}
+use Rattle.case.proofs.{Ranges.{Some, in-range, in-range-at}, Values.{values-of-case}, BoundsSound.{bounds-sound}}
+use Rattle.case.specs.declared.Finding.the-variants as found
+use Rattle.header.specs.{Parts.{nameAt}, Names.{fieldAt, StandsAt, WrongName, unknown, again, missing}}
+use Rattle.header.proofs.{NamesStand.{names-stand, name-stands, wrong-name}, HeaderAccepted.{header-accepted}}
+use Rattle.judgement.specs.{declared.Judgement.{Judgement, the-variants.{Lines, Refused}}, Sheet.{names, valueLines, judgement}}
+use Rattle.judgement.{specs.Wrong.{RightValues, WrongValues, wrong-form, too-few, too-many}, proofs.Causes.{wrongColumn}}
 use Rattle.judgement.proofs.Accepted as judged
-use Rattle.judgement.proofs.Causes.{wrongColumn}
-use Rattle.claims.specs.Words.{BreaksNone, caseAt}
+use Rattle.claims.specs.{Words.{BreaksNone, caseAt}, Rules.{fieldsAt, RulesKept, OutOfRange, SurfaceAgrees, RodsAgree, Broken}}
 use Rattle.claims.specs.Rules as rules
-use Rattle.claims.specs.Rules.{fieldsAt, RulesKept, OutOfRange, SurfaceAgrees, RodsAgree, Broken}
-use Rattle.claims.proofs.OwnLines.{columnsIn, valuesAt, values-count, value-at, case-is}
-use Rattle.claims.proofs.RulesBroken.{rule-broken}
+use Rattle.claims.proofs.{OwnLines.{columnsIn, valuesAt, values-count, value-at, case-is}, RulesBroken.{rule-broken}}
 
 -- ---- every value of a case within its bounds is in its range
 

@@ -1,31 +1,19 @@
 -- What holds of a sheet that breaks no rule, in document 01's words; its sample sheet breaks none.
 use Prim.Native.Nat.{ℕ, _<_}
-use mathlib.Core.Path.{_≡_, refl, _∙_}
-use mathlib.Core.Bool.{Bool, true, false, _&&_}
-use mathlib.Core.List.{List, []}
+use mathlib.Core.{Path.{_≡_, refl, _∙_}, Bool.{Bool, true, false, _&&_}, List.{List, []}}
 use native.Mathlib.Omega.{arith}
-use lib.ListN.{length, getD}
-use lib.Dec.{eqb}
+use lib.{ListN.{length, getD}, Dec.{eqb}}
 use borrow.Author.Tests.{eq-eqb, eqb-true}
-use Rattle.text.proofs.Clash.{clash}
-use Rattle.text.specs.Text.{same}
-use Rattle.case.specs.Columns.{columns, name-count, nameIndex, named}
-use Rattle.case.specs.Bounds.{Bounds}
+use Rattle.text.{specs.Text.{same}, proofs.Clash.{clash}}
+use Rattle.case.specs.{Columns.{columns, name-count, nameIndex, named}, Bounds.{Bounds}}
 use Rattle.header.proofs.NamesStand.{names-stand, stands-once, name-known-at}
 use Rattle.line.specs.Line.{lineCase}
-use Rattle.judgement.specs.declared.Judgement.the-variants.{Lines}
-use Rattle.judgement.specs.Limits.{today}
-use Rattle.judgement.specs.Findings.{sameKey}
-use Rattle.judgement.specs.Sheet.{names, valueLines}
-use Rattle.judgement.specs.Accepted.{Accepted}
-use Rattle.judgement.proofs.Whole.{text-right}
+use Rattle.judgement.specs.{declared.Judgement.the-variants.{Lines}, Limits.{today}, Findings.{sameKey}, Sheet.{names, valueLines}}
+use Rattle.judgement.{specs.Accepted.{Accepted}, proofs.{Whole.{text-right}, LinesInTurn.{sound-at, none-before}}}
 use Rattle.judgement.proofs.Accepted as judged
 use Rattle.judgement.proofs.LineFound as line
-use Rattle.judgement.proofs.LinesInTurn.{sound-at, none-before}
-use Rattle.sheet.specs.Examples.{sample-judged, sample-cases}
-use Rattle.sheet.proofs.Accepted.{sound-bounds}
-use Rattle.claims.specs.Words.{BreaksNone, caseAt}
-use Rattle.claims.specs.Rules.{fieldsAt, OwnLine, SameKey, RulesKept, SampleSheet}
+use Rattle.sheet.{specs.Examples.{sample-judged, sample-cases}, proofs.Accepted.{sound-bounds}}
+use Rattle.claims.specs.{Words.{BreaksNone, caseAt}, Rules.{fieldsAt, OwnLine, SameKey, RulesKept, SampleSheet}}
 use Rattle.claims.proofs.OwnLines.{columnsIn, valuesAt, right-fields, case-is, own-line}
 
 -- ---- keys

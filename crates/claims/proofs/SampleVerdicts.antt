@@ -1,62 +1,28 @@
 -- The verdicts of document 01's sample sheet: "7,1,unsafe,16" and "7,2,safe,16". The formulas of its two lines are known at numbers, a
 -- reported pair holds the same number and is narrow, and the voltages lie further apart than the widths: so every right row has these
 -- verdicts.
-use lib.ListN.{length}
-use Rattle.case.specs.declared.Case.{Case}
-use Rattle.row.specs.Verdict.{verdictNumber}
-use Rattle.row.specs.Ends.{rowOf}
-use Rattle.sheet.specs.declared.Answer.{Answer}
-use Rattle.sheet.specs.declared.Answer.the-variants.{Rows}
-use Rattle.sheet.specs.Table.{Answered}
-use Rattle.sheet.specs.Examples.{sample as sheetSample}
+use lib.{ListN.{length}, Dec.{T}, IntN.{ℤ, pos}, Signed.{_≤ℤ_, _<ℤ_}}
+use Rattle.case.specs.{declared.Case.{Case}, Bounds.{Bounds}}
+use Rattle.row.specs.{Verdict.{verdictNumber}, Ends.{rowOf}, declared.{Row.{Row}, Verdict.{Verdict}}}
+use Rattle.row.{specs.{declared.Verdict.the-variants.{Safe, Unsafe, Undecided}, Row.{verdictOf, RightRow}}, proofs.Verdicts.{ends-safe}}
+use Rattle.sheet.specs.{declared.Answer.{Answer, the-variants.{Rows}}, Table.{Answered}, Examples.{sample as sheetSample}}
 use Rattle.claims.specs.Words.{caseAt, verdictAt}
-use Rattle.claims.proofs.Outcomes.{rows-answer}
-use Rattle.claims.proofs.RowNumbers.{verdict-is}
-use Rattle.claims.proofs.Sheets.{row-of}
-use Rattle.claims.proofs.RulesKept.{sample-sheet}
+use Rattle.claims.proofs.{Outcomes.{rows-answer}, RowNumbers.{verdict-is}, Sheets.{row-of}, RulesKept.{sample-sheet}}
+use Rattle.claims.proofs.VerdictNumbers.{number-unsafe}
 use Prim.Native.Nat.{ℕ, _≤_}
-use mathlib.Core.Path.{_≡_, refl, ap, subst, _∙_}
-use mathlib.Core.List.{List}
-use mathlib.Core.Logic.{inl}
+use mathlib.Core.{Path.{_≡_, refl, ap, subst, _∙_}, List.{List}, Logic.{inl}}
 use native.Mathlib.Omega.{arith}
-use lib.Dec.{T}
-use lib.IntN.{ℤ, pos}
-use lib.Signed.{_≤ℤ_, _<ℤ_}
-use Rattle.interval.specs.declared.Interval.{Interval}
-use Rattle.interval.proofs.Signed.{halves-le, lt-halves}
-use Rattle.exact.specs.Fraction.{Fraction, _≤f_, whole, decimal, _+f_, _·f_, _÷f_}
-use Rattle.exact.specs.Ends.{Ends}
-use Rattle.exact.specs.Exact.{Exact, Holds}
-use Rattle.exact.specs.Reported.{reported, Reports}
-use Rattle.exact.proofs.Order.{refl≤, trans≤}
-use Rattle.exact.proofs.Sums.{mono+}
-use Rattle.exact.proofs.Products.{mul-left≤}
-use Rattle.exact.proofs.Quotients.{div≤}
-use Rattle.case.specs.declared.Case.{Case}
-use Rattle.case.specs.Bounds.{Bounds}
-use Rattle.formulas.specs.Lengths.{ρ, LT}
-use Rattle.formulas.specs.Current.{IG}
-use Rattle.formulas.specs.Step.{LS}
-use Rattle.formulas.specs.Width.{mV, μA, currentWidth, tolerableWidth, referenceKi, meshWidth, stepWidth}
-use Rattle.formulas.specs.Yards.{sample, wet}
-use Rattle.formulas.proofs.Positive.{decimal-nonneg}
-use Rattle.formulas.proofs.Quantities.{quantity-IG}
+use Rattle.interval.{specs.declared.Interval.{Interval}, proofs.Signed.{halves-le, lt-halves}}
+use Rattle.exact.specs.{Fraction.{Fraction, _≤f_, whole, decimal, _+f_, _·f_, _÷f_}, Ends.{Ends}, Exact.{Exact, Holds}}
+use Rattle.exact.{specs.Reported.{reported, Reports}, proofs.{Order.{refl≤, trans≤}, Sums.{mono+}, Products.{mul-left≤}, Quotients.{div≤}}}
+use Rattle.formulas.specs.{Lengths.{ρ, LT}, Current.{IG}, Step.{LS}}
+use Rattle.formulas.specs.{Width.{mV, μA, currentWidth, tolerableWidth, referenceKi, meshWidth, stepWidth}, Yards.{sample, wet}}
+use Rattle.formulas.proofs.{Positive.{decimal-nonneg}, Quantities.{quantity-IG}}
 use Rattle.formulas.proofs.Consistent.{consistent-touch, consistent-tolerable-step, consistent-step, consistent-mesh}
-use Rattle.formulas.proofs.Known.{digits, atMost, at-most, less-than, holds-known}
-use Rattle.formulas.proofs.KnownFunctions.{tests}
-use Rattle.formulas.proofs.KnownGrid.{lengths, current}
+use Rattle.formulas.proofs.{Known.{digits, atMost, at-most, less-than, holds-known}, KnownFunctions.{tests}, KnownGrid.{lengths, current}}
 use Rattle.formulas.proofs.SampleYard.{touch-sample, mesh-sample, touch-wet, tolerable-step-wet, mesh-wet, step-wet}
 use Rattle.formulas.proofs.Yards.{sound-sample, sound-wet}
-use Rattle.numbers.specs.Number.{Narrows}
-use Rattle.numbers.proofs.Voltages.{case-numbers}
-use Rattle.numbers.proofs.Reports.{lower-at-most, upper-near, reported-apart}
-use Rattle.row.specs.declared.Row.{Row}
-use Rattle.row.specs.declared.Verdict.{Verdict}
-use Rattle.row.specs.declared.Verdict.the-variants.{Safe, Unsafe, Undecided}
-use Rattle.row.specs.Verdict.{verdictNumber}
-use Rattle.row.specs.Row.{verdictOf, RightRow}
-use Rattle.row.proofs.Verdicts.{ends-safe}
-use Rattle.claims.proofs.VerdictNumbers.{number-unsafe}
+use Rattle.numbers.{specs.Number.{Narrows}, proofs.{Voltages.{case-numbers}, Reports.{lower-at-most, upper-near, reported-apart}}}
 
 -- ---- every width is at most one volt
 

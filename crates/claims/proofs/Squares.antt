@@ -1,7 +1,6 @@
 -- Requests (b) and (c): what a square keeps.
 use mathlib.Core.Path.{_≡_}
-use Rattle.case.specs.declared.Case.{Case}
-use Rattle.case.specs.Bounds.{Bounds}
+use Rattle.case.specs.{declared.Case.{Case}, Bounds.{Bounds}}
 use Rattle.formulas.proofs.Square as kept
 use Rattle.claims.specs.Requests.{SquareKept}
 

@@ -1,21 +1,13 @@
 -- Request (l): every answer to the numbers of a staged test.
 use Prim.Native.Nat.{ℕ, zero, suc, _%_, _<_}
-use mathlib.Core.Path.{_≡_, refl, ap}
-use mathlib.Core.Bool.{Bool, true, false, cond, not, _||_}
-use mathlib.Core.Logic.{inl, inr}
-use mathlib.Core.List.{List, [], _∷_}
+use mathlib.Core.{Path.{_≡_, refl, ap}, Bool.{Bool, true, false, cond, not, _||_}, Logic.{inl, inr}, List.{List, [], _∷_}}
 use native.Mathlib.Omega.{arith}
-use lib.Dec.{T, eqb, ltb}
-use lib.IntN.{ℤ, pos, negsuc, negℤ, natAbs}
-use lib.ListN.{length, getD}
-use lib.Signed.{ltZ, ltZ-yes, ltZ-no, clashℤ}
+use lib.{Dec.{T, eqb, ltb}, IntN.{ℤ, pos, negsuc, negℤ, natAbs}, ListN.{length, getD}, Signed.{ltZ, ltZ-yes, ltZ-no, clashℤ}}
 use borrow.Author.Tests.{eqb-true, eqb-false, ltb-true, ltb-false}
 use Rattle.text.proofs.Clash.{clash}
-use Rattle.staged.specs.declared.SplitAnswer.{SplitAnswer}
-use Rattle.staged.specs.declared.SplitAnswer.the-variants.{Grid, Refused}
+use Rattle.staged.specs.declared.SplitAnswer.{SplitAnswer, the-variants.{Grid, Refused}}
 use Rattle.staged.specs.Check.{fewestNumbers, mostNumbers, largestPart, badCount, outside, anyOutside, noneInjected}
-use Rattle.staged.specs.Answer.{injectedSquare, gridAnswer, answer}
-use Rattle.staged.proofs.Reporting.{reported}
+use Rattle.staged.{specs.Answer.{injectedSquare, gridAnswer, answer}, proofs.Reporting.{reported}}
 use Rattle.claims.specs.Measured.{WrongParts, PartInside, AllParts, NoneInjected, Staged, SplitOutcome, count, part, none, grid}
 use Rattle.claims.proofs.Betweens.{and-yes}
 

@@ -1,13 +1,10 @@
 -- The working of a case as a record, in the words of the page.
-use Rattle.case.specs.declared.Case.{Case}
+use Rattle.case.specs.{declared.Case.{Case}, Bounds.{Bounds}}
 use Rattle.row.specs.Ends.{rowOf}
 use Rattle.hocsimbur.proofs.Answers.{row-sound}
-use Rattle.working.specs.declared.Worked.{Worked}
-use Rattle.working.specs.declared.Worked.the-variants as worked
-use Rattle.working.specs.Ends.{workingOf}
-use Rattle.working.specs.Working.{workingAnswer, WorkingAnswered}
+use Rattle.working.specs.{declared.Worked.{Worked}, Ends.{workingOf}, Working.{workingAnswer, WorkingAnswered}}
 use Rattle.working.proofs.Right.{right-working}
-use Rattle.case.specs.Bounds.{Bounds}
+use Rattle.working.specs.declared.Worked.the-variants as worked
 use Rattle.claims.specs.Workings as claim
 use Rattle.claims.specs.Workings.{RowFollows, WorkingOutcome}
 use Rattle.claims.proofs.Records.{by-checks}

@@ -1,26 +1,16 @@
 -- The list of yards by line and rod counts: at which index each yard stands, and which yard stands at each index.
 use Prim.Native.Nat.{ℕ, zero, suc, _+_, _*_, _-_, _/_, _%_, _≤_, _<_}
-use mathlib.Core.Path.{_≡_, refl, sym, ap, _∙_}
-use mathlib.Core.Bool.{Bool, true, false, cond}
-use mathlib.Core.List.{[], map}
-use native.Mathlib.Nat.{div-add-mod', mul-div-cancel, mul-mod-left}
-use native.Mathlib.Decide.{decLt}
-use native.Mathlib.Omega.{arith}
-use lib.ListN.{length, getD, length-append, List·getD-append}
-use lib.Seq.{getD-append-add}
+use mathlib.Core.{Path.{_≡_, refl, sym, ap, _∙_}, Bool.{Bool, true, false, cond}, List.{[], map}}
+use native.Mathlib.{Nat.{div-add-mod', mul-div-cancel, mul-mod-left}, Decide.{decLt}, Omega.{arith}}
+use lib.{ListN.{length, getD, length-append, List·getD-append}, Seq.{getD-append-add}}
 use borrow.Author.Tests.{eqb-true, eq-eqb, ne-eqb, le-leb}
 use Rattle.text.specs.Text.{same}
-use Rattle.case.specs.declared.Case.{Case}
-use Rattle.case.specs.Bounds.{Between}
-use Rattle.case.specs.Columns.{columns, inRange, nameIndex}
-use Rattle.case.specs.Parts.{rangeAt}
-use Rattle.case.specs.Check.{countFrom}
+use Rattle.case.specs.{declared.Case.{Case}, Bounds.{Between}, Columns.{columns, inRange, nameIndex}, Parts.{rangeAt}, Check.{countFrom}}
 use Rattle.stations.specs.Summary.{one}
 use Rattle.yards.specs.Yards.{spacing, spaceRange, fits, yard, rodCounts, yardsOf, yardsFrom, yards}
 use Rattle.yards.proofs.Trying.{lines-next, lines-end}
 use Rattle.claims.specs.Yards.{withYard, Fits, YardTried, fitting}
-use Rattle.claims.proofs.Betweens.{and-yes, between-yes}
-use Rattle.claims.proofs.Lines.{map-at}
+use Rattle.claims.proofs.{Betweens.{and-yes, between-yes}, Lines.{map-at}}
 
 -- ---- a count that fits
 
@@ -125,8 +115,7 @@ rods-at k h =
 
 of-entry : (c : Case) (side lines k : ℕ) → fits side lines ≡ true → k ≤ 10 → getD (yardsOf c side lines 0) k c ≡ yard c side lines (4 * k)
 unfolding yardsOf rodCounts countFrom
-of-entry c side lines k f h =
-    rw f (map-at (yard c side lines) (rodCounts 0) k 0 c (omega arith) ∙ ap (yard c side lines) (rods-at k h))
+of-entry c side lines k f h = rw f (map-at (yard c side lines) (rodCounts 0) k 0 c (omega arith) ∙ ap (yard c side lines) (rods-at k h))
 
 -- ---- the index of each yard
 

@@ -1,20 +1,12 @@
 -- Request (e) of document 02: a sheet of one form carried over to the other, `form` being the one that it is carried to.
-use Prim.Native.Nat.{ℕ, _+_, _≤_, _<_}
-use Prim.Native.String.{String}
-use mathlib.Core.Path.{_≡_}
-use mathlib.Core.List.{List, [], _∷_, map}
+use Prim.Native.{Nat.{ℕ, _+_, _≤_, _<_}, String.{String}}
+use mathlib.Core.{Path.{_≡_}, List.{List, [], _∷_, map}}
 use lib.ListN.{length, getD, take, drop}
-use Rattle.case.specs.declared.Form.{Form}
-use Rattle.case.specs.declared.Form.the-variants.{Present, Former}
-use Rattle.case.specs.Columns.{columns, named}
-use Rattle.case.specs.Parts.{formOf}
+use Rattle.case.specs.{declared.Form.{Form, the-variants.{Present, Former}}, Columns.{columns, named}, Parts.{formOf}}
 use Rattle.formulas.proofs.Tables.{Every}
 use Rattle.judgement.specs.declared.Judgement.the-variants as judged
 use Rattle.judgement.specs.Sheet.{names, judgement}
-use Rattle.conversion.specs.declared.Carried.{Carried}
-use Rattle.conversion.specs.declared.Carried.the-variants.{Bytes, Refused}
-use Rattle.conversion.specs.Values.{other}
-use Rattle.conversion.specs.Sheet.{casesIn}
+use Rattle.conversion.specs.{declared.Carried.{Carried, the-variants.{Bytes, Refused}}, Values.{other}, Sheet.{casesIn}}
 use Rattle.conversion.specs.Answer.{carriedText}
 
 -- a sheet passes all checks of a form with so many value lines, or is refused by them
@@ -125,8 +117,7 @@ pub data CarryOutcome (form : Form) (s before after : List ℕ) : Carried → Ty
   short : {lines : ℕ} → Goes form s lines → length before < length (carriedText form s) → after ≡ before
       → CarryOutcome form s before after (Refused 8 0 0)
   carried : {lines count : ℕ} → Goes form s lines → NewSheet form s (carriedText form s) lines
-      → Written (carriedText form s) before after count
-      → CarryOutcome form s before after (Bytes count)
+      → Written (carriedText form s) before after count → CarryOutcome form s before after (Bytes count)
 
 -- "there and back restores every value": the answer of the way back, asked of the bytes `text` that the way there has written for the sheet
 -- s

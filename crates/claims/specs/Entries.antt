@@ -1,26 +1,16 @@
 -- The entries for programs in C beside the rows, of no document: what a caller has is the signed number r, the arrays, and a lent place in
 -- which a refusal points. The outcomes are those of the operations' own questions.
 use Prim.Native.Nat.{ℕ, _*_, _≤_, _<_}
-use mathlib.Core.Path.{_≡_}
-use mathlib.Core.Logic.{_↔_}
-use mathlib.Core.List.{List, [], _∷_, _++_}
-use lib.IntN.{ℤ, pos, negℤ}
-use lib.ListN.{length, drop}
-use lib.Signed.{_≤ℤ_}
+use mathlib.Core.{Path.{_≡_}, Logic.{_↔_}, List.{List, [], _∷_, _++_}}
+use lib.{IntN.{ℤ, pos, negℤ}, ListN.{length, drop}, Signed.{_≤ℤ_}}
 use Rattle.tables.specs.Parts.{partAt}
 use Rattle.exact.specs.Exact.{exactly, _·x_, AtOrBelow}
-use Rattle.case.specs.declared.Case.{Case}
-use Rattle.case.specs.declared.Form.{Form}
-use Rattle.formulas.specs.Mesh.{mesh}
-use Rattle.formulas.specs.Step.{step}
-use Rattle.formulas.specs.Tolerable.{tolerableTouch, tolerableStep}
-use Rattle.row.specs.declared.Row.{Row}
-use Rattle.row.specs.declared.Verdict.the-variants.{Safe}
-use Rattle.row.specs.Row.{numbers}
+use Rattle.case.specs.declared.{Case.{Case}, Form.{Form}}
+use Rattle.formulas.specs.{Mesh.{mesh}, Step.{step}, Tolerable.{tolerableTouch, tolerableStep}}
+use Rattle.row.specs.{declared.{Row.{Row}, Verdict.the-variants.{Safe}}, Row.{numbers}}
 use Rattle.margin.specs.declared.Compared.the-variants as compared
-use Rattle.margin.specs.Margin.{marginsOf}
-use Rattle.margin.specs.Meaning.{share}
-use Rattle.working.specs.declared.Quantities.{Quantities}
+use Rattle.margin.specs.{Margin.{marginsOf}, Meaning.{share}}
+use Rattle.working.specs.{declared.Quantities.{Quantities}, Numbers.{workingNumbers}}
 use Rattle.working.specs.declared.Worked.the-variants as worked
 use Rattle.headroom.specs.declared.Room.the-variants as room
 use Rattle.stations.specs.declared.Summed.the-variants as summed
@@ -30,18 +20,11 @@ use Rattle.readings.specs.declared.Report.{Report}
 use Rattle.readings.specs.declared.Sounding.the-variants as sounding
 use Rattle.staged.specs.declared.SplitAnswer.the-variants as split
 use Rattle.yards.specs.declared.FewestLines.the-variants as yards
-use Rattle.hocsimbur.specs.declared.RowAnswer.{RowAnswer}
+use Rattle.hocsimbur.specs.{declared.RowAnswer.{RowAnswer}, Asked.{RowAnswered, AnsweredWith}}
 use Rattle.hocsimbur.specs.declared.RowAnswer.the-variants as answered
-use Rattle.hocsimbur.specs.Asked.{RowAnswered, AnsweredWith}
 use Rattle.c_reply.specs.Reply.{soilNumbers}
-use Rattle.working.specs.Numbers.{workingNumbers}
-use Rattle.claims.specs.Words.{BreaksNone, Breaks, TooShort, caseAt}
-use Rattle.claims.specs.Measured.{SoilOutcome, SplitOutcome}
-use Rattle.claims.specs.Yards.{FewestOutcome}
-use Rattle.claims.specs.Workings.{WorkingOutcome}
-use Rattle.claims.specs.Later.{HeadroomOutcome}
-use Rattle.claims.specs.Summary.{SummaryOutcome}
-use Rattle.claims.specs.Releases.{ReleaseOutcome}
+use Rattle.claims.specs.{Words.{BreaksNone, Breaks, TooShort, caseAt}, Measured.{SoilOutcome, SplitOutcome}, Yards.{FewestOutcome}}
+use Rattle.claims.specs.{Workings.{WorkingOutcome}, Later.{HeadroomOutcome}, Summary.{SummaryOutcome}, Releases.{ReleaseOutcome}}
 use Rattle.claims.specs.Carried.{CarryOutcome}
 
 -- ---- one manner
@@ -142,8 +125,7 @@ LinesInC width Line s before after = InC (EveryLine width Line s before after) (
 -- the margins of the case's row, true of the exact values; the case is answered safe exactly where neither is above 0
 pub data MarginNumbers (c : Case) : List ℤ → Type 0 where
   margins : {m k : ℤ} → ((r : Row) → RowAnswered c (answered.Is r) → marginsOf (numbers r) ≡ compared.Margins m k)
-      → AtOrBelow (mesh c) (exactly (share m) ·x tolerableTouch c)
-      → AtOrBelow (step c) (exactly (share k) ·x tolerableStep c)
+      → AtOrBelow (mesh c) (exactly (share m) ·x tolerableTouch c) → AtOrBelow (step c) (exactly (share k) ·x tolerableStep c)
       → ((a : RowAnswer) → RowAnswered c a → AnsweredWith Safe a ↔ (m ≤ℤ pos 0) × (k ≤ℤ pos 0)) → MarginNumbers c (m ∷ k ∷ [])
 
 pub data WorkingNumbers (c : Case) : List ℤ → Type 0 where

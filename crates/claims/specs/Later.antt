@@ -1,15 +1,10 @@
 -- Beyond documents 01 and 02: how far the fault current of a case may grow, and which changes never make a safe yard unsafe.
 use Prim.Native.Nat.{ℕ, _≤_}
-use mathlib.Core.Path.{_≡_}
-use mathlib.Core.Logic.{_⊎_, _↔_}
-use Rattle.case.specs.declared.Case.{Case}
-use Rattle.case.specs.Bounds.{Between}
-use Rattle.case.specs.Fault.{withFault}
+use mathlib.Core.{Path.{_≡_}, Logic.{_⊎_, _↔_}}
+use Rattle.case.specs.{declared.Case.{Case}, Bounds.{Between}, Fault.{withFault}}
 use Rattle.row.specs.declared.Verdict.the-variants.{Safe}
-use Rattle.headroom.specs.declared.Room.{Room}
-use Rattle.headroom.specs.declared.Room.the-variants.{UpTo, None, Refused}
-use Rattle.hocsimbur.specs.declared.RowAnswer.{RowAnswer}
-use Rattle.hocsimbur.specs.Asked.{RowAnswered, AnsweredWith}
+use Rattle.headroom.specs.declared.Room.{Room, the-variants.{UpTo, None, Refused}}
+use Rattle.hocsimbur.specs.{declared.RowAnswer.{RowAnswer}, Asked.{RowAnswered, AnsweredWith}}
 use Rattle.claims.specs.Record.{RecordRefused, RecordSound}
 
 -- a fault current in the range of its column

@@ -1,40 +1,23 @@
 -- What is asked of plain numbers: the logarithm, readings (g), a staged test (l), the margins of a row. Of each question every answer that
 -- it can give, with its condition; the conditions exclude one another, so each answer is given exactly on its own.
 use Prim.Native.Nat.{ℕ, suc, _+_, _*_, _/_, _%_, _^_, _≤_, _<_}
-use mathlib.Core.Path.{_≡_}
-use mathlib.Core.Logic.{_⊎_, _↔_}
-use mathlib.Core.List.{List, List·Memᴰ}
-use lib.IntN.{ℤ, pos, negℤ, natAbs, _+ℤ_}
-use lib.ListN.{length, getD}
-use lib.Signed.{_≤ℤ_, _<ℤ_}
-use Rattle.interval.specs.declared.Interval.{Interval}
-use Rattle.interval.specs.declared.Pair.{Pair}
+use mathlib.Core.{Path.{_≡_}, Logic.{_⊎_, _↔_}, List.{List, List·Memᴰ}}
+use lib.{IntN.{ℤ, pos, negℤ, natAbs, _+ℤ_}, ListN.{length, getD}, Signed.{_≤ℤ_, _<ℤ_}}
+use Rattle.interval.specs.declared.{Interval.{Interval}, Pair.{Pair}}
 use Rattle.interval.specs.declared.Pair.the-variants as pair
-use Rattle.exact.specs.Fraction.{Fraction, whole, decimal, _÷f_}
-use Rattle.exact.specs.Ends.{Ends}
-use Rattle.exact.specs.Exact.{Exact, exactly, _·x_, AtOrBelow}
-use Rattle.exact.specs.Logarithm.{lnOf}
+use Rattle.exact.specs.{Fraction.{Fraction, whole, decimal, _÷f_}, Ends.{Ends}, Exact.{Exact, exactly, _·x_, AtOrBelow}, Logarithm.{lnOf}}
 use Rattle.exact.specs.Reported.{ten, Reports}
-use Rattle.case.specs.declared.Case.{Case}
-use Rattle.case.specs.Bounds.{Between}
-use Rattle.formulas.specs.Tolerable.{tolerableTouch, tolerableStep}
-use Rattle.formulas.specs.Mesh.{mesh}
-use Rattle.formulas.specs.Step.{step}
-use Rattle.readings.specs.declared.Report.{Report}
-use Rattle.readings.specs.declared.Sounding.{Sounding}
-use Rattle.readings.specs.declared.Sounding.the-variants as sounding
-use Rattle.readings.specs.Reading.{Reading, pairsOf}
-use Rattle.readings.specs.Resistivity as Resistivity
-use Rattle.readings.specs.Resistivity.{apparent}
+use Rattle.case.specs.{declared.Case.{Case}, Bounds.{Between}}
+use Rattle.formulas.specs.{Tolerable.{tolerableTouch, tolerableStep}, Mesh.{mesh}, Step.{step}}
+use Rattle.readings.specs.{declared.{Report.{Report}, Sounding.{Sounding}}, Reading.{Reading, pairsOf}, Resistivity.{apparent}}
 use Rattle.readings.specs.Report.{μΩm, width}
-use Rattle.numbers.specs.Number.{Number}
-use Rattle.numbers.specs.Formulas.{ReadingNumbers}
-use Rattle.staged.specs.declared.SplitAnswer.{SplitAnswer}
+use Rattle.readings.specs.declared.Sounding.the-variants as sounding
+use Rattle.readings.specs.Resistivity as Resistivity
+use Rattle.numbers.specs.{Number.{Number}, Formulas.{ReadingNumbers}}
+use Rattle.staged.specs.{declared.SplitAnswer.{SplitAnswer}, Current.{inPhase, quadrature, injected, branches, total, squareOf}}
 use Rattle.staged.specs.declared.SplitAnswer.the-variants as split
-use Rattle.staged.specs.Current.{inPhase, quadrature, injected, branches, total, squareOf}
-use Rattle.margin.specs.declared.Compared.{Compared}
+use Rattle.margin.specs.{declared.Compared.{Compared}, Meaning.{IsMargin, share}}
 use Rattle.margin.specs.declared.Compared.the-variants as compared
-use Rattle.margin.specs.Meaning.{IsMargin, share}
 use Rattle.claims.specs.Words.{verdictAt}
 
 -- ---- the logarithm

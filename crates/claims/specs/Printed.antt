@@ -2,15 +2,12 @@
 -- verdict (safe, unsafe or undecided) and kcmil. A refused sheet prints only `refused,` then number, line and column with commas. Each
 -- printed line ends with one byte 10."
 use Prim.Native.Nat.{ℕ, _≤_, _<_}
-use mathlib.Core.Path.{_≡_}
-use mathlib.Core.List.{List, [], _∷_}
+use mathlib.Core.{Path.{_≡_}, List.{List, [], _∷_}}
 use lib.ListN.{length, getD, take, drop}
 use Rattle.text.specs.Text.{bytes}
-use Rattle.writing.specs.Decimal.{decimal, signed}
-use Rattle.writing.specs.Text.{parted, textOf}
+use Rattle.writing.specs.{Decimal.{decimal, signed}, Text.{parted, textOf}}
 use Rattle.row.specs.Ends.{rowOf}
-use Rattle.row_text.specs.Verdict.{word}
-use Rattle.row_text.specs.Room.{textRoom}
+use Rattle.row_text.specs.{Verdict.{word}, Room.{textRoom}}
 use Rattle.claims.specs.Words.{BreaksNone, Breaks, caseAt}
 
 -- the lines stand in the first r bytes of a buffer, each with its byte 10, and its other bytes are as they were

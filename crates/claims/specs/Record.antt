@@ -1,38 +1,20 @@
 -- One case asked as a record: its checks, and every answer that the question for its row can give, each with its condition. The conditions
 -- exclude one another, so each answer is given exactly on its own. Document 01, 'The sheet' and 'The result table'.
 use Prim.Native.Nat.{ℕ, suc, _<_}
-use mathlib.Core.Path.{_≡_}
-use mathlib.Core.Bool.{Bool, true, false}
-use lib.IntN.{natAbs}
-use lib.ListN.{getD}
-use Rattle.interval.specs.declared.Interval.{Interval}
-use Rattle.interval.specs.declared.Pair.{Pair}
+use mathlib.Core.{Path.{_≡_}, Bool.{Bool, true, false}}
+use lib.{IntN.{natAbs}, ListN.{getD}}
+use Rattle.interval.specs.declared.{Interval.{Interval}, Pair.{Pair}}
 use Rattle.interval.specs.declared.Pair.the-variants as pair
-use Rattle.exact.specs.Fraction.{Fraction}
-use Rattle.exact.specs.Ends.{Ends}
-use Rattle.exact.specs.Exact.{Exact}
-use Rattle.exact.specs.Reported.{Scale, Reports}
-use Rattle.case.specs.declared.Case.{Case}
-use Rattle.case.specs.Case.{values}
-use Rattle.case.specs.Columns.{columns, inRange}
-use Rattle.case.specs.Parts.{rangeAt, InRanges}
-use Rattle.case.specs.Bounds.{Bounds}
-use Rattle.formulas.specs.Decrement.{Df}
-use Rattle.formulas.specs.Tolerable.{tolerableTouch, tolerableStep}
-use Rattle.formulas.specs.Width.{mV, billionths, factorWidth, tolerableWidth}
-use Rattle.numbers.specs.Number.{Number}
-use Rattle.numbers.specs.Formulas.{CaseNumbers}
-use Rattle.row.specs.declared.Row.{Row}
-use Rattle.row.specs.Row.{numbers}
-use Rattle.hocsimbur.specs.declared.RowAnswer.{RowAnswer}
-use Rattle.hocsimbur.specs.declared.RowAnswer.the-variants.{Is, Refused}
-use Rattle.hocsimbur.specs.declared.Number.{Number as SizeAnswer}
+use Rattle.exact.specs.{Fraction.{Fraction}, Ends.{Ends}, Exact.{Exact}, Reported.{Scale, Reports}}
+use Rattle.case.specs.{declared.Case.{Case}, Case.{values}, Columns.{columns, inRange}, Parts.{rangeAt, InRanges}, Bounds.{Bounds}}
+use Rattle.formulas.specs.{Decrement.{Df}, Tolerable.{tolerableTouch, tolerableStep}, Width.{mV, billionths, factorWidth, tolerableWidth}}
+use Rattle.numbers.specs.{Number.{Number}, Formulas.{CaseNumbers}}
+use Rattle.row.specs.{declared.Row.{Row}, Row.{numbers}}
+use Rattle.hocsimbur.specs.declared.{RowAnswer.{RowAnswer, the-variants.{Is, Refused}}, Number.{Number as SizeAnswer}}
+use Rattle.hocsimbur.specs.{declared.Tolerable.{Tolerable}, Asked.{SmallestSize}}
 use Rattle.hocsimbur.specs.declared.Number.the-variants as sized
-use Rattle.hocsimbur.specs.declared.Tolerable.{Tolerable}
 use Rattle.hocsimbur.specs.declared.Tolerable.the-variants as tolerable
-use Rattle.hocsimbur.specs.Asked.{SmallestSize}
-use Rattle.claims.specs.Rules.{SurfaceAgrees, RodsAgree}
-use Rattle.claims.specs.Demands.{OwnRow}
+use Rattle.claims.specs.{Rules.{SurfaceAgrees, RodsAgree}, Demands.{OwnRow}}
 
 -- the value of the name with index i, from 0, in the table of names is in its range
 abbrev pub insideAt : Case → ℕ → Bool
@@ -83,13 +65,11 @@ pub data PairOutcome (c : Case) (x : Exact) (unit : Scale) (width : Ends → Fra
 pub data TolerableOutcome (c : Case) : Tolerable → Type 0 where
   refused : {number line column : ℕ} → RecordRefused c number line column → TolerableOutcome c (tolerable.Refused number line column)
   ends : {touch step : Interval} → RecordSound c → CaseNumbers c → Reports (tolerableTouch c) mV tolerableWidth touch
-      → Reports (tolerableStep c) mV tolerableWidth step
-      → TolerableOutcome c (tolerable.Ends touch step)
+      → Reports (tolerableStep c) mV tolerableWidth step → TolerableOutcome c (tolerable.Ends touch step)
 
 -- (d) "Conductor size is the smallest whole kcmil not below the product with the factor's upper end": of a pair of ends that reports the
 -- factor
 pub data SizeOutcome (c : Case) : SizeAnswer → Type 0 where
   refused : {number line column : ℕ} → RecordRefused c number line column → SizeOutcome c (sized.Refused number line column)
   size : {kcmil : ℕ} (factor : Interval) → RecordSound c → Reports (Df c) billionths factorWidth factor
-      → SmallestSize c (natAbs (factor .upper)) kcmil
-      → SizeOutcome c (sized.Is kcmil)
+      → SmallestSize c (natAbs (factor .upper)) kcmil → SizeOutcome c (sized.Is kcmil)

@@ -1,27 +1,17 @@
 -- Release, of no document: a sheet and a licence, asked with a table that was `before`, were answered with r.
 use Prim.Native.Nat.{ℕ, _+_, _*_, _≤_, _<_}
-use mathlib.Core.Path.{_≡_}
-use mathlib.Core.Bool.{true}
-use mathlib.Core.List.{List}
-use mathlib.Core.Logic.{_⊎_, _↔_}
-use lib.IntN.{ℤ, pos, natAbs}
-use lib.ListN.{length, drop}
-use Rattle.case.specs.Bounds.{Between}
-use Rattle.case.specs.Fault.{withFault}
+use mathlib.Core.{Path.{_≡_}, Bool.{true}, List.{List}, Logic.{_⊎_, _↔_}}
+use lib.{IntN.{ℤ, pos, natAbs}, ListN.{length, drop}}
+use Rattle.case.specs.{Bounds.{Between}, Fault.{withFault}}
 use Rattle.tables.specs.Parts.{partAt}
 use Rattle.sheet.specs.Answer.{cases}
-use Rattle.row.specs.declared.Row.{Row}
-use Rattle.row.specs.declared.Verdict.the-variants.{Safe}
-use Rattle.hocsimbur.specs.declared.RowAnswer.{RowAnswer}
+use Rattle.row.specs.declared.{Row.{Row}, Verdict.the-variants.{Safe}}
+use Rattle.hocsimbur.specs.{declared.RowAnswer.{RowAnswer}, Asked.{RowAnswered, AnsweredWith}}
 use Rattle.hocsimbur.specs.declared.RowAnswer.the-variants as answered
-use Rattle.hocsimbur.specs.Asked.{RowAnswered, AnsweredWith}
-use Rattle.release.specs.declared.Released.{Released}
-use Rattle.release.specs.declared.Released.the-variants.{Pairs, Refused}
-use Rattle.tally.specs.Lines.{licensed}
-use Rattle.release.specs.Pair.{stationNumbers}
+use Rattle.release.specs.{declared.Released.{Released, the-variants.{Pairs, Refused}}, Pair.{stationNumbers}}
 use Rattle.release.specs.Meaning.{numberAt, stationAt, seasonsAt, LineOf, SeasonLine, OneYard, NothingFound}
-use Rattle.claims.specs.Words.{BreaksNone, Breaks, caseAt, TrulySafe}
-use Rattle.claims.specs.Later.{FaultInside}
+use Rattle.tally.specs.Lines.{licensed}
+use Rattle.claims.specs.{Words.{BreaksNone, Breaks, caseAt, TrulySafe}, Later.{FaultInside}}
 
 -- ---- the licence: "pairs of a station and its seasons"
 
@@ -94,8 +84,7 @@ pub data ReleaseOutcome (s licence : List ℕ) (before after : List ℤ) : Relea
       → ReleaseOutcome s licence before after (Refused 21 0 0)
   -- "22 with the first such pair's place from 1 as line"
   pair : {n m k column : ℕ} → BreaksNone s n → InPairs licence m → k < m → PairWrong licence k column
-      → ((i : ℕ) → i < k → PairSound licence i)
-      → after ≡ before → ReleaseOutcome s licence before after (Refused 22 (k + 1) column)
+      → ((i : ℕ) → i < k → PairSound licence i) → after ≡ before → ReleaseOutcome s licence before after (Refused 22 (k + 1) column)
   -- "last 23, 0, 0 when the table is shorter than eight numbers a pair"
   table : {n m : ℕ} → BreaksNone s n → InPairs licence m → ((i : ℕ) → i < m → PairSound licence i) → length before < 8 * m
       → after ≡ before → ReleaseOutcome s licence before after (Refused 23 0 0)

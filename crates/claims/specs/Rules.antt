@@ -1,25 +1,13 @@
 -- The rules of a sheet in document 01's words, of its text: what holds of a sheet that breaks none, and what each refusal says. Columns
 -- count from 1; value lines count from 0, so that value line i is line i + 2 of the sheet.
-use Prim.Native.Nat.{ℕ, _+_, _-_, _≤_, _<_}
-use Prim.Native.String.{String}
-use mathlib.Core.Path.{_≡_}
-use mathlib.Core.Bool.{false}
-use mathlib.Core.Logic.{_⊎_}
-use mathlib.Core.List.{List, [], _∷_}
+use Prim.Native.{Nat.{ℕ, _+_, _-_, _≤_, _<_}, String.{String}}
+use mathlib.Core.{Path.{_≡_}, Bool.{false}, Logic.{_⊎_}, List.{List, [], _∷_}}
 use lib.ListN.{length, getD}
-use Rattle.text.specs.Text.{bytes, fieldsOf}
-use Rattle.text.specs.Value.{valueOf}
-use Rattle.case.specs.declared.Case.{Case}
-use Rattle.case.specs.Case.{caseOf}
-use Rattle.case.specs.Columns.{columns, inRange}
-use Rattle.case.specs.Parts.{rangeAt}
-use Rattle.case.specs.Bounds.{Bounds}
-use Rattle.header.specs.Parts.{nameAt}
-use Rattle.header.specs.Names.{fieldAt, StandsAt, StandsOnce, KnownName, WrongName}
+use Rattle.text.specs.{Text.{bytes, fieldsOf}, Value.{valueOf}}
+use Rattle.case.specs.{declared.Case.{Case}, Case.{caseOf}, Columns.{columns, inRange}, Parts.{rangeAt}, Bounds.{Bounds}}
+use Rattle.header.specs.{Parts.{nameAt}, Names.{fieldAt, StandsAt, StandsOnce, KnownName, WrongName}}
 use Rattle.judgement.specs.declared.Judgement.the-variants as judged
-use Rattle.judgement.specs.Limits.{earlier}
-use Rattle.judgement.specs.Sheet.{names, valueLines, judgementWithin}
-use Rattle.judgement.specs.Wrong.{RightValues, WrongValues}
+use Rattle.judgement.specs.{Limits.{earlier}, Sheet.{names, valueLines, judgementWithin}, Wrong.{RightValues, WrongValues}}
 use Rattle.sheet.specs.Examples.{sample}
 use Rattle.claims.specs.Words.{BreaksNone, caseAt}
 

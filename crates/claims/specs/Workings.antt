@@ -6,10 +6,7 @@ use Rattle.case.specs.declared.Case.{Case}
 use Rattle.row.specs.declared.Row.{Row}
 use Rattle.hocsimbur.specs.declared.RowAnswer.the-variants as answered
 use Rattle.hocsimbur.specs.Asked.{RowAnswered}
-use Rattle.working.specs.declared.Quantities.{Quantities}
-use Rattle.working.specs.declared.Worked.{Worked}
-use Rattle.working.specs.declared.Worked.the-variants.{Is, Refused}
-use Rattle.working.specs.Working.{RightWorking}
+use Rattle.working.specs.{declared.{Quantities.{Quantities}, Worked.{Worked, the-variants.{Is, Refused}}}, Working.{RightWorking}}
 use Rattle.claims.specs.Record.{RecordRefused, RecordSound}
 
 -- the mesh voltage in the case's row is the product of the pairs of ρ·Ki·IG/LM and of Km, in mV and 10^−7, rounded outward

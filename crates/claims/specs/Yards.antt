@@ -1,19 +1,12 @@
 -- Request (k) of document 02: the fewest lines for a given side, over sides, counts and spacings.
 use Prim.Native.Nat.{ℕ, zero, suc, _+_, _*_, _-_, _≤_, _<_}
-use mathlib.Core.Path.{_≡_}
-use mathlib.Core.Logic.{_⊎_}
-use Rattle.case.specs.declared.Case.{Case}
-use Rattle.case.specs.Bounds.{Between}
+use mathlib.Core.{Path.{_≡_}, Logic.{_⊎_}}
+use Rattle.case.specs.{declared.Case.{Case}, Bounds.{Between}}
 use Rattle.row.specs.declared.Verdict.the-variants.{Safe}
 use Rattle.stations.specs.Summary.{one}
-use Rattle.yards.specs.declared.FewestLines.{FewestLines}
-use Rattle.yards.specs.declared.FewestLines.the-variants.{Found, None, Refused}
-use Rattle.yards.specs.Yards.{fits}
-use Rattle.hocsimbur.specs.declared.RowAnswer.{RowAnswer}
-use Rattle.hocsimbur.specs.Asked.{RowAnswered, AnsweredWith}
-use Rattle.claims.specs.Words.{TrulySafe}
-use Rattle.claims.specs.Rules.{RodsAgree}
-use Rattle.claims.specs.Record.{RecordRefused, RecordSound}
+use Rattle.yards.specs.{declared.FewestLines.{FewestLines, the-variants.{Found, None, Refused}}, Yards.{fits}}
+use Rattle.hocsimbur.specs.{declared.RowAnswer.{RowAnswer}, Asked.{RowAnswered, AnsweredWith}}
+use Rattle.claims.specs.{Words.{TrulySafe}, Rules.{RodsAgree}, Record.{RecordRefused, RecordSound}}
 
 -- a case with other counts, spacing, rods, rod length and place, all else equal
 abbrev pub withYard : (across along space rods rodlen place : ℕ) → Case → Case

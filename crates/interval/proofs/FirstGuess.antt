@@ -1,12 +1,9 @@
 -- The first guess of a whole root: Newton's step from a power of two whose square is above the number.
 use Prim.Native.Nat.{ℕ, _+_, _*_, _/_, _%_, _^_, _≤_, _<_}
 use mathlib.Core.Path.{_≡_, _∙_}
-use native.Mathlib.Omega.{arith}
-use native.Mathlib.Nat.{lt-of-lt-of-le, le-trans, le-of-eq, one-mul}
-use lib.Dec.{lit<}
-use lib.Pow.{pow-mono, pow-add, shl-exact}
-use mir.Syntax.{w64}
-use mir.Val.{Fits}
+use native.Mathlib.{Omega.{arith}, Nat.{lt-of-lt-of-le, le-trans, le-of-eq, one-mul}}
+use lib.{Dec.{lit<}, Pow.{pow-mono, pow-add, shl-exact}}
+use mir.{Syntax.{w64}, Val.{Fits}}
 use Rattle.interval.specs.Root.{NotBelow}
 use Rattle.interval.proofs.Newton.{guess-positive, quotient-below, newton-above}
 
@@ -30,7 +27,4 @@ module _ (l : ℕ) (most : l ≤ 32) (x m : ℕ) (bits : x < 2 ^ m) (twice : m �
 
   pub step-not-below : NotBelow x (((1 * 2 ^ l) % 2 ^ 64 + x / 2 ^ l) / 2)
   step-not-below =
-      record {
-        high = rw shift (newton-above x (2 ^ l) (guess-positive x (2 ^ l) square));
-        small = omega (arith, step-small);
-      }
+      record { high = rw shift (newton-above x (2 ^ l) (guess-positive x (2 ^ l) square)); small = omega (arith, step-small) }

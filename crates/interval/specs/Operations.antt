@@ -55,8 +55,7 @@ productOf a b den = outwardOf (cornersOf a b) den
 
 -- a · scale / b, for b above 0
 unfoldable pub quotientOf : Interval → Interval → ℕ → Interval
-quotientOf a b scale =
-    hullOf (outwardOf (scaledOf a scale) (natAbs (b .lower))) (outwardOf (scaledOf a scale) (natAbs (b .upper)))
+quotientOf a b scale = hullOf (outwardOf (scaledOf a scale) (natAbs (b .lower))) (outwardOf (scaledOf a scale) (natAbs (b .upper)))
 
 -- the lower end is not above the upper
 pub record Ordered (a : Interval) : Type 0 where

@@ -1,19 +1,14 @@
 -- The sheet's own question answered in a table with room for the most rows, and what it would answer in another table.
 use Prim.Native.Nat.{ℕ, _*_, _≤_, _<_}
-use mathlib.Core.Path.{_≡_, refl, ap, _∙_}
-use mathlib.Core.List.{List}
+use mathlib.Core.{Path.{_≡_, refl, ap, _∙_}, List.{List}}
 use native.Mathlib.Omega.{arith}
 use borrow.Author.Tests.{lt-ltb, le-ltb}
 use Rattle.text.proofs.Clash.{clash}
 use Rattle.case.specs.Columns.{columns}
 use Rattle.row.specs.Row.{rowLength}
-use Rattle.judgement.specs.declared.Judgement.{Judgement}
+use Rattle.judgement.{specs.{declared.Judgement.{Judgement}, Limits.{mostLines}, Sheet.{judgement}}, proofs.Accepted.{accepted}}
 use Rattle.judgement.specs.declared.Judgement.the-variants as judged
-use Rattle.judgement.specs.Limits.{mostLines}
-use Rattle.judgement.specs.Sheet.{judgement}
-use Rattle.judgement.proofs.Accepted.{accepted}
-use Rattle.sheet.specs.declared.Answer.the-variants.{Rows, Refused}
-use Rattle.sheet.specs.Answer.{tableRefused, answerBy, answer}
+use Rattle.sheet.specs.{declared.Answer.the-variants.{Rows, Refused}, Answer.{tableRefused, answerBy, answer}}
 
 -- the judgement of a sheet names at most the limit of lines
 within : (s : List ℕ) (n : ℕ) → judgement columns s ≡ judged.Lines n → n ≤ mostLines

@@ -1,11 +1,9 @@
 -- `fill_buffer` reads, then puts the rows where the buffer has room.
 use native.Mathlib.Omega.{arith}
 use borrow.Author.Needs.{needs}
-use Rattle.case.specs.Columns.{name-count}
-use Rattle.case.specs.Parts.{formOf}
+use Rattle.case.specs.{Columns.{name-count}, Parts.{formOf}}
 use Rattle.sheet.proofs.ReadLines.{StoredLines, judged-is, stored-lines}
-use Rattle.c_entry.proofs.Answers.{in-bytes-refused, in-bytes-short, in-bytes-rows}
-use Rattle.c_entry.proofs.fill_buffer.Statement.{statement}
+use Rattle.c_entry.proofs.{Answers.{in-bytes-refused, in-bytes-short, in-bytes-rows}, fill_buffer.Statement.{statement}}
 use Rattle.c_entry.proofs.fill_buffer.Tie as tie
 
 read-requires : tie.Need-read-requires
@@ -48,17 +46,5 @@ returns-3 c =
 
 pub fill-buffer-spec : {M : Type 1} → statement M
 fill-buffer-spec =
-    tie.close
-    (tie.spec
-    read-requires
-    (λ c. search needs)
-    (λ c. search needs)
-    mul-if1
-    (λ c. search needs)
-    returns
-    write-rows-requires
-    (λ c. search needs)
-    returns-2
-    (λ c. search needs)
-    (λ c. search needs)
-    returns-3)
+    tie.close (tie.spec read-requires (λ c. search needs) (λ c. search needs) mul-if1 (λ c. search needs) returns write-rows-requires
+    (λ c. search needs) returns-2 (λ c. search needs) (λ c. search needs) returns-3)

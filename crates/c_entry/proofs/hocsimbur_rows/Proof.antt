@@ -2,8 +2,7 @@
 use mathlib.Core.Path.{_∙_}
 use borrow.Author.Needs.{needs}
 use Rattle.interval.proofs.Bits.{back}
-use Rattle.c_entry.proofs.Answers.{told-few, told-signed}
-use Rattle.c_entry.proofs.hocsimbur_rows.Statement.{statement}
+use Rattle.c_entry.proofs.{Answers.{told-few, told-signed}, hocsimbur_rows.Statement.{statement}}
 use Rattle.c_entry.proofs.hocsimbur_rows.Tie as tie
 
 signed-answer-requires : tie.Need-signed-answer-requires
@@ -15,5 +14,4 @@ returns c =
     (back (c .signed-answer .result) (c .signed-answer .ok) ∙ c .signed-answer .ensures)
 
 pub hocsimbur-rows-spec : {M : Type 1} → statement M
-hocsimbur-rows-spec =
-    tie.close (tie.spec (λ c κs. search needs) signed-answer-requires (λ c. search needs) returns)
+hocsimbur-rows-spec = tie.close (tie.spec (λ c κs. search needs) signed-answer-requires (λ c. search needs) returns)

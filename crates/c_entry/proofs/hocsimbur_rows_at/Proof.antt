@@ -3,8 +3,7 @@ use mathlib.Core.Path.{ap, _∙_}
 use borrow.Author.Needs.{needs}
 use Rattle.interval.proofs.Bits.{back}
 use Rattle.c_entry.specs.Place.{placeAfter}
-use Rattle.c_entry.proofs.Answers.{told-few, told-signed}
-use Rattle.c_entry.proofs.hocsimbur_rows_at.Statement.{statement}
+use Rattle.c_entry.proofs.{Answers.{told-few, told-signed}, hocsimbur_rows_at.Statement.{statement}}
 use Rattle.c_entry.proofs.hocsimbur_rows_at.Tie as tie
 
 signed-answer-requires : tie.Need-signed-answer-requires
@@ -23,11 +22,5 @@ returns c =
 
 pub hocsimbur-rows-at-spec : {M : Type 1} → statement M
 hocsimbur-rows-at-spec =
-    tie.close
-    (tie.spec
-    (λ c κs. search needs)
-    (λ c κs. search needs)
-    signed-answer-requires
-    (λ c. search needs)
-    (λ c. search needs)
+    tie.close (tie.spec (λ c κs. search needs) (λ c κs. search needs) signed-answer-requires (λ c. search needs) (λ c. search needs)
     returns)

@@ -1,7 +1,6 @@
 -- `greatest_fault` is the headroom of the case.
 use borrow.Author.Needs.{needs}
-use Rattle.c_line.proofs.LineParts.{up-to-fault, no-fault, headroom-some}
-use Rattle.c_line.proofs.greatest_fault.Statement.{statement}
+use Rattle.c_line.proofs.{LineParts.{up-to-fault, no-fault, headroom-some}, greatest_fault.Statement.{statement}}
 use Rattle.c_line.proofs.greatest_fault.Tie as tie
 
 returns : tie.Need-returns
@@ -21,12 +20,4 @@ returns-3 c =
 
 pub greatest-fault-spec : {M : Type 1} → statement M
 greatest-fault-spec =
-    tie.close
-    (tie.spec
-    (λ c κs. search needs)
-    (λ c. search needs)
-    (λ c. search needs)
-    (λ c. search needs)
-    returns
-    returns-2
-    returns-3)
+    tie.close (tie.spec (λ c κs. search needs) (λ c. search needs) (λ c. search needs) (λ c. search needs) returns returns-2 returns-3)

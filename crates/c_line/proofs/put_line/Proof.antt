@@ -37,17 +37,5 @@ returns-3 c = rw (c .before .before .before .enum-told3 .given .1) (c .before .p
 
 pub put-line-spec : {M : Type 1} → statement M
 put-line-spec =
-    tie.close
-    (tie.spec
-    (λ c. search needs)
-    put-margins-requires
-    (λ c. search needs)
-    put-working-requires
-    (λ c. search needs)
-    put-headroom-requires
-    (λ c. search needs)
-    returns
-    (λ c. search needs)
-    returns-2
-    (λ c. search needs)
-    returns-3)
+    tie.close (tie.spec (λ c. search needs) put-margins-requires (λ c. search needs) put-working-requires (λ c. search needs)
+    put-headroom-requires (λ c. search needs) returns (λ c. search needs) returns-2 (λ c. search needs) returns-3)

@@ -2,13 +2,10 @@
 use mathlib.Core.Path.{_≡_, sym, ap, _∙_}
 use native.Mathlib.Omega.{arith}
 use borrow.Author.Needs.{needs}
-use mir.Syntax.{w64}
-use mir.Val.{SFits}
-use Rattle.row.specs.Row.{numbers}
-use Rattle.row.specs.Ends.{rowOf}
+use mir.{Syntax.{w64}, Val.{SFits}}
+use Rattle.row.specs.{Row.{numbers}, Ends.{rowOf}}
 use Rattle.margin.specs.Margin.{marginsOf}
-use Rattle.c_line.proofs.LineParts.{put-whole, read-both, margins-some, margins-line}
-use Rattle.c_line.proofs.put_margins.Statement.{statement}
+use Rattle.c_line.proofs.{LineParts.{put-whole, read-both, margins-some, margins-line}, put_margins.Statement.{statement}}
 use Rattle.c_line.proofs.put_margins.Tie as tie
 
 held : (c : tie.After-known-told) → SFits w64 (c .before .mesh .given .0 .0) × SFits w64 (c .before .mesh .given .0 .1 .0)
@@ -43,17 +40,5 @@ returns-2 c =
 
 pub put-margins-spec : {M : Type 1} → statement M
 put-margins-spec =
-    tie.close
-    (tie.spec
-    (λ c κs. search needs)
-    (λ c. search needs)
-    (λ c κs. search needs)
-    (λ c. search needs)
-    (λ c κs. search needs)
-    (λ c. search needs)
-    (λ c. search needs)
-    put-first-requires
-    (λ c. search needs)
-    (λ c. search needs)
-    returns
-    returns-2)
+    tie.close (tie.spec (λ c κs. search needs) (λ c. search needs) (λ c κs. search needs) (λ c. search needs) (λ c κs. search needs)
+    (λ c. search needs) (λ c. search needs) put-first-requires (λ c. search needs) (λ c. search needs) returns returns-2)

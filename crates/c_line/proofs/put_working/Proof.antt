@@ -3,8 +3,7 @@ use mathlib.Core.Path.{_≡_, sym, _∙_}
 use native.Mathlib.Omega.{arith}
 use lib.ListN.{length}
 use borrow.Author.Needs.{needs}
-use Rattle.c_line.proofs.LineParts.{put-whole, working-some, working-line}
-use Rattle.c_line.proofs.put_working.Statement.{statement}
+use Rattle.c_line.proofs.{LineParts.{put-whole, working-some, working-line}, put_working.Statement.{statement}}
 use Rattle.c_line.proofs.put_working.Tie as tie
 
 put-first-requires : tie.Need-put-first-requires
@@ -31,14 +30,5 @@ returns-2 c =
 
 pub put-working-spec : {M : Type 1} → statement M
 put-working-spec =
-    tie.close
-    (tie.spec
-    (λ c κs. search needs)
-    (λ c. search needs)
-    (λ c κs. search needs)
-    (λ c. search needs)
-    put-first-requires
-    (λ c. search needs)
-    (λ c. search needs)
-    returns
-    returns-2)
+    tie.close (tie.spec (λ c κs. search needs) (λ c. search needs) (λ c κs. search needs) (λ c. search needs) put-first-requires
+    (λ c. search needs) (λ c. search needs) returns returns-2)

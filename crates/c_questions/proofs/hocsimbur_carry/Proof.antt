@@ -2,9 +2,7 @@
 use borrow.Author.Needs.{needs}
 use Rattle.interval.proofs.Bits.{back}
 use Rattle.case.specs.declared.Form.the-variants.{Present}
-use Rattle.c_questions.proofs.Counts.{bytes-few}
-use Rattle.c_questions.proofs.Telling.{told-as}
-use Rattle.c_questions.proofs.hocsimbur_carry.Statement.{statement}
+use Rattle.c_questions.proofs.{Counts.{bytes-few}, Telling.{told-as}, hocsimbur_carry.Statement.{statement}}
 use Rattle.c_questions.proofs.hocsimbur_carry.Tie as tie
 
 tell-requires : tie.Need-tell-requires
@@ -25,11 +23,4 @@ returns c =
 
 pub hocsimbur-carry-spec : {M : Type 1} → statement M
 hocsimbur-carry-spec =
-    tie.close
-    (tie.spec
-    (λ c κs. search needs)
-    (λ c κs. search needs)
-    tell-requires
-    (λ c. search needs)
-    (λ c. search needs)
-    returns)
+    tie.close (tie.spec (λ c κs. search needs) (λ c κs. search needs) tell-requires (λ c. search needs) (λ c. search needs) returns)

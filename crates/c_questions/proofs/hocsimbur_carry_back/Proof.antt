@@ -2,9 +2,7 @@
 use borrow.Author.Needs.{needs}
 use Rattle.interval.proofs.Bits.{back}
 use Rattle.case.specs.declared.Form.the-variants.{Former}
-use Rattle.c_questions.proofs.Counts.{bytes-few}
-use Rattle.c_questions.proofs.Telling.{told-as}
-use Rattle.c_questions.proofs.hocsimbur_carry_back.Statement.{statement}
+use Rattle.c_questions.proofs.{Counts.{bytes-few}, Telling.{told-as}, hocsimbur_carry_back.Statement.{statement}}
 use Rattle.c_questions.proofs.hocsimbur_carry_back.Tie as tie
 
 tell-requires : tie.Need-tell-requires
@@ -25,11 +23,4 @@ returns c =
 
 pub hocsimbur-carry-back-spec : {M : Type 1} → statement M
 hocsimbur-carry-back-spec =
-    tie.close
-    (tie.spec
-    (λ c κs. search needs)
-    (λ c κs. search needs)
-    tell-requires
-    (λ c. search needs)
-    (λ c. search needs)
-    returns)
+    tie.close (tie.spec (λ c κs. search needs) (λ c κs. search needs) tell-requires (λ c. search needs) (λ c. search needs) returns)

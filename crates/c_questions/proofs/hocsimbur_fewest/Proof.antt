@@ -1,7 +1,6 @@
 -- `hocsimbur_fewest` tells the answer of the sheet's one line.
 use borrow.Author.Needs.{needs}
-use Rattle.c_questions.proofs.ReportCounts.{fewest-few}
-use Rattle.c_questions.proofs.hocsimbur_fewest.Statement.{statement}
+use Rattle.c_questions.proofs.{ReportCounts.{fewest-few}, hocsimbur_fewest.Statement.{statement}}
 use Rattle.c_questions.proofs.hocsimbur_fewest.Tie as tie
 
 tell-requires : tie.Need-tell-requires
@@ -9,11 +8,5 @@ tell-requires c κs = fewest-few _ (c .before .before .put-fewest .ensures)
 
 pub hocsimbur-fewest-spec : {M : Type 1} → statement M
 hocsimbur-fewest-spec =
-    tie.close
-    (tie.spec
-    (λ c κs. search needs)
-    (λ c κs. search needs)
-    tell-requires
-    (λ c. search needs)
-    (λ c. search needs)
+    tie.close (tie.spec (λ c κs. search needs) (λ c κs. search needs) tell-requires (λ c. search needs) (λ c. search needs)
     (λ c. search needs))

@@ -3,9 +3,7 @@ use Prim.Native.Nat.{_<_, _^_}
 use lib.ListN.{length}
 use borrow.Author.Needs.{needs}
 use Rattle.interval.proofs.Bits.{back}
-use Rattle.c_questions.proofs.Counts.{pairs-few}
-use Rattle.c_questions.proofs.Telling.{told-as}
-use Rattle.c_questions.proofs.hocsimbur_release.Statement.{statement}
+use Rattle.c_questions.proofs.{Counts.{pairs-few}, Telling.{told-as}, hocsimbur_release.Statement.{statement}}
 use Rattle.c_questions.proofs.hocsimbur_release.Tie as tie
 
 held : (s : tie.Start) → length (s .args .table .now) < 2 ^ 64
@@ -30,11 +28,4 @@ returns c =
 
 pub hocsimbur-release-spec : {M : Type 1} → statement M
 hocsimbur-release-spec =
-    tie.close
-    (tie.spec
-    (λ c κs. search needs)
-    (λ c κs. search needs)
-    tell-requires
-    (λ c. search needs)
-    (λ c. search needs)
-    returns)
+    tie.close (tie.spec (λ c κs. search needs) (λ c κs. search needs) tell-requires (λ c. search needs) (λ c. search needs) returns)

@@ -2,11 +2,8 @@
 use mathlib.Core.Path.{refl, ap}
 use borrow.Author.Needs.{needs}
 use Rattle.interval.proofs.Bits.{back}
-use Rattle.c_reply.specs.Reply.{splitReply}
-use Rattle.c_questions.proofs.Telling.{told-as}
-use Rattle.c_reply.proofs.Replies.{replied-as}
-use Rattle.c_questions.proofs.ReportCounts.{split-few}
-use Rattle.c_questions.proofs.SplitSize.{every-split-small}
+use Rattle.c_reply.{specs.Reply.{splitReply}, proofs.Replies.{replied-as}}
+use Rattle.c_questions.proofs.{Telling.{told-as}, ReportCounts.{split-few}, SplitSize.{every-split-small}}
 use Rattle.c_questions.proofs.hocsimbur_split.Statement.{statement}
 use Rattle.c_questions.proofs.hocsimbur_split.Tie as tie
 
@@ -28,11 +25,4 @@ returns c =
 
 pub hocsimbur-split-spec : {M : Type 1} → statement M
 hocsimbur-split-spec =
-    tie.close
-    (tie.spec
-    (λ c κs. search needs)
-    put-split-requires
-    tell-requires
-    (λ c. search needs)
-    (λ c. search needs)
-    returns)
+    tie.close (tie.spec (λ c κs. search needs) put-split-requires tell-requires (λ c. search needs) (λ c. search needs) returns)

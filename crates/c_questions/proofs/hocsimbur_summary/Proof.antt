@@ -3,9 +3,7 @@ use Prim.Native.Nat.{_<_, _^_}
 use lib.ListN.{length}
 use borrow.Author.Needs.{needs}
 use Rattle.interval.proofs.Bits.{back}
-use Rattle.c_questions.proofs.Counts.{stations-few}
-use Rattle.c_questions.proofs.Telling.{told-as}
-use Rattle.c_questions.proofs.hocsimbur_summary.Statement.{statement}
+use Rattle.c_questions.proofs.{Counts.{stations-few}, Telling.{told-as}, hocsimbur_summary.Statement.{statement}}
 use Rattle.c_questions.proofs.hocsimbur_summary.Tie as tie
 
 held : (s : tie.Start) → length (s .args .beside .now) < 2 ^ 64
@@ -30,12 +28,5 @@ returns c =
 
 pub hocsimbur-summary-spec : {M : Type 1} → statement M
 hocsimbur-summary-spec =
-    tie.close
-    (tie.spec
-    (λ c κs. search needs)
-    (λ c κs. search needs)
-    tell-requires
-    (λ c. search needs)
-    (λ c. search needs)
-    (λ c. search needs)
-    returns)
+    tie.close (tie.spec (λ c κs. search needs) (λ c κs. search needs) tell-requires (λ c. search needs) (λ c. search needs)
+    (λ c. search needs) returns)

@@ -2,11 +2,9 @@
 use mathlib.Core.Path.{sym, ap, _∙_}
 use native.Mathlib.Omega.{arith}
 use borrow.Author.Needs.{needs}
-use mir.Syntax.{w64}
-use mir.Facts.{toZ-pos}
+use mir.{Syntax.{w64}, Facts.{toZ-pos}}
 use Rattle.c_reply.specs.Reply.{fewestReply}
-use Rattle.c_reply.proofs.Replies.{replied-as, replied-length, refused-reply}
-use Rattle.c_reply.proofs.put_fewest.Statement.{statement}
+use Rattle.c_reply.proofs.{Replies.{replied-as, replied-length, refused-reply}, put_fewest.Statement.{statement}}
 use Rattle.c_reply.proofs.put_fewest.Tie as tie
 
 returns : tie.Need-returns
@@ -43,21 +41,6 @@ returns-3 c =
 
 pub put-fewest-spec : {M : Type 1} → statement M
 put-fewest-spec =
-    tie.close
-    (tie.spec
-    (λ c. search needs)
-    (λ c. search needs)
-    (λ c. search needs)
-    (λ c. search needs)
-    (λ c. search needs)
-    (λ c. search needs)
-    (λ c κs. search needs)
-    (λ c. search needs)
-    (λ c. search needs)
-    (λ c. search needs)
-    (λ c κs. search needs)
-    returns
-    same-length
-    returns-2
-    same-length-2
-    returns-3)
+    tie.close (tie.spec (λ c. search needs) (λ c. search needs) (λ c. search needs) (λ c. search needs) (λ c. search needs)
+    (λ c. search needs) (λ c κs. search needs) (λ c. search needs) (λ c. search needs) (λ c. search needs) (λ c κs. search needs) returns
+    same-length returns-2 same-length-2 returns-3)

@@ -2,13 +2,9 @@
 use Prim.Native.Nat.{_-_}
 use mathlib.Core.Path.{_∙_}
 use native.Mathlib.Omega.{arith}
-use lib.IntN.{pos}
-use lib.ListN.{length, getD}
-use lib.Seq.{take-all}
+use lib.{IntN.{pos}, ListN.{length, getD}, Seq.{take-all}}
 use borrow.Author.Needs.{needs}
-use mir.Syntax.{w64}
-use mir.Val.{SFits}
-use mir.Facts.{toZ-ofZ}
+use mir.{Syntax.{w64}, Val.{SFits}, Facts.{toZ-ofZ}}
 use Rattle.stations.proofs.Copying.{Copying, copying-start, copying-next, copying-end}
 use Rattle.c_reply.proofs.put_first.Statement.{statement}
 use Rattle.c_reply.proofs.put_first.Tie as tie
@@ -19,8 +15,7 @@ Inv-loop zs numbers₀ i₀ numbers i = Copying zs numbers₀ (length zs) i numb
 abbrev μ-loop : tie.MeasureT-loop
 μ-loop zs numbers₀ i₀ numbers i = length zs - i
 
-held : (c : tie.After-z Inv-loop μ-loop)
-    → SFits w64 (getD (c .before .before .before .args .zs .now) (c .before .before .loop .i) (pos 0))
+held : (c : tie.After-z Inv-loop μ-loop) → SFits w64 (getD (c .before .before .before .args .zs .now) (c .before .before .loop .i) (pos 0))
 held c = search needs
 
 loop-holds : tie.Need-loop-holds Inv-loop μ-loop
@@ -44,17 +39,5 @@ returns c =
 
 pub put-first-spec : {M : Type 1} → statement M
 put-first-spec =
-    tie.close
-    (tie.spec
-    Inv-loop
-    μ-loop
-    loop-holds
-    (λ c. search needs)
-    (λ c. search needs)
-    (λ c. search needs)
-    slice-set-from-z
-    (λ c. search needs)
-    (λ c. search needs)
-    loop-again
-    same-length
-    returns)
+    tie.close (tie.spec Inv-loop μ-loop loop-holds (λ c. search needs) (λ c. search needs) (λ c. search needs) slice-set-from-z
+    (λ c. search needs) (λ c. search needs) loop-again same-length returns)

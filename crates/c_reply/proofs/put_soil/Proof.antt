@@ -2,8 +2,7 @@
 use mathlib.Core.Path.{sym, ap, _∙_}
 use borrow.Author.Needs.{needs}
 use Rattle.c_reply.specs.Reply.{Numbers, soilReply}
-use Rattle.c_reply.proofs.Replies.{replied-as, replied-length, refused-reply}
-use Rattle.c_reply.proofs.put_soil.Statement.{statement}
+use Rattle.c_reply.proofs.{Replies.{replied-as, replied-length, refused-reply}, put_soil.Statement.{statement}}
 use Rattle.c_reply.proofs.put_soil.Tie as tie
 
 returns : tie.Need-returns
@@ -22,13 +21,5 @@ returns-2 c =
 
 pub put-soil-spec : {M : Type 1} → statement M
 put-soil-spec =
-    tie.close
-    (tie.spec
-    (λ c. search needs)
-    (λ c. search needs)
-    (λ c κs. search needs)
-    (λ c. search needs)
-    (λ c κs. search needs)
-    returns
-    same-length
-    returns-2)
+    tie.close (tie.spec (λ c. search needs) (λ c. search needs) (λ c κs. search needs) (λ c. search needs) (λ c κs. search needs) returns
+    same-length returns-2)

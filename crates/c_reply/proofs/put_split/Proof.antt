@@ -3,14 +3,10 @@ use Prim.Native.Nat.{ℕ, _<_, _^_}
 use mathlib.Core.Path.{_≡_, sym, ap, _∙_}
 use borrow.Author.Needs.{needs}
 use lib.IntN.{ℤ}
-use mir.Syntax.{w64}
-use mir.Val.{SFits}
-use mir.Facts.{toZ-ofZ, toZ-pos}
-use Rattle.staged.specs.declared.SplitAnswer.{SplitAnswer}
-use Rattle.staged.specs.declared.SplitAnswer.the-variants.{Grid}
+use mir.{Syntax.{w64}, Val.{SFits}, Facts.{toZ-ofZ, toZ-pos}}
+use Rattle.staged.specs.declared.SplitAnswer.{SplitAnswer, the-variants.{Grid}}
 use Rattle.c_reply.specs.Reply.{splitReply, SmallSplit}
-use Rattle.c_reply.proofs.Replies.{replied-as, replied-length, refused-reply}
-use Rattle.c_reply.proofs.put_split.Statement.{statement}
+use Rattle.c_reply.proofs.{Replies.{replied-as, replied-length, refused-reply}, put_split.Statement.{statement}}
 use Rattle.c_reply.proofs.put_split.Tie as tie
 
 small : {a : SplitAnswer} {x y : ℤ} {k : ℕ} → SmallSplit a → a ≡ Grid x y k → k < 2 ^ 63
@@ -42,13 +38,5 @@ returns-2 c =
 
 pub put-split-spec : {M : Type 1} → statement M
 put-split-spec =
-    tie.close
-    (tie.spec
-    (λ c. search needs)
-    (λ c. search needs)
-    cast-t11
-    (λ c. search needs)
-    (λ c κs. search needs)
-    returns
-    same-length
+    tie.close (tie.spec (λ c. search needs) (λ c. search needs) cast-t11 (λ c. search needs) (λ c κs. search needs) returns same-length
     returns-2)

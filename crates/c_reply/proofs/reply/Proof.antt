@@ -1,12 +1,9 @@
 -- `reply` puts the numbers where there is room for them.
 use Prim.Native.Nat.{_≤_}
-use mathlib.Core.Path.{_≡_, ap, _∙_}
-use mathlib.Core.List.{List, _++_}
+use mathlib.Core.{Path.{_≡_, ap, _∙_}, List.{List, _++_}}
 use native.Mathlib.Omega.{arith}
-use borrow.Author.Needs.{needs}
-use borrow.Author.Tests.{lt-ltb, le-ltb}
-use lib.IntN.{ℤ}
-use lib.ListN.{length, drop, length-append, length-drop}
+use borrow.Author.{Needs.{needs}, Tests.{lt-ltb, le-ltb}}
+use lib.{IntN.{ℤ}, ListN.{length, drop, length-append, length-drop}}
 use Rattle.c_reply.specs.Reply.{replyAnswer, numbersAfter}
 use Rattle.c_reply.proofs.reply.Statement.{statement}
 use Rattle.c_reply.proofs.reply.Tie as tie

@@ -23,15 +23,37 @@ returns c =
     let n = next-held (c .before) in
     let l = last-held (c .before) in
     simp (
-      toZ-ofZ (f .0 .0), toZ-ofZ (f .0 .1), toZ-ofZ (f .1 .0), toZ-ofZ (f .1 .1), toZ-ofZ (f .2 .0), toZ-ofZ (f .2 .1),
-      toZ-ofZ (f .3 .0), toZ-ofZ (f .3 .1), toZ-ofZ (f .4 .0), toZ-ofZ (f .4 .1), toZ-ofZ (n .0 .0), toZ-ofZ (n .0 .1),
-      toZ-ofZ (n .1 .0), toZ-ofZ (n .1 .1), toZ-ofZ (n .2 .0), toZ-ofZ (n .2 .1), toZ-ofZ (n .3 .0), toZ-ofZ (n .3 .1),
-      toZ-ofZ (n .4 .0), toZ-ofZ (n .4 .1), toZ-ofZ (l .0 .0), toZ-ofZ (l .0 .1), toZ-ofZ (l .1 .0), toZ-ofZ (l .1 .1),
-      toZ-ofZ (l .2 .0), toZ-ofZ (l .2 .1), toZ-ofZ (l .3 .0), toZ-ofZ (l .3 .1), toZ-ofZ (l .4 .0), toZ-ofZ (l .4 .1),
+      toZ-ofZ (f .0 .0),
+      toZ-ofZ (f .0 .1),
+      toZ-ofZ (f .1 .0),
+      toZ-ofZ (f .1 .1),
+      toZ-ofZ (f .2 .0),
+      toZ-ofZ (f .2 .1),
+      toZ-ofZ (f .3 .0),
+      toZ-ofZ (f .3 .1),
+      toZ-ofZ (f .4 .0),
+      toZ-ofZ (f .4 .1),
+      toZ-ofZ (n .0 .0),
+      toZ-ofZ (n .0 .1),
+      toZ-ofZ (n .1 .0),
+      toZ-ofZ (n .1 .1),
+      toZ-ofZ (n .2 .0),
+      toZ-ofZ (n .2 .1),
+      toZ-ofZ (n .3 .0),
+      toZ-ofZ (n .3 .1),
+      toZ-ofZ (n .4 .0),
+      toZ-ofZ (n .4 .1),
+      toZ-ofZ (l .0 .0),
+      toZ-ofZ (l .0 .1),
+      toZ-ofZ (l .1 .0),
+      toZ-ofZ (l .1 .1),
+      toZ-ofZ (l .2 .0),
+      toZ-ofZ (l .2 .1),
+      toZ-ofZ (l .3 .0),
+      toZ-ofZ (l .3 .1),
+      toZ-ofZ (l .4 .0),
+      toZ-ofZ (l .4 .1),
     )
 
 pub working-numbers-spec : {M : Type 1} → statement M
-working-numbers-spec =
-    tie.close
-    (tie.spec
-    returns)
+working-numbers-spec = tie.close (tie.spec returns)

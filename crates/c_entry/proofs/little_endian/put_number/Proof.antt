@@ -14,5 +14,4 @@ returns c =
     (w .twos-complement .ensures ∙ ap twosComplement (toZ-ofZ (w .before .before .fits .z)))
 
 pub put-number-spec : {M : Type 1} → statement M
-put-number-spec =
-    tie.close (tie.spec (λ c κs. search needs) (λ c κs. search needs) (λ c. search needs) returns)
+put-number-spec = tie.close (tie.spec (λ c κs. search needs) (λ c κs. search needs) (λ c. search needs) returns)

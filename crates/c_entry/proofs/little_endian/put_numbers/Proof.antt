@@ -1,20 +1,14 @@
 -- `put_numbers` puts two numbers a step, each in its own eight bytes.
 use Prim.Native.Nat.{ℕ, _+_, _*_, _-_, _%_, _≤_, _<_}
-use mathlib.Core.Path.{_≡_, refl, sym, _∙_}
-use mathlib.Core.List.{List}
+use mathlib.Core.{Path.{_≡_, refl, sym, _∙_}, List.{List}}
 use native.Mathlib.Omega.{arith}
 use borrow.Author.Needs.{needs}
 use borrow.Rule.Slice.PartMut.{putMid}
-use lib.IntN.{ℤ, pos}
-use lib.ListN.{getD}
-use mir.Syntax.{w64}
-use mir.Val.{SFits}
-use mir.Facts.{toZ-ofZ}
+use lib.{IntN.{ℤ, pos}, ListN.{getD}}
+use mir.{Syntax.{w64}, Val.{SFits}, Facts.{toZ-ofZ}}
 use Rattle.row.specs.Row.{rowLength}
-use Rattle.c_entry.specs.Bytes.{numberBytes}
-use Rattle.c_entry.specs.Buffer.{rowBytes}
-use Rattle.c_entry.proofs.Putting.{PutTo, put-start, put-next, put-all}
-use Rattle.c_entry.proofs.little_endian.put_numbers.Statement.{statement}
+use Rattle.c_entry.specs.{Bytes.{numberBytes}, Buffer.{rowBytes}}
+use Rattle.c_entry.proofs.{Putting.{PutTo, put-start, put-next, put-all}, little_endian.put_numbers.Statement.{statement}}
 use Rattle.c_entry.proofs.little_endian.put_numbers.Tie as tie
 
 -- an even count of numbers is put
@@ -87,29 +81,7 @@ returns c =
 
 pub put-numbers-spec : {M : Type 1} → statement M
 put-numbers-spec =
-    tie.close
-    (tie.spec
-    Inv-loop
-    μ-loop
-    loop-holds
-    (λ c. search needs)
-    (λ c. search needs)
-    (λ c. search needs)
-    (λ c. search needs)
-    (λ c. search needs)
-    (λ c. search needs)
-    (λ c. search needs)
-    part-put-number-end
-    (λ c κs. search needs)
-    (λ c. search needs)
-    (λ c. search needs)
-    array-copy-out-put-number-2
-    (λ c. search needs)
-    (λ c. search needs)
-    part-put-number-end-2
-    (λ c κs. search needs)
-    (λ c. search needs)
-    loop-less
-    loop-again
-    same-length
-    returns)
+    tie.close (tie.spec Inv-loop μ-loop loop-holds (λ c. search needs) (λ c. search needs) (λ c. search needs) (λ c. search needs)
+    (λ c. search needs) (λ c. search needs) (λ c. search needs) part-put-number-end (λ c κs. search needs) (λ c. search needs)
+    (λ c. search needs) array-copy-out-put-number-2 (λ c. search needs) (λ c. search needs) part-put-number-end-2 (λ c κs. search needs)
+    (λ c. search needs) loop-less loop-again same-length returns)

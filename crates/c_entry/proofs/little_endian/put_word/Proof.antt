@@ -1,10 +1,8 @@
 -- `put_word` puts the least significant byte of what is left of the word, eight times.
 use Prim.Native.Nat.{ℕ, zero, suc, _-_, _/_, _%_, _≤_, _<_}
-use mathlib.Core.Path.{_≡_, refl, sym, _∙_}
-use mathlib.Core.List.{List, _∷_, _++_, append-assoc, append-nil}
+use mathlib.Core.{Path.{_≡_, refl, sym, _∙_}, List.{List, _∷_, _++_, append-assoc, append-nil}}
 use native.Mathlib.Omega.{arith}
-use lib.ListN.{length, take, set, length-set}
-use lib.Seq.{take-suc-set, take-all}
+use lib.{ListN.{length, take, set, length-set}, Seq.{take-suc-set, take-all}}
 use borrow.Author.Needs.{needs}
 use Rattle.c_entry.specs.Bytes.{numberBytes, littleEndian}
 use Rattle.c_entry.proofs.little_endian.put_word.Statement.{statement}
@@ -69,16 +67,5 @@ returns c = whole (c .before .loop .inv) (c .loop-test .left)
 
 pub put-word-spec : {M : Type 1} → statement M
 put-word-spec =
-    tie.close
-    (tie.spec
-    Inv-loop
-    μ-loop
-    loop-holds
-    sub-i
-    (λ c. search needs)
-    slice-write-part
-    (λ c. search needs)
-    loop-less
-    loop-again
-    same-length
-    returns)
+    tie.close (tie.spec Inv-loop μ-loop loop-holds sub-i (λ c. search needs) slice-write-part (λ c. search needs) loop-less loop-again
+    same-length returns)

@@ -1,15 +1,10 @@
 -- `twos_complement`: a number below 0 is turned round and counted down from 2^64 − 1.
 use Prim.Native.Nat.{ℕ, suc, _-_}
-use mathlib.Core.Path.{_≡_, sym, ap, _∙_}
-use mathlib.Core.Bool.{true, false}
+use mathlib.Core.{Path.{_≡_, sym, ap, _∙_}, Bool.{true, false}}
 use native.Mathlib.Omega.{arith}
-use lib.IntN.{pos}
-use lib.Signed.{mag, ltZ}
-use mir.Syntax.{w64}
-use mir.Val.{Fits, toZ, ofZ}
-use mir.Facts.{toZ-ofZ}
-use Rattle.interval.specs.Whole.{flipZ}
-use Rattle.interval.proofs.Bits.{read, flipped, below-zero, not-below-zero}
+use lib.{IntN.{pos}, Signed.{mag, ltZ}}
+use mir.{Syntax.{w64}, Val.{Fits, toZ, ofZ}, Facts.{toZ-ofZ}}
+use Rattle.interval.{specs.Whole.{flipZ}, proofs.Bits.{read, flipped, below-zero, not-below-zero}}
 use Rattle.c_entry.specs.Bytes.{twosComplement}
 use Rattle.c_entry.proofs.little_endian.twos_complement.Statement.{statement}
 use Rattle.c_entry.proofs.little_endian.twos_complement.Tie as tie

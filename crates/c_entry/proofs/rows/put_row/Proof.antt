@@ -2,8 +2,7 @@
 use mathlib.Core.Path.{ap, _∙_}
 use borrow.Author.Needs.{needs}
 use Rattle.row.specs.Row.{numbers}
-use Rattle.c_entry.proofs.RowBytes.{row-put}
-use Rattle.c_entry.proofs.rows.put_row.Statement.{statement}
+use Rattle.c_entry.proofs.{RowBytes.{row-put}, rows.put_row.Statement.{statement}}
 use Rattle.c_entry.proofs.rows.put_row.Tie as tie
 
 returns : tie.Need-returns
@@ -17,15 +16,5 @@ returns c =
 
 pub put-row-spec : {M : Type 1} → statement M
 put-row-spec =
-    tie.close
-    (tie.spec
-    (λ c κs. search needs)
-    (λ c κs. search needs)
-    (λ c. search needs)
-    (λ c. search needs)
-    (λ c. search needs)
-    (λ c. search needs)
-    (λ c. search needs)
-    (λ c κs. search needs)
-    (λ c. search needs)
-    returns)
+    tie.close (tie.spec (λ c κs. search needs) (λ c κs. search needs) (λ c. search needs) (λ c. search needs) (λ c. search needs)
+    (λ c. search needs) (λ c. search needs) (λ c κs. search needs) (λ c. search needs) returns)

@@ -6,13 +6,10 @@ use lib.ListN.{getD}
 use mathlib.Core.List.{[]}
 use Rattle.tables.specs.Parts as parts
 use Rattle.tables.proofs.Filling.{filled-start, filled-step, filled-end}
-use Rattle.case.specs.Case.{caseOf}
-use Rattle.case.specs.Bounds.{Bounds}
-use Rattle.sheet.specs.Rows.{storedCases}
-use Rattle.sheet.proofs.StoredCases.{cases-count, stored-case}
+use Rattle.case.specs.{Case.{caseOf}, Bounds.{Bounds}}
+use Rattle.sheet.{specs.Rows.{storedCases}, proofs.StoredCases.{cases-count, stored-case}}
 use Rattle.c_entry.specs.Buffer.{rowBytes, RowBytes}
-use Rattle.c_entry.proofs.RowBytes.{row-right}
-use Rattle.c_entry.proofs.rows.write_rows.Statement.{statement}
+use Rattle.c_entry.proofs.{RowBytes.{row-right}, rows.write_rows.Statement.{statement}}
 use Rattle.c_entry.proofs.rows.write_rows.Tie as tie
 
 abbrev Inv-loop : tie.InvT-loop
@@ -61,15 +58,5 @@ returns c =
 
 pub write-rows-spec : {M : Type 1} → statement M
 write-rows-spec =
-    tie.close
-    (tie.spec
-    Inv-loop
-    μ-loop
-    loop-holds
-    line-case-requires
-    put-row-requires
-    (λ c. search needs)
-    (λ c. search needs)
-    loop-again
-    same-length
-    returns)
+    tie.close (tie.spec Inv-loop μ-loop loop-holds line-case-requires put-row-requires (λ c. search needs) (λ c. search needs) loop-again
+    same-length returns)

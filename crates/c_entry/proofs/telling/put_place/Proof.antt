@@ -1,12 +1,10 @@
 -- `put_place` writes the first two numbers.
 use Prim.Native.Nat.{ℕ, _≤_, _<_}
-use mathlib.Core.Path.{_≡_}
-use mathlib.Core.List.{List, [], _∷_}
+use mathlib.Core.{Path.{_≡_}, List.{List, [], _∷_}}
 use native.Mathlib.Omega.{arith}
 use borrow.Author.Needs.{needs}
 use lib.ListN.{length, set}
-use Rattle.sheet.specs.declared.Answer.{Answer}
-use Rattle.sheet.specs.declared.Answer.the-variants.{Rows, Refused}
+use Rattle.sheet.specs.declared.Answer.{Answer, the-variants.{Rows, Refused}}
 use Rattle.c_entry.specs.Place.{placeAfter}
 use Rattle.c_entry.proofs.telling.put_place.Statement.{statement}
 use Rattle.c_entry.proofs.telling.put_place.Tie as tie
@@ -28,9 +26,6 @@ rows-kept : {a : Answer} {n : ℕ} (p : List ℕ) → a ≡ Rows n → p ≡ pla
 unfolding placeAfter
 rows-kept p e = rw e
 
-enum-told : tie.Need-enum-told
-enum-told c = search needs
-
 returns : tie.Need-returns
 returns c = rows-kept (c .before .before .args .place .now) (c .enum-told .given .1)
 
@@ -42,13 +37,5 @@ returns-3 c = kept (c .before .before .before .before .args .place .now) (c .bef
 
 pub put-place-spec : {M : Type 1} → statement M
 put-place-spec =
-    tie.close
-    (tie.spec
-    enum-told
-    (λ c. search needs)
-    (λ c. search needs)
-    (λ c. search needs)
-    returns
-    (λ c. search needs)
-    returns-2
-    returns-3)
+    tie.close (tie.spec (λ c. search needs) (λ c. search needs) (λ c. search needs) (λ c. search needs) returns (λ c. search needs)
+    returns-2 returns-3)

@@ -1,26 +1,19 @@
 -- `signed_answer`: a count is small, and a refusal's number is taken from 0.
 use Prim.Native.Nat.{ℕ, _+_, _<_, _^_}
 use mathlib.Core.Path.{_≡_, sym, ap, _∙_}
-use native.Mathlib.Nat.{lt-of-le-of-lt}
-use native.Mathlib.Omega.{arith}
+use native.Mathlib.{Nat.{lt-of-le-of-lt}, Omega.{arith}}
 use borrow.Author.Needs.{needs}
 use lib.IntN.{ℤ, pos, natAbs, _-ℤ_, +ℤ-idl}
-use mir.Syntax.{w64}
-use mir.Val.{SFits}
-use mir.Facts.{toZ-pos, toZ-ofZ}
-use Rattle.interval.proofs.Bits.{small-fits}
-use Rattle.interval.proofs.Signed.{size-difference}
-use Rattle.sheet.specs.declared.Answer.{Answer}
-use Rattle.sheet.specs.declared.Answer.the-variants.{Rows}
-use Rattle.c_entry.specs.Answer.{signedAnswer}
-use Rattle.c_entry.specs.Room.{Few}
+use mir.{Syntax.{w64}, Val.{SFits}, Facts.{toZ-pos, toZ-ofZ}}
+use Rattle.interval.proofs.{Bits.{small-fits}, Signed.{size-difference}}
+use Rattle.sheet.specs.declared.Answer.{Answer, the-variants.{Rows}}
+use Rattle.c_entry.specs.{Answer.{signedAnswer}, Room.{Few}}
 use Rattle.c_entry.proofs.telling.signed_answer.Statement.{statement}
 use Rattle.c_entry.proofs.telling.signed_answer.Tie as tie
 
 small : {a : Answer} {n : ℕ} → Few a → a ≡ Rows n → n < 2 ^ 63
 unfolding Few
-small {a} {n} f e =
-    rw e at f
+small {a} {n} f e = rw e at f
 
 difference-fits : (a b : ℤ) → natAbs a + natAbs b < 2 ^ 63 → SFits w64 (a -ℤ b)
 difference-fits a b h = small-fits (lt-of-le-of-lt (size-difference a b) h)
@@ -46,12 +39,4 @@ returns-2 c =
 
 pub signed-answer-spec : {M : Type 1} → statement M
 signed-answer-spec =
-    tie.close
-    (tie.spec
-    (λ c. search needs)
-    cast-result
-    (λ c. search needs)
-    (λ c. search needs)
-    sub-result
-    returns
-    returns-2)
+    tie.close (tie.spec (λ c. search needs) cast-result (λ c. search needs) (λ c. search needs) sub-result returns returns-2)

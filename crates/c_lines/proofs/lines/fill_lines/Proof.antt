@@ -1,8 +1,7 @@
 -- `fill_lines` reads, then writes where the array has room.
 use native.Mathlib.Omega.{arith}
 use borrow.Author.Needs.{needs}
-use Rattle.case.specs.Columns.{name-count}
-use Rattle.case.specs.Parts.{formOf}
+use Rattle.case.specs.{Columns.{name-count}, Parts.{formOf}}
 use Rattle.sheet.proofs.ReadLines.{StoredLines, judged-is, stored-lines}
 use Rattle.c_lines.proofs.Arrays.{numbers-few, answered-refused, answered-short, answered-lines}
 use Rattle.c_lines.proofs.lines.fill_lines.Statement.{statement}
@@ -48,18 +47,5 @@ returns-3 c =
 
 pub fill-lines-spec : {M : Type 1} → statement M
 fill-lines-spec =
-    tie.close
-    (tie.spec
-    read-requires
-    (λ c. search needs)
-    (λ c. search needs)
-    (λ c κs. search needs)
-    mul-if1
-    (λ c. search needs)
-    returns
-    write-lines-requires
-    (λ c. search needs)
-    returns-2
-    (λ c. search needs)
-    (λ c. search needs)
-    returns-3)
+    tie.close (tie.spec read-requires (λ c. search needs) (λ c. search needs) (λ c κs. search needs) mul-if1 (λ c. search needs) returns
+    write-lines-requires (λ c. search needs) returns-2 (λ c. search needs) (λ c. search needs) returns-3)

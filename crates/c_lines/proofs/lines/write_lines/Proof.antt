@@ -5,14 +5,10 @@ use native.Mathlib.Omega.{arith}
 use borrow.Author.Needs.{needs}
 use borrow.Rule.Slice.PartMut.{mid-len}
 use lib.ListN.{length, take, drop}
-use Rattle.tables.specs.Parts.{partAt}
-use Rattle.tables.proofs.Filling.{filled-start, filled-end}
-use Rattle.case.specs.Columns.{nameCount}
-use Rattle.case.specs.Case.{caseOf}
-use Rattle.sheet.specs.Rows.{storedCases}
-use Rattle.sheet.proofs.StoredCases.{cases-count, stored-case}
-use Rattle.c_lines.proofs.Arrays.{FilledTo, part-within, line-filled}
-use Rattle.c_lines.proofs.lines.write_lines.Statement.{statement}
+use Rattle.tables.{specs.Parts.{partAt}, proofs.Filling.{filled-start, filled-end}}
+use Rattle.case.specs.{Columns.{nameCount}, Case.{caseOf}}
+use Rattle.sheet.{specs.Rows.{storedCases}, proofs.StoredCases.{cases-count, stored-case}}
+use Rattle.c_lines.proofs.{Arrays.{FilledTo, part-within, line-filled}, lines.write_lines.Statement.{statement}}
 use Rattle.c_lines.proofs.lines.write_lines.Tie as tie
 
 abbrev Inv-loop : tie.InvT-loop
@@ -104,28 +100,6 @@ returns c =
 
 pub write-lines-spec : {M : Type 1} → statement M
 write-lines-spec =
-    tie.close
-    (tie.spec
-    Inv-loop
-    μ-loop
-    (λ c κs. search needs)
-    loop-holds
-    mul-a
-    add-b
-    mul-case-of
-    (λ c. search needs)
-    (λ c. search needs)
-    part-case-of-end
-    case-of-requires
-    mul-from
-    add-to
-    mul-put-line
-    (λ c. search needs)
-    (λ c. search needs)
-    part-put-line-end
-    put-line-requires
-    (λ c. search needs)
-    (λ c. search needs)
-    loop-again
-    same-length
-    returns)
+    tie.close (tie.spec Inv-loop μ-loop (λ c κs. search needs) loop-holds mul-a add-b mul-case-of (λ c. search needs) (λ c. search needs)
+    part-case-of-end case-of-requires mul-from add-to mul-put-line (λ c. search needs) (λ c. search needs) part-put-line-end
+    put-line-requires (λ c. search needs) (λ c. search needs) loop-again same-length returns)

@@ -2,11 +2,9 @@
 use mathlib.Core.Path.{sym, _∙_}
 use native.Mathlib.Omega.{arith}
 use borrow.Author.Needs.{needs}
-use Rattle.case.specs.Columns.{name-count}
-use Rattle.case.specs.Parts.{formOf}
+use Rattle.case.specs.{Columns.{name-count}, Parts.{formOf}}
 use Rattle.sheet.proofs.ReadLines.{StoredLines, judged-is, stored-lines}
-use Rattle.c_questions.proofs.FewestLine.{sheet-refused, sheet-read}
-use Rattle.c_questions.proofs.search.search_by.Statement.{statement}
+use Rattle.c_questions.proofs.{FewestLine.{sheet-refused, sheet-read}, search.search_by.Statement.{statement}}
 use Rattle.c_questions.proofs.search.search_by.Tie as tie
 
 read-requires : tie.Need-read-requires
@@ -27,8 +25,7 @@ search-line-requires : tie.Need-search-line-requires
 search-line-requires c κs = stored (c .before .before) .room
 
 returns : tie.Need-returns
-returns c =
-    sheet-refused _ _ (sym (judged-is (c .before .before .before .before .before .read .ensures)) ∙ c .before .number .given .1)
+returns c = sheet-refused _ _ (sym (judged-is (c .before .before .before .before .before .read .ensures)) ∙ c .before .number .given .1)
 
 returns-2 : tie.Need-returns-2
 returns-2 c =
@@ -38,13 +35,5 @@ returns-2 c =
 
 pub search-by-spec : {M : Type 1} → statement M
 search-by-spec =
-    tie.close
-    (tie.spec
-    read-requires
-    (λ c. search needs)
-    (λ c. search needs)
-    search-line-requires
-    (λ c. search needs)
-    returns
-    (λ c. search needs)
-    returns-2)
+    tie.close (tie.spec read-requires (λ c. search needs) (λ c. search needs) search-line-requires (λ c. search needs) returns
+    (λ c. search needs) returns-2)

@@ -3,11 +3,9 @@ use Prim.Native.Nat.{_≤_}
 use mathlib.Core.Path.{sym}
 use native.Mathlib.Omega.{arith}
 use borrow.Author.Needs.{needs}
-use lib.ListN.{length}
-use lib.Seq.{length-take-le}
+use lib.{ListN.{length}, Seq.{length-take-le}}
 use Rattle.case.specs.Columns.{nameCount}
-use Rattle.c_questions.proofs.FewestLine.{not-one, one-line}
-use Rattle.c_questions.proofs.search.search_line.Statement.{statement}
+use Rattle.c_questions.proofs.{FewestLine.{not-one, one-line}, search.search_line.Statement.{statement}}
 use Rattle.c_questions.proofs.search.search_line.Tie as tie
 
 returns : tie.Need-returns
@@ -26,5 +24,4 @@ returns-2 : tie.Need-returns-2
 returns-2 c = one-line _ _ _ _ (c .before .before .before .if1 .left) (rw (c .before .case-of .ensures) at (c .fewest-lines .ensures))
 
 pub search-line-spec : {M : Type 1} → statement M
-search-line-spec =
-    tie.close (tie.spec returns slice-aggregate-case-of case-of-requires (λ c κs. search needs) returns-2)
+search-line-spec = tie.close (tie.spec returns slice-aggregate-case-of case-of-requires (λ c κs. search needs) returns-2)

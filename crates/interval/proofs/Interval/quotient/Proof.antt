@@ -2,14 +2,11 @@
 use Prim.Native.Nat.{_≤_, _<_, _^_}
 use native.Mathlib.Nat.{lt-of-le-of-lt}
 use borrow.Author.Needs.{needs}
-use lib.IntN.{pos, natAbs}
-use lib.Signed.{_≤ℤ_}
+use lib.{IntN.{pos, natAbs}, Signed.{_≤ℤ_}}
 use mir.Facts.{toZ-ofZ, fits-natAbs}
 use Rattle.interval.specs.Operations.{size, outwardOf, hullOf, quotientOf}
-use Rattle.interval.proofs.Choice.{≤ℤ-trans}
-use Rattle.interval.proofs.Sizes.{size-scaled, size-positive, size-rises, positive-natural, upper-below}
-use Rattle.interval.proofs.Bits.{Held, back}
-use Rattle.interval.proofs.Interval.quotient.Statement.{statement}
+use Rattle.interval.proofs.{Choice.{≤ℤ-trans}, Sizes.{size-scaled, size-positive, size-rises, positive-natural, upper-below}}
+use Rattle.interval.proofs.{Bits.{Held, back}, Interval.quotient.Statement.{statement}}
 use Rattle.interval.proofs.Interval.quotient.Tie as tie
 
 module _ (s : tie.Start) where
@@ -72,5 +69,4 @@ returns c =
     )
 
 pub quotient-spec : {M : Type 1} → statement M
-quotient-spec =
-    tie.close (tie.spec (λ c κs. search needs) cast-d cast-e least-floor-requires most-ceil-requires returns)
+quotient-spec = tie.close (tie.spec (λ c κs. search needs) cast-d cast-e least-floor-requires most-ceil-requires returns)

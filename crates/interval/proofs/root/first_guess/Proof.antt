@@ -2,8 +2,7 @@
 use native.Mathlib.Omega.{arith}
 use borrow.Author.Needs.{needs}
 use lib.Count.{leading-le, leading-length}
-use Rattle.interval.proofs.FirstGuess.{step-fits, step-not-below}
-use Rattle.interval.proofs.root.first_guess.Statement.{statement}
+use Rattle.interval.proofs.{FirstGuess.{step-fits, step-not-below}, root.first_guess.Statement.{statement}}
 use Rattle.interval.proofs.root.first_guess.Tie as tie
 
 sub-k : tie.Need-sub-k
@@ -26,5 +25,4 @@ returns c =
     step-not-below _ (omega arith) (c .args .x) (n .0) (n .2) (omega (arith, n .1))
 
 pub first-guess-spec : {M : Type 1} → statement M
-first-guess-spec =
-    tie.close (tie.spec sub-k (λ c. search needs) shl-result (λ c. search needs) shr-result add-result returns)
+first-guess-spec = tie.close (tie.spec sub-k (λ c. search needs) shl-result (λ c. search needs) shr-result add-result returns)

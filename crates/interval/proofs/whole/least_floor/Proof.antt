@@ -2,8 +2,7 @@
 use mathlib.Core.Path.{sym, _∙_}
 use borrow.Author.Needs.{needs}
 use mir.Facts.{toZ-ofZ}
-use Rattle.interval.proofs.Bits.{back, below-zero, not-below-zero}
-use Rattle.interval.proofs.Divisors.{least-from-zero, least-below-zero}
+use Rattle.interval.proofs.{Bits.{back, below-zero, not-below-zero}, Divisors.{least-from-zero, least-below-zero}}
 use Rattle.interval.proofs.whole.least_floor.Statement.{statement}
 use Rattle.interval.proofs.whole.least_floor.Tie as tie
 

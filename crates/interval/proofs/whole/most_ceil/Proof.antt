@@ -5,11 +5,8 @@ use native.Mathlib.Omega.{arith}
 use borrow.Author.Needs.{needs, sfits-of}
 use lib.IntN.{natAbs, negℤ}
 use Rattle.interval.specs.Whole.{floorZ, ceilZ, minZ}
-use Rattle.interval.proofs.Signed.{size-neg, size-floor}
-use Rattle.interval.proofs.Bits.{negated-fits, negated-is}
-use Rattle.interval.proofs.Choice.{min-cases}
-use Rattle.interval.proofs.Divisors.{most-of-least}
-use Rattle.interval.proofs.whole.most_ceil.Statement.{statement}
+use Rattle.interval.proofs.{Signed.{size-neg, size-floor}, Bits.{negated-fits, negated-is}, Choice.{min-cases}}
+use Rattle.interval.proofs.{Divisors.{most-of-least}, whole.most_ceil.Statement.{statement}}
 use Rattle.interval.proofs.whole.most_ceil.Tie as tie
 
 sub-least-floor : tie.Need-sub-least-floor

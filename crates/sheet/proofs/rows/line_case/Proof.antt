@@ -5,8 +5,7 @@ use native.Mathlib.Omega.{arith}
 use lib.ListN.{take, drop}
 use borrow.Rule.Slice.PartMut.{mid-len}
 use borrow.Author.Needs.{needs}
-use Rattle.case.specs.Case.{caseOf}
-use Rattle.case.specs.Columns.{nameCount}
+use Rattle.case.specs.{Case.{caseOf}, Columns.{nameCount}}
 use Rattle.sheet.proofs.rows.line_case.Statement.{statement}
 use Rattle.sheet.proofs.rows.line_case.Tie as tie
 
@@ -24,13 +23,5 @@ returns c =
 
 pub line-case-spec : {M : Type 1} → statement M
 line-case-spec =
-    tie.close
-    (tie.spec
-    (λ c. search needs)
-    (λ c. search needs)
-    (λ c. search needs)
-    (λ c. search needs)
-    (λ c. search needs)
-    part-case-of-end
-    case-of-requires
-    returns)
+    tie.close (tie.spec (λ c. search needs) (λ c. search needs) (λ c. search needs) (λ c. search needs) (λ c. search needs) part-case-of-end
+    case-of-requires returns)

@@ -7,8 +7,7 @@ use Rattle.tables.proofs.Filling.{filled-start, filled-step, filled-end}
 use Rattle.case.specs.Bounds.{Bounds}
 use Rattle.row.proofs.Right.{right-row}
 use Rattle.sheet.specs.Rows.{FilledTo, storedCases}
-use Rattle.sheet.proofs.StoredCases.{cases-count, stored-case}
-use Rattle.sheet.proofs.rows.write_rows.Statement.{statement}
+use Rattle.sheet.proofs.{StoredCases.{cases-count, stored-case}, rows.write_rows.Statement.{statement}}
 use Rattle.sheet.proofs.rows.write_rows.Tie as tie
 
 abbrev Inv-loop : tie.InvT-loop
@@ -55,15 +54,5 @@ returns c =
 
 pub write-rows-spec : {M : Type 1} → statement M
 write-rows-spec =
-    tie.close
-    (tie.spec
-    Inv-loop
-    μ-loop
-    loop-holds
-    line-case-requires
-    write-row-requires
-    (λ c. search needs)
-    (λ c. search needs)
-    loop-again
-    same-length
-    returns)
+    tie.close (tie.spec Inv-loop μ-loop loop-holds line-case-requires write-row-requires (λ c. search needs) (λ c. search needs) loop-again
+    same-length returns)

@@ -3,8 +3,7 @@ use Prim.Native.Nat.{_+_, _*_, _-_, _≤_}
 use native.Mathlib.Omega.{arith}
 use lib.ListN.{length}
 use borrow.Author.Needs.{needs}
-use Rattle.case.specs.Columns.{nameCount}
-use Rattle.case.specs.Bounds.{Bounds}
+use Rattle.case.specs.{Columns.{nameCount}, Bounds.{Bounds}}
 use Rattle.tally.proofs.StationLines.{Counting, counting-start, counting-small, counting-own, counting-other, counting-end}
 use Rattle.tally.proofs.station.count_lines.Statement.{statement}
 use Rattle.tally.proofs.station.count_lines.Tie as tie
@@ -60,19 +59,5 @@ returns c = counting-end (c .before .loop .inv) (omega arith)
 
 pub count-lines-spec : {M : Type 1} → statement M
 count-lines-spec =
-    tie.close
-    (tie.spec
-    Inv-loop
-    μ-loop
-    loop-holds
-    (λ c. search needs)
-    mul-if1
-    mul-if1-2
-    shared-slice-read-if1
-    line-case-requires
-    add-requires
-    (λ c. search needs)
-    loop-again
-    (λ c. search needs)
-    loop-again-2
-    returns)
+    tie.close (tie.spec Inv-loop μ-loop loop-holds (λ c. search needs) mul-if1 mul-if1-2 shared-slice-read-if1 line-case-requires
+    add-requires (λ c. search needs) loop-again (λ c. search needs) loop-again-2 returns)

@@ -49,20 +49,5 @@ returns c = first-end (c .before .loop .inv) (c .loop-test .left)
 
 pub first-line-spec : {M : Type 1} → statement M
 first-line-spec =
-    tie.close
-    (tie.spec
-    Inv-loop
-    μ-loop
-    (λ c. search needs)
-    (λ c κs. search needs)
-    loop-holds
-    (λ c. search needs)
-    mul-if1
-    mul-if1-2
-    shared-slice-read-if1
-    line-case-requires
-    (λ c. search needs)
-    loop-again
-    (λ c. search needs)
-    loop-again-2
-    returns)
+    tie.close (tie.spec Inv-loop μ-loop (λ c. search needs) (λ c κs. search needs) loop-holds (λ c. search needs) mul-if1 mul-if1-2
+    shared-slice-read-if1 line-case-requires (λ c. search needs) loop-again (λ c. search needs) loop-again-2 returns)
