@@ -55,7 +55,7 @@
 extern "C" {
 #endif
 
-#define HOCSIMBUR_VERSION 10000      /* 10000, 100 and 1 times the three numbers of the version: 1.0.0 */
+#define HOCSIMBUR_VERSION 10100      /* 10000, 100 and 1 times the three numbers of the version: 1.1.0 */
 #define HOCSIMBUR_LINES 256          /* most value lines of a sheet */
 #define HOCSIMBUR_SHEET_BYTES 65536  /* most bytes of a sheet */
 #define HOCSIMBUR_NUMBERS 20         /* numbers of a row */

@@ -25,7 +25,7 @@ import working
 from calculator import Refusal
 
 LIBRARY = "target/host/libhocsimbur.so"
-VERSION = 10000
+VERSION = 10100
 FILL = -7777  # what stands in an array beforehand
 SPARE = 5  # numbers of an array past those that are needed
 DEPTHS = (8, 12)

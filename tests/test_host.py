@@ -203,7 +203,7 @@ class Header(unittest.TestCase):
                   "HEADROOM_NUMBERS": entries.WIDTHS["headroom"]}
         self.assertEqual({name: int(number) for name, number in said.items()}, wanted)
         self.assertEqual(re.search(r"VERSION: u32 = (\d+)", self.source)[1], said["VERSION"])
-        self.assertIn('"hocsimbur 1.0.0"', (ROOT / "host/hocsimbur.3").read_text("ascii"))
+        self.assertIn('"hocsimbur 1.1.0"', (ROOT / "host/hocsimbur.3").read_text("ascii"))
 
     def test_stack(self):
         said = re.findall(r"less than (\d+) kB", self.text)

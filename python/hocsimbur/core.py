@@ -224,7 +224,7 @@ def _pairs(numbers: Sequence[int]) -> List[Pair]:
 
 
 def version() -> str:
-    """The version of the library, as 1.0.0."""
+    """The version of the library, as 1.1.0."""
     number = _asked.entry("hocsimbur_version")()
     return f"{number // 10000}.{number // 100 % 100}.{number % 100}"
 

@@ -16,8 +16,8 @@ use c_reply::put_soil;
 use c_reply::put_split;
 use search::search_sheet;
 
-// Ten thousand times the first number of the version, a hundred times the second, and the third: 1.0.0.
-const VERSION: u32 = 10000;
+// Ten thousand times the first number of the version, a hundred times the second, and the third: 1.1.0.
+const VERSION: u32 = 10100;
 
 // The count of stations. The rows and the summary of the stations are in their tables, as `summary` puts them.
 #[no_mangle]
@@ -86,7 +86,7 @@ pub extern "C" fn hocsimbur_split(parts: &[i64], numbers: &mut [i64], place: &mu
 // The version of the library.
 #[no_mangle]
 pub extern "C" fn hocsimbur_version() -> u32
-    ensures { λ r. ⌜ r ≡ 10000 ⌝ }
+    ensures { λ r. ⌜ r ≡ 10100 ⌝ }
 {
     VERSION
 }
