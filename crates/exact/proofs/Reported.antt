@@ -6,7 +6,7 @@ use native.Mathlib.{Omega.{arith}, Nat.{mul-le-mul-right, mul-lt-mul-of-pos-righ
 use lib.{IntN.{ℤ, pos, negℤ, _+ℤ_, _-ℤ_, _*ℤ_}, Signed.{_≤ℤ_, _<ℤ_}}
 use Rattle.interval.specs.{Signed.{plus, minus}, Whole.{floorZ}, declared.Interval.{Interval}}
 use Rattle.interval.proofs.Signed.{neg-plus, neg-minus, sum-is, difference-is, mul-plus, mul-minus, scale-plus, scale-minus, le-halves}
-use Rattle.interval.proofs.Signed.{lt-halves, floor-below, floor-above}
+use Rattle.interval.proofs.Signed.{lt-halves, floor-below}
 use Rattle.exact.specs.Fraction.{_≤f_, _<f_, _≈f_, whole, decimal, _+f_, neg, _−f_, _·f_, inv, _÷f_}
 use Rattle.exact.specs.{Reported.{Scale, ten, over, reported}, Depth.{Positive}}
 use Rattle.exact.proofs.{Order.{trans≤, refl≈}, Products.{cong·}}
@@ -47,7 +47,7 @@ pub over-mul : (a b : ℤ) (u v : Scale) → over (a *ℤ b) (scaleProduct u v) 
 unfolding over _·f_
 over-mul a b u v = omega (arith, ap (λ t. t * (u .count * v .count)) (mul-plus a b), ap (λ t. t * (u .count * v .count)) (mul-minus a b))
 
--- rounded down, and the next number: w is m times as fine as u
+-- rounded down: w is m times as fine as u
 module _ (z : ℤ) (u w : Scale) {m : ℕ} (hm : 0 < m) (fine : w .count ≡ u .count * m) where
   scaled : (n : ℕ) → n * w .count ≡ n * m * u .count
   scaled n = ap (λ t. n * t) fine ∙ omega arith
@@ -55,18 +55,6 @@ module _ (z : ℤ) (u w : Scale) {m : ℕ} (hm : 0 < m) (fine : w .count ≡ u .
   pub over-down : over (floorZ z m) u ≤f over z w
   unfolding over
   over-down = omega (arith, mul-le-mul-right (u .count) (floor-below z hm), scaled (plus (floorZ z m)), scaled (minus (floorZ z m)))
-
-  pub over-up : over z w ≤f over (floorZ z m +ℤ pos 1) u
-  unfolding over
-  over-up =
-      let q = floorZ z m +ℤ pos 1 in
-      omega (
-        arith,
-        mul-le-mul-right (u .count) (floor-above z hm),
-        ap (λ t. t * (m * u .count)) (sum-is (floorZ z m) (pos 1)),
-        scaled (plus q),
-        scaled (minus q),
-      )
 
 -- ---- comparisons by whole numbers alone (≤ℤ binds tighter than *ℤ: mind the parentheses)
 
