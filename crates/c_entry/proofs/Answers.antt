@@ -10,7 +10,8 @@ use Rattle.judgement.specs.{declared.Judgement.{Judgement}, Sheet.{judgement}}
 use Rattle.judgement.specs.declared.Judgement.the-variants as judged
 use Rattle.sheet.specs.{declared.Answer.{Answer, the-variants.{Rows, Refused}}, Answer.{tableRefused, answerBy, answer, cases}}
 use Rattle.sheet.proofs.Accepted.{accepted}
-use Rattle.c_entry.specs.{Bytes.{numberBytes}, Room.{Few}, Answer.{signedAnswer}}
+use Rattle.c_bytes.specs.Bytes.{numberBytes}
+use Rattle.c_tell.specs.{Room.{Few}, Answer.{signedAnswer}}
 use Rattle.c_entry.specs.Buffer.{rowBytes, Filled, BufferAfter, answerFor, InBytes, Answered}
 
 module _ {j : Judgement} (s t : List ℕ) (judged-is : j ≡ judgement columns s) where

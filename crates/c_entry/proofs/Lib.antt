@@ -1,4 +1,3 @@
-pub mod Reading
 pub mod Putting
 pub mod RowBytes
 pub mod Answers

@@ -10,7 +10,9 @@ use Rattle.judgement.{specs.{declared.Judgement.{Judgement}, Sheet.{judgement}}
 use Rattle.judgement.specs.declared.Judgement.the-variants as judged
 use Rattle.sheet.specs.{declared.Answer.{Answer, the-variants.{Rows, Refused}}, Answer.{tableRefused, answerBy, answer}}
 use Rattle.sheet.proofs.Accepted.{accepted}
-use Rattle.c_entry.specs.{Bytes.{numberBytes}, Answer.{signedAnswer, InRange}, Buffer.{answerFor, Answered}}
+use Rattle.c_bytes.specs.Bytes.{numberBytes}
+use Rattle.c_entry.specs.{Range.{InRange}, Buffer.{answerFor, Answered}}
+use Rattle.c_tell.specs.Answer.{signedAnswer}
 
 -- ---- a refusal has a number from 1 to 8: a judgement's is 1 to 7
 

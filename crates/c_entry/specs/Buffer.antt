@@ -9,7 +9,8 @@ use Rattle.tables.specs.Parts as parts
 use Rattle.case.specs.{declared.Case.{Case}, Case.{caseOf}}
 use Rattle.row.specs.{Row.{numbers, rowLength}, Ends.{rowOf}}
 use Rattle.sheet.specs.{declared.Answer.{Answer, the-variants.{Rows, Refused}}, Answer.{answer, cases}, Table.{RowOf}}
-use Rattle.c_entry.specs.{Bytes.{numberBytes, bytesOfAll, numbersOf}, Answer.{signedAnswer}}
+use Rattle.c_bytes.specs.Bytes.{numberBytes, bytesOfAll, numbersOf}
+use Rattle.c_tell.specs.{Answer.{signedAnswer}, Place.{placeAfter}}
 
 -- "160 bytes a line"
 abbrev pub rowBytes : ℕ
@@ -44,3 +45,9 @@ pub record InBytes (s before after : List ℕ) (r : Answer) : Type 0 where
 pub record Answered (s before after : List ℕ) (r : ℤ) : Type 0 where
   pub answer-is : r ≡ signedAnswer (answerFor s before)
   pub buffer-is : BufferAfter s before after (answerFor s before)
+
+-- line and column of a refusal in a place beside it, answer and buffer as without. Two wrong programs: one that writes column and line
+-- breaks `place-is`, and so does one that writes 0 and 0 with rows.
+pub record AnsweredAt (s before after place told : List ℕ) (r : ℤ) : Type 0 where
+  pub answered : Answered s before after r
+  pub place-is : told ≡ placeAfter (answerFor s before) place

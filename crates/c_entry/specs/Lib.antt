@@ -1,8 +1,3 @@
-pub mod Bytes
-pub mod Answer
-pub mod Room
 pub mod Buffer
+pub mod Range
 pub mod Put
-pub mod Place
-pub mod Told
-pub mod Examples

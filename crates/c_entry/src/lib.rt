@@ -1,8 +1,6 @@
 // The sheet asked by a program in C, and the manner of all that C asks: the answer is a count of 0 or more, or a refusal's number made
 // negative, with line and column in a lent place of two numbers and every other buffer as it was.
-mod little_endian;
 mod rows;
-mod telling;
 
 ghost use Prim.Native.Nat.{_*_};
 ghost use mathlib.Core.Path.{_≡_};
@@ -10,7 +8,9 @@ ghost use lib.ListN.{length};
 ghost use Rattle.case.specs.Columns.{nameCount};
 ghost use Rattle.judgement.specs.Limits.{mostLines};
 ghost use Rattle.c_entry.specs.Buffer.{InBytes, Answered};
-ghost use Rattle.c_entry.specs.Place.{AnsweredAt};
+ghost use Rattle.c_entry.specs.Buffer.{AnsweredAt};
+use c_tell::put_place;
+use c_tell::signed_answer;
 use case::Form;
 use judgement::Judgement;
 use judgement::VALUES;
@@ -19,9 +19,6 @@ use rows::ROW_BYTES;
 use rows::write_rows;
 use sheet::Answer;
 use sheet::TABLE_SHORT;
-use telling::put_place;
-use telling::signed_answer;
-pub use telling::tell;
 
 // The answer to a sheet, and its rows as bytes in the buffer, by way of a store for the values of the most lines.
 fn fill_buffer(s: &[u8], values: &mut [u32], buffer: &mut [u8]) -> Answer

@@ -1,13 +1,14 @@
 // The rows of the buffer: the row of each line goes straight to its place, number by number.
 ghost use Prim.Native.Nat.{_≤_, _+_, _*_};
+ghost use mathlib.Core.Path.{_≡_};
 ghost use lib.ListN.{length};
 ghost use Rattle.case.specs.Columns.{nameCount};
 ghost use Rattle.case.specs.Bounds.{Bounds};
 ghost use Rattle.sheet.specs.Rows.{StoredBounds, storedCases};
 ghost use Rattle.c_entry.specs.Buffer.{rowBytes, Filled};
-ghost use Rattle.c_entry.specs.Put.{RowPut};
-use crate::little_endian::NUMBER_BYTES;
-use crate::little_endian::put_numbers;
+ghost use Rattle.c_entry.specs.Put.{Put, RowPut};
+use c_bytes::NUMBER_BYTES;
+use c_bytes::put_number;
 use case::Case;
 use row::ROW_LENGTH;
 use row::row_numbers;
@@ -16,6 +17,23 @@ use sheet::line_case;
 
 // How many bytes a row has.
 pub const ROW_BYTES: usize = NUMBER_BYTES * ROW_LENGTH;
+
+// The bytes of a row's numbers. Two numbers a step: of a loop over single numbers the compiler makes a copy of memory, which has to wait
+// until all the row's numbers are stored.
+fn put_numbers(numbers: [i64; ROW_LENGTH], part: &mut [u8])
+    requires { ⌜ length (now part) ≡ rowBytes ⌝ }
+    ensures { λ _. ⌜ Put numbers (now (part .exit)) ⌝ }
+{
+    let mut i: usize = 0;
+    while i < ROW_LENGTH {
+        let a = NUMBER_BYTES * i;
+        let b = a + NUMBER_BYTES;
+        let e = b + NUMBER_BYTES;
+        put_number(numbers[i], &mut part[a..b]);
+        put_number(numbers[i + 1], &mut part[b..e]);
+        i += 2;
+    }
+}
 
 // The row of a case, as row i of the buffer.
 fn put_row(c: Case, buffer: &mut [u8], i: usize)

@@ -11,7 +11,7 @@ use Rattle.case.specs.{declared.Case.{Case}, Case.{caseOf}, Columns.{columns}}
 use Rattle.judgement.{specs.{declared.Judgement.{Judgement}, Limits.{mostLines}, Sheet.{judgement}}, proofs.Accepted.{accepted}}
 use Rattle.judgement.specs.declared.Judgement.the-variants as judged
 use Rattle.sheet.specs.{declared.Answer.{Answer, the-variants.{Rows, Refused}}, Answer.{cases}}
-use Rattle.c_entry.specs.Room.{Few}
+use Rattle.c_tell.specs.Room.{Few}
 use Rattle.c_line.{specs.{declared.Question.{Question}, Line.{widthOf, LineOf}}, proofs.LineParts.{line-length, width-most}}
 use Rattle.c_lines.specs.Lines.{linesBy, linesAnswer, Filled, ArrayAfter, LinesAnswered}
 

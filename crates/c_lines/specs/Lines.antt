@@ -7,7 +7,7 @@ use Rattle.case.specs.{declared.Case.{Case}, Case.{caseOf}, Columns.{columns}}
 use Rattle.judgement.specs.{declared.Judgement.{Judgement}, Sheet.{judgement}}
 use Rattle.judgement.specs.declared.Judgement.the-variants as judged
 use Rattle.sheet.specs.{declared.Answer.{Answer, the-variants.{Rows, Refused}}, Answer.{cases}}
-use Rattle.c_entry.specs.Told.{Told}
+use Rattle.c_tell.specs.Told.{Told}
 use Rattle.c_line.specs.{declared.Question.{Question}, Line.{widthOf, LineOf}}
 
 -- the sheet's own refusals, then 8 where the array is shorter than the numbers of its lines, or the count of value lines

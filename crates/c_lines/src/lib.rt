@@ -3,8 +3,8 @@
 // it was.
 mod lines;
 
-use c_entry::tell;
 use c_line::Question;
+use c_tell::tell;
 ghost use Rattle.c_line.specs.declared.Question.the-variants.{Margins, Working, Headroom};
 ghost use Rattle.c_lines.specs.Lines.{LinesTold};
 use lines::answer_lines;

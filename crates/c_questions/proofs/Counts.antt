@@ -21,7 +21,7 @@ use Rattle.release.specs.declared.Released.the-variants as released
 use Rattle.conversion.{specs.{declared.Carried.{Carried}, Values.{other}, Sheet.{casesIn}}, proofs.RoundTrip.{carried-short}}
 use Rattle.conversion.specs.declared.Carried.the-variants as carried
 use Rattle.conversion.specs.Answer as conversion
-use Rattle.c_entry.specs.Room.{Few}
+use Rattle.c_tell.specs.Room.{Few}
 use Rattle.c_counts.specs.Counts.{stationCount, pairCount, byteCount}
 
 -- ---- stations

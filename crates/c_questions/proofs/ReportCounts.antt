@@ -11,7 +11,7 @@ use Rattle.staged.specs.declared.SplitAnswer.{SplitAnswer}
 use Rattle.staged.specs.declared.SplitAnswer.the-variants as split
 use Rattle.yards.specs.declared.FewestLines.{FewestLines}
 use Rattle.yards.specs.declared.FewestLines.the-variants as fewest
-use Rattle.c_entry.specs.Room.{Few}
+use Rattle.c_tell.specs.Room.{Few}
 use Rattle.c_reply.specs.Reply.{soilReply, splitReply, fewestReply, Reply, Numbers, Refused, replyAnswer, Replied}
 
 unfoldable Counted : Reply → Type 0

@@ -7,7 +7,7 @@ use Rattle.judgement.specs.{declared.Judgement.{Judgement}, Sheet.{judgement}}
 use Rattle.judgement.specs.declared.Judgement.the-variants as judged
 use Rattle.sheet.specs.{declared.Answer.{Answer}, Answer.{cases}}
 use Rattle.yards.specs.{declared.FewestLines.{FewestLines, the-variants.{Refused}}, Fewest.{FewestAnswered}}
-use Rattle.c_entry.specs.Told.{Told}
+use Rattle.c_tell.specs.Told.{Told}
 use Rattle.c_reply.specs.Reply.{Replied, fewestReply}
 
 -- one case has the answer of its own question; of more the second is refused with 4, at line 3

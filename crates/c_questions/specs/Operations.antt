@@ -8,7 +8,7 @@ use Rattle.stations.specs.{declared.Summed.{Summed}, Answer.{SummaryAnswered}}
 use Rattle.release.specs.{declared.Released.{Released}, Answer.{ReleaseAnswered}}
 use Rattle.conversion.specs.declared.Carried.{Carried}
 use Rattle.conversion.specs.Answer as conversion
-use Rattle.c_entry.specs.Told.{Told}
+use Rattle.c_tell.specs.Told.{Told}
 use Rattle.c_counts.specs.Counts.{stationCount, pairCount, byteCount}
 
 -- Two wrong programs: one that answers the count of rows breaks `told`; one that writes a row before a refusal breaks `asked`.

@@ -7,7 +7,7 @@ use Rattle.sheet.specs.declared.Answer.{Answer}
 use Rattle.readings.specs.declared.Sounding.{Sounding}
 use Rattle.readings.specs.Answer as readings
 use Rattle.staged.specs.Answer as staged
-use Rattle.c_entry.specs.Told.{Told}
+use Rattle.c_tell.specs.Told.{Told}
 use Rattle.c_reply.specs.Reply.{Replied, soilReply, splitReply}
 
 -- Two wrong programs: one that puts the greatest before the least breaks `numbers`; one that answers 6 breaks `told`.

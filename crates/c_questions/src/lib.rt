@@ -2,7 +2,7 @@
 // refusal's number made negative, with line and column in a lent place of two numbers and every other buffer as it was.
 mod search;
 
-use c_entry::tell;
+use c_tell::tell;
 ghost use mathlib.Core.Path.{_≡_};
 ghost use Rattle.case.specs.declared.Form.the-variants.{Present, Former};
 ghost use Rattle.c_questions.specs.Operations.{SummaryTold, ReleaseTold, CarryTold};

@@ -15,7 +15,7 @@ use Rattle.release.specs.declared.Released.{Released}
 use Rattle.release.specs.declared.Released.the-variants as released
 use Rattle.conversion.specs.{declared.Carried.{Carried}, Values.{other}}
 use Rattle.conversion.specs.declared.Carried.the-variants as carried
-use Rattle.c_entry.specs.{Answer.{signedAnswer}, Place.{placeAfter}, Told.{Told}}
+use Rattle.c_tell.specs.{Answer.{signedAnswer}, Place.{placeAfter}, Told.{Told}}
 use Rattle.c_counts.specs.Counts.{stationCount, pairCount, byteCount}
 use Rattle.c_questions.specs.Operations.{SummaryTold, ReleaseTold, CarryTold}
 use Rattle.claims.specs.Summary as summary

@@ -16,7 +16,7 @@ use Rattle.staged.specs.declared.SplitAnswer.the-variants as split
 use Rattle.staged.specs.Answer as staged
 use Rattle.yards.specs.declared.FewestLines.{FewestLines}
 use Rattle.yards.specs.declared.FewestLines.the-variants as yards
-use Rattle.c_entry.specs.Told.{Told}
+use Rattle.c_tell.specs.Told.{Told}
 use Rattle.c_reply.specs.Reply.{Reply, Numbers, Refused, replyAnswer, numbersAfter, Replied, soilReply, splitReply, fewestReply}
 use Rattle.c_questions.specs.{Reports.{SoilTold, SplitTold}, OneLine.{CasesFewest, FewestBy, SheetFewest, FewestTold}}
 use Rattle.claims.specs.Words.{BreaksNone, caseAt}

@@ -1,10 +1,8 @@
--- Bytes computed on numbers, at the ends of 64 bits and around 0; the answer as one number; and where a refusal points.
+-- Bytes computed on numbers, at the ends of 64 bits and around 0.
 use Prim.Native.Nat.{_-_, _^_}
 use mathlib.Core.{Path.{_≡_, refl}, List.{List, [], _∷_, map}}
 use lib.IntN.{ℤ, pos, negsuc}
-use Rattle.sheet.specs.declared.Answer.the-variants.{Rows, Refused}
-use Rattle.c_entry.specs.Bytes.{littleEndian, twosComplement, bytesOf, bytesOfAll, natOf, signedOf, numberOf, numbersOf}
-use Rattle.c_entry.specs.{Answer.{signedAnswer}, Place.{placeAfter}}
+use Rattle.c_bytes.specs.Bytes.{littleEndian, twosComplement, bytesOf, bytesOfAll, natOf, signedOf, numberOf, numbersOf}
 
 -- 0, 1, 255, 256, 1908000000, -1, -256, -257, and the greatest and the least
 numbers : List ℤ
@@ -30,17 +28,3 @@ as-bytes = refl
 read-again : numbersOf 10 (bytesOfAll numbers) ≡ numbers
 unfolding numbers littleEndian twosComplement bytesOf bytesOfAll natOf signedOf numberOf numbersOf
 read-again = refl
-
-answers : map signedAnswer (Rows 1 ∷ Rows 256 ∷ Refused 1 0 0 ∷ Refused 5 3 16 ∷ Refused 8 0 0 ∷ []) ≡ pos 1 ∷ pos 256 ∷ negsuc 0 ∷ negsuc 4
-    ∷ negsuc 7 ∷ []
-unfolding signedAnswer
-answers = refl
-
-places : map (placeAfter (Refused 5 3 16)) ([] ∷ (9 ∷ []) ∷ (9 ∷ 9 ∷ []) ∷ (9 ∷ 9 ∷ 9 ∷ []) ∷ []) ≡ [] ∷ (9 ∷ []) ∷ (3 ∷ 16 ∷ [])
-    ∷ (3 ∷ 16 ∷ 9 ∷ []) ∷ []
-unfolding placeAfter
-places = refl
-
-rows-keep-place : placeAfter (Rows 2) (9 ∷ 9 ∷ []) ≡ 9 ∷ 9 ∷ []
-unfolding placeAfter
-rows-keep-place = refl

@@ -3,7 +3,7 @@ use Prim.Native.Nat.{ℕ}
 use mathlib.Core.{Path.{_≡_}, List.{List}}
 use lib.IntN.{ℤ}
 use Rattle.sheet.specs.declared.Answer.{Answer}
-use Rattle.c_entry.specs.{Answer.{signedAnswer}, Place.{placeAfter}}
+use Rattle.c_tell.specs.{Answer.{signedAnswer}, Place.{placeAfter}}
 
 -- the count of 0 or more, or the refusal's number made negative, and where it points
 pub record Told (a : Answer) (place told : List ℕ) (r : ℤ) : Type 0 where

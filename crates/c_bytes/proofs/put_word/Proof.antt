@@ -4,9 +4,9 @@ use mathlib.Core.{Path.{_≡_, refl, sym, _∙_}, List.{List, _∷_, _++_, appen
 use native.Mathlib.Omega.{arith}
 use lib.{ListN.{length, take, set, length-set}, Seq.{take-suc-set, take-all}}
 use borrow.Author.Needs.{needs}
-use Rattle.c_entry.specs.Bytes.{numberBytes, littleEndian}
-use Rattle.c_entry.proofs.little_endian.put_word.Statement.{statement}
-use Rattle.c_entry.proofs.little_endian.put_word.Tie as tie
+use Rattle.c_bytes.specs.Bytes.{numberBytes, littleEndian}
+use Rattle.c_bytes.proofs.put_word.Statement.{statement}
+use Rattle.c_bytes.proofs.put_word.Tie as tie
 
 -- the bytes put so far and those of what is left of the word
 record Putting (word : ℕ) (part : List ℕ) (rest left : ℕ) : Type 0 where

@@ -1,9 +1,9 @@
 // An answer told to a program in C: one signed number, and where a refusal points.
 ghost use mathlib.Core.Path.{_≡_};
-ghost use Rattle.c_entry.specs.Answer.{signedAnswer};
-ghost use Rattle.c_entry.specs.Place.{placeAfter};
-ghost use Rattle.c_entry.specs.Room.{Few};
-ghost use Rattle.c_entry.specs.Told.{Told};
+ghost use Rattle.c_tell.specs.Answer.{signedAnswer};
+ghost use Rattle.c_tell.specs.Place.{placeAfter};
+ghost use Rattle.c_tell.specs.Room.{Few};
+ghost use Rattle.c_tell.specs.Told.{Told};
 use sheet::Answer;
 
 // The count, or the refusal's number made negative.

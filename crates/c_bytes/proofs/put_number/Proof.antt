@@ -2,9 +2,9 @@
 use mathlib.Core.Path.{ap, _∙_}
 use borrow.Author.Needs.{needs}
 use mir.Facts.{toZ-ofZ}
-use Rattle.c_entry.specs.Bytes.{numberBytes, littleEndian, twosComplement, bytesOf}
-use Rattle.c_entry.proofs.little_endian.put_number.Statement.{statement}
-use Rattle.c_entry.proofs.little_endian.put_number.Tie as tie
+use Rattle.c_bytes.specs.Bytes.{numberBytes, littleEndian, twosComplement, bytesOf}
+use Rattle.c_bytes.proofs.put_number.Statement.{statement}
+use Rattle.c_bytes.proofs.put_number.Tie as tie
 
 returns : tie.Need-returns
 unfolding bytesOf

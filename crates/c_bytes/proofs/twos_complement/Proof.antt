@@ -5,9 +5,9 @@ use native.Mathlib.Omega.{arith}
 use lib.{IntN.{pos}, Signed.{mag, ltZ}}
 use mir.{Syntax.{w64}, Val.{Fits, toZ, ofZ}, Facts.{toZ-ofZ}}
 use Rattle.interval.{specs.Whole.{flipZ}, proofs.Bits.{read, flipped, below-zero, not-below-zero}}
-use Rattle.c_entry.specs.Bytes.{twosComplement}
-use Rattle.c_entry.proofs.little_endian.twos_complement.Statement.{statement}
-use Rattle.c_entry.proofs.little_endian.twos_complement.Tie as tie
+use Rattle.c_bytes.specs.Bytes.{twosComplement}
+use Rattle.c_bytes.proofs.twos_complement.Statement.{statement}
+use Rattle.c_bytes.proofs.twos_complement.Tie as tie
 
 counted-down : (n : ℕ) → 18446744073709551615 - n ≡ 18446744073709551616 - suc n
 counted-down n = omega arith

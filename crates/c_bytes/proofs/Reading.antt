@@ -5,7 +5,7 @@ use native.Mathlib.{Nat.{pow-suc, div-lt-iff-lt-mul}, Omega.{arith}}
 use borrow.Author.Tests.{lt-ltb, le-ltb}
 use lib.{IntN.{ℤ, pos, negsuc}, ListN.{length, getD}, Seq.{take-at, drop-at}}
 use mir.{Syntax.{w64}, Val.{SFits}}
-use Rattle.c_entry.specs.Bytes.{numberBytes, littleEndian, twosComplement, bytesOf, bytesOfAll, natOf, signedOf, numberOf, numbersOf}
+use Rattle.c_bytes.specs.Bytes.{numberBytes, littleEndian, twosComplement, bytesOf, bytesOfAll, natOf, signedOf, numberOf, numbersOf}
 
 pub word-back : (k n : ℕ) → n < 256 ^ k → natOf (littleEndian k n) ≡ n
 unfolding littleEndian natOf

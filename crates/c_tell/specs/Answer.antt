@@ -1,15 +1,8 @@
 -- The answer as one signed number. Document 02 (i): "The answer is a signed number, the count of rows, or the refusal's number made
 -- negative".
-use Prim.Native.Nat.{_≤_, _<_}
-use lib.IntN.{ℤ, pos, negsuc, negℤ}
-use Rattle.judgement.specs.Limits.{mostLines}
+use lib.IntN.{ℤ, pos, negℤ}
 use Rattle.sheet.specs.declared.Answer.{Answer, the-variants.{Rows, Refused}}
 
 unfoldable pub signedAnswer : Answer → ℤ
 signedAnswer (Rows count) = pos count
 signedAnswer (Refused number line column) = negℤ (pos number)
-
--- 1 to the most value lines, or −8 to −1: the sign tells rows from a refusal. Proved of every answer in proofs/Range.antt.
-unfoldable pub InRange : ℤ → Type 0
-InRange (pos n) = (1 ≤ n) × (n ≤ mostLines)
-InRange (negsuc n) = n < 8

@@ -5,9 +5,9 @@ use native.Mathlib.Omega.{arith}
 use borrow.Author.Needs.{needs}
 use lib.ListN.{length, set}
 use Rattle.sheet.specs.declared.Answer.{Answer, the-variants.{Rows, Refused}}
-use Rattle.c_entry.specs.Place.{placeAfter}
-use Rattle.c_entry.proofs.telling.put_place.Statement.{statement}
-use Rattle.c_entry.proofs.telling.put_place.Tie as tie
+use Rattle.c_tell.specs.Place.{placeAfter}
+use Rattle.c_tell.proofs.put_place.Statement.{statement}
+use Rattle.c_tell.proofs.put_place.Tie as tie
 
 -- of a refusal, by the length of the place
 written : {a : Answer} {n l k : ℕ} (p : List ℕ) → a ≡ Refused n l k → 2 ≤ length p → set (set p 0 l) 1 k ≡ placeAfter a p

@@ -7,9 +7,9 @@ use lib.IntN.{ℤ, pos, natAbs, _-ℤ_, +ℤ-idl}
 use mir.{Syntax.{w64}, Val.{SFits}, Facts.{toZ-pos, toZ-ofZ}}
 use Rattle.interval.proofs.{Bits.{small-fits}, Signed.{size-difference}}
 use Rattle.sheet.specs.declared.Answer.{Answer, the-variants.{Rows}}
-use Rattle.c_entry.specs.{Answer.{signedAnswer}, Room.{Few}}
-use Rattle.c_entry.proofs.telling.signed_answer.Statement.{statement}
-use Rattle.c_entry.proofs.telling.signed_answer.Tie as tie
+use Rattle.c_tell.specs.{Answer.{signedAnswer}, Room.{Few}}
+use Rattle.c_tell.proofs.signed_answer.Statement.{statement}
+use Rattle.c_tell.proofs.signed_answer.Tie as tie
 
 small : {a : Answer} {n : ℕ} → Few a → a ≡ Rows n → n < 2 ^ 63
 unfolding Few
