@@ -12,7 +12,8 @@ use Rattle.sheet.specs.{declared.Answer.{Answer, the-variants.{Rows, Refused}},
 use Rattle.sheet.proofs.Accepted.{accepted}
 use Rattle.c_bytes.specs.Bytes.{numberBytes}
 use Rattle.c_tell.specs.{Room.{Few}, Answer.{signedAnswer}}
-use Rattle.c_entry.specs.Buffer.{rowBytes, Filled, BufferAfter, answerFor, InBytes, Answered}
+use Rattle.c_rows.specs.Rows.{rowBytes, Filled}
+use Rattle.c_entry.specs.Buffer.{BufferAfter, answerFor, InBytes, Answered}
 
 module _ {j : Judgement} (s t : List ℕ) (judged-is : j ≡ judgement columns s) where
   abbrev room : ℕ

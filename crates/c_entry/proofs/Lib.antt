@@ -1,4 +1,2 @@
-pub mod Putting
-pub mod RowBytes
-pub mod Answers
+mod Answers
 pub mod Range

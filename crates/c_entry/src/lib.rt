@@ -1,7 +1,5 @@
 // The sheet asked by a program in C, and the manner of all that C asks: the answer is a count of 0 or more, or a refusal's number made
 // negative, with line and column in a lent place of two numbers and every other buffer as it was.
-mod rows;
-
 ghost use Prim.Native.Nat.{_*_};
 ghost use mathlib.Core.Path.{_≡_};
 ghost use lib.ListN.{length};
@@ -9,14 +7,14 @@ ghost use Rattle.case.specs.Columns.{nameCount};
 ghost use Rattle.judgement.specs.Limits.{mostLines};
 ghost use Rattle.c_entry.specs.Buffer.{InBytes, Answered};
 ghost use Rattle.c_entry.specs.Buffer.{AnsweredAt};
+use c_rows::ROW_BYTES;
+use c_rows::write_rows;
 use c_tell::put_place;
 use c_tell::signed_answer;
 use case::Form;
 use judgement::Judgement;
 use judgement::VALUES;
 use judgement::read;
-use rows::ROW_BYTES;
-use rows::write_rows;
 use sheet::Answer;
 use sheet::TABLE_SHORT;
 

@@ -6,7 +6,7 @@ use Rattle.tables.specs.Parts.{Written}
 use Rattle.case.specs.declared.Case.{Case}
 use Rattle.row.specs.{Row.{numbers, rowLength}, Ends.{rowOf}}
 use Rattle.c_bytes.specs.Bytes.{bytesOfAll, numbersOf}
-use Rattle.c_entry.specs.Buffer.{rowBytes}
+use Rattle.c_rows.specs.Rows.{rowBytes}
 
 -- some bytes are those of some numbers, and what is read from them is those numbers
 pub record Put (zs : List ℤ) (part : List ℕ) : Type 0 where

@@ -8,9 +8,9 @@ use lib.{IntN.{ℤ, pos}, ListN.{getD}}
 use mir.{Syntax.{w64}, Val.{SFits}, Facts.{toZ-ofZ}}
 use Rattle.row.specs.Row.{rowLength}
 use Rattle.c_bytes.specs.Bytes.{numberBytes}
-use Rattle.c_entry.specs.Buffer.{rowBytes}
-use Rattle.c_entry.proofs.{Putting.{PutTo, put-start, put-next, put-all}, rows.put_numbers.Statement.{statement}}
-use Rattle.c_entry.proofs.rows.put_numbers.Tie as tie
+use Rattle.c_rows.specs.Rows.{rowBytes}
+use Rattle.c_rows.proofs.{Putting.{PutTo, put-start, put-next, put-all}, put_numbers.Statement.{statement}}
+use Rattle.c_rows.proofs.put_numbers.Tie as tie
 
 -- an even count of numbers is put
 record Even (numbers : List ℤ) (part : List ℕ) (i : ℕ) : Type 0 where

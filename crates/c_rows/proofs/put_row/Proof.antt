@@ -2,8 +2,8 @@
 use mathlib.Core.Path.{ap, _∙_}
 use borrow.Author.Needs.{needs}
 use Rattle.row.specs.Row.{numbers}
-use Rattle.c_entry.proofs.{RowBytes.{row-put}, rows.put_row.Statement.{statement}}
-use Rattle.c_entry.proofs.rows.put_row.Tie as tie
+use Rattle.c_rows.proofs.{RowBytes.{row-put}, put_row.Statement.{statement}}
+use Rattle.c_rows.proofs.put_row.Tie as tie
 
 returns : tie.Need-returns
 returns c =

@@ -8,9 +8,9 @@ use Rattle.tables.specs.Parts as parts
 use Rattle.tables.proofs.Filling.{filled-start, filled-step, filled-end}
 use Rattle.case.specs.{Case.{caseOf}, Bounds.{Bounds}}
 use Rattle.sheet.{specs.Rows.{storedCases}, proofs.StoredCases.{cases-count, stored-case}}
-use Rattle.c_entry.specs.Buffer.{rowBytes, RowBytes}
-use Rattle.c_entry.proofs.{RowBytes.{row-right}, rows.write_rows.Statement.{statement}}
-use Rattle.c_entry.proofs.rows.write_rows.Tie as tie
+use Rattle.c_rows.specs.Rows.{rowBytes, RowBytes}
+use Rattle.c_rows.proofs.{RowBytes.{row-right}, write_rows.Statement.{statement}}
+use Rattle.c_rows.proofs.write_rows.Tie as tie
 
 abbrev Inv-loop : tie.InvT-loop
 Inv-loop values n buffer₀ i₀ buffer i =

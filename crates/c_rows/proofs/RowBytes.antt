@@ -8,7 +8,7 @@ use Rattle.tables.proofs.Writing.{put-written}
 use Rattle.case.specs.{declared.Case.{Case}, Bounds.{Bounds}}
 use Rattle.row.{specs.{Row.{numbers, row-length}, Ends.{rowOf}}, proofs.Right.{right-row}}
 use Rattle.c_bytes.{specs.Bytes.{numberBytes, bytesOf, bytesOfAll, numbersOf}, proofs.Reading.{bytes-length}}
-use Rattle.c_entry.specs.{Buffer.{rowBytes, RowBytes}, Put.{Put, RowPut}}
+use Rattle.c_rows.specs.{Rows.{rowBytes, RowBytes}, Put.{Put, RowPut}}
 
 bytes-all-length : (zs : List ℤ) → length (bytesOfAll zs) ≡ numberBytes * length zs
 unfolding bytesOfAll
