@@ -11,8 +11,8 @@ use Rattle.judgement.specs.declared.Judgement.the-variants as judged
 use Rattle.sheet.specs.declared.Answer as sheets
 use Rattle.sheet.specs.declared.Answer.the-variants as sheet
 use Rattle.sheet.specs.Answer.{answer}
-use Rattle.stations.specs.{declared.Summed.{Summed}, Summary.{stations, stationLength}}
-use Rattle.stations.specs.Answer.{sheetRows, summaryRefused, answerAfter, summaryAnswer, SummaryAnswered}
+use Rattle.stations.specs.{declared.Summed.{Summed}, Answer.{sheetRows, summaryRefused, answerAfter, summaryAnswer, SummaryAnswered}}
+use Rattle.station_sums.specs.Summary.{stations, stationLength}
 use Rattle.stations.specs.declared.Summed.the-variants as summed
 use Rattle.release.specs.declared.{licence.Wrong.{Wrong, the-variants.{At, Nothing}}, Released.{Released}}
 use Rattle.release.specs.{Licence.{pairsOf, badCount, firstWrong}, Pair.{pairLength}}

@@ -5,7 +5,7 @@ use native.Mathlib.{Decide.{ℕ-discrete}, Omega.{arith}}
 use lib.{Dec.{eqb}, IntN.{ℤ, pos}, ListN.{length, getD, drop, length-append, List·getD-append}, Seq.{getD-append-add, getD-drop, drop-drop}}
 use borrow.Author.Tests.{eq-eqb, ne-eqb}
 use Rattle.text.proofs.Clash.{clash}
-use Rattle.stations.{specs.Summary.{sameZ, among, byAppearance}, proofs.Same.{same-refl, same-eq}}
+use Rattle.station_sums.{specs.Summary.{sameZ, among, byAppearance}, proofs.Same.{same-refl, same-eq}}
 use Rattle.claims.specs.Summary.{ByAppearance}
 
 -- a number among others stands at some place

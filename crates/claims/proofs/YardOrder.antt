@@ -6,7 +6,7 @@ use lib.{ListN.{length, getD, length-append, List·getD-append}, Seq.{getD-appen
 use borrow.Author.Tests.{eqb-true, eq-eqb, ne-eqb, le-leb}
 use Rattle.text.specs.Text.{same}
 use Rattle.case.specs.{declared.Case.{Case}, Bounds.{Between}, Columns.{columns, inRange, nameIndex}, Parts.{rangeAt}, Check.{countFrom}}
-use Rattle.stations.specs.Summary.{one}
+use Rattle.station_sums.specs.Summary.{one}
 use Rattle.yards.specs.Yards.{spacing, spaceRange, fits, yard, rodCounts, yardsOf, yardsFrom, yards}
 use Rattle.yards.proofs.Trying.{lines-next, lines-end}
 use Rattle.claims.specs.Yards.{withYard, Fits, YardTried, fitting}

@@ -14,7 +14,7 @@ use Rattle.row.specs.{declared.Row.{Row}, Row.{rowLength}}
 use Rattle.sheet.specs.{declared.Answer.{Answer}, Answer.{answer}}
 use Rattle.sheet.specs.declared.Answer.the-variants as sheet
 use Rattle.stations.specs.declared.Summed.{Summed, the-variants.{Summary, Refused}}
-use Rattle.stations.specs.Summary.{among, byAppearance, stationsOf, stations, rowsOf, stationLength, stationNumbers, summaryOf, filled}
+use Rattle.station_sums.specs.Summary.{among, byAppearance, stationsOf, stations, rowsOf, stationLength, stationNumbers, summaryOf, filled}
 use Rattle.stations.specs.Answer.{sheetRows, answerAfter, summaryAnswer, Summarised, TablesAfter, SummaryAnswered}
 use Rattle.stations.proofs.Within.{summary-within}
 use Rattle.row_text.specs.declared.Shown.the-variants as shown

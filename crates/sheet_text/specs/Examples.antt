@@ -4,8 +4,9 @@ use Rattle.text.specs.Text.{bytes}
 use Rattle.interval.specs.Operations.{natural}
 use Rattle.writing.specs.{Decimal.{digitsIn, digitCount, lastDigits, decimal, signed}, Text.{moreFields, parted, ended, textOf}}
 use Rattle.row.specs.{declared.Verdict.the-variants.{Safe, Unsafe, Undecided}, Verdict.{verdictNumber}}
-use Rattle.stations.specs.Summary.{sameZ, one, among, byAppearance, stations, rowsOf, countOf, higher, highest, worstSeason, stationNumbers}
-use Rattle.stations.specs.Summary.{summaryOf}
+use Rattle.station_sums.specs.Summary.{sameZ, one, among, byAppearance, stations}
+use Rattle.station_sums.specs.Summary.{rowsOf, countOf, higher, highest, worstSeason, stationNumbers}
+use Rattle.station_sums.specs.Summary.{summaryOf}
 use Rattle.fields.specs.Listed.{listed}
 use Rattle.row_text.specs.Examples.{sampleRow}
 use Rattle.sheet_text.specs.Texts.{summaryNames}

@@ -7,7 +7,8 @@ use Rattle.writing.specs.Decimal.{signed}
 use Rattle.case.specs.Columns.{columns}
 use Rattle.judgement.specs.Sheet.{judgement}
 use Rattle.row.specs.declared.Row.{Row}
-use Rattle.stations.specs.{Summary.{summaryOf}, Answer.{sheetRows}}
+use Rattle.station_sums.specs.Summary.{summaryOf}
+use Rattle.stations.specs.Answer.{sheetRows}
 use Rattle.fields.specs.{Refusal.{unlessRefused}, Listed.{listed}}
 use Rattle.row_text.specs.{Verdict.{verdictNames, verdictFields}, Rows.{rowNames, rowFields}, Margins.{marginNames, marginFields}}
 

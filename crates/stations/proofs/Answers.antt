@@ -15,8 +15,9 @@ use Rattle.sheet.specs.{declared.Answer.{Answer}, Answer.{cases, answer}, Table
 use Rattle.sheet.proofs.{Accepted.{accepted}, AnyRoom.{refused-anywhere, count-most, short-there, rows-there}}
 use Rattle.sheet.specs.declared.Answer.the-variants as sheet
 use Rattle.stations.specs.declared.Summed.the-variants.{Summary, Refused}
-use Rattle.stations.specs.{Summary.{byAppearance, stations, stationLength, summaryOf, filled}, declared.Sums.{Sums}}
-use Rattle.stations.specs.{Sums.{none, sumsAt, sixes}, Places.{stationColumn, Places}}
+use Rattle.station_sums.specs.{Summary.{byAppearance, stations, stationLength, summaryOf, filled}, declared.Sums.{Sums}}
+use Rattle.station_sums.specs.Sums.{none, sumsAt, sixes}
+use Rattle.appearance.specs.Places.{stationColumn, Places}
 use Rattle.stations.specs.Answer.{sheetRows, summaryRefused, answerAfter, summaryAnswer, TablesAfter, SummaryAnswered}
 use Rattle.stations.proofs.StationSums.{stations-found, summary-put}
 

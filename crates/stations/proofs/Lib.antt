@@ -1,13 +1,5 @@
-pub mod Same
-pub mod Tables
-pub mod RowSums
-pub mod Marks
-pub mod Appearing
-pub mod OneRowMore
-pub mod StationSums
-pub mod StandsOnce
-pub mod Totals
-pub mod WorstSeason
+mod StationSums
+mod Tables
 pub mod Copying
-pub mod Answers
+mod Answers
 pub mod Within

@@ -9,11 +9,11 @@ use Rattle.case.specs.{declared.Case.{Case}, Case.{caseOf}}
 use Rattle.row.specs.{declared.Row.{Row}, Places.{seasonPlace, verdictPlace, meshUpperPlace}, Row.{rowLength, numbers}, Ends.{rowOf}}
 use Rattle.judgement.specs.Limits.{mostLines}
 use Rattle.sheet.specs.Table.{rowAt, RowOf}
-use Rattle.stations.specs.declared.{Entry.{Entry}, Sums.{Sums}}
-use Rattle.stations.specs.Summary.{sameZ, byAppearance, stationsOf, stations, rowsOf, countOf, worstSeason, stationNumbers, summaryOf}
-use Rattle.stations.specs.Sums.{entryOf, entryAt, addTo, none, worstMesh, sumsOf, sumsAt, six, sixes}
-use Rattle.stations.specs.Places.{stationAt, stationColumn, Places}
-use Rattle.stations.proofs.{Same.{same-refl, not-same}, OneRowMore.{rows-more, sums-more}}
+use Rattle.station_sums.specs.declared.{Entry.{Entry}, Sums.{Sums}}
+use Rattle.station_sums.specs.Summary.{sameZ, byAppearance, stationsOf, stations, rowsOf, countOf, worstSeason, stationNumbers, summaryOf}
+use Rattle.station_sums.specs.Sums.{entryOf, entryAt, addTo, none, worstMesh, sumsOf, sumsAt, six, sixes}
+use Rattle.station_sums.proofs.{Same.{same-refl, not-same}, OneRowMore.{rows-more, sums-more}}
+use Rattle.appearance.specs.Places.{stationAt, stationColumn, Places}
 
 -- a row where there is none
 abbrev noRow : Row

@@ -5,7 +5,7 @@ use native.Mathlib.{Numerals.{add-one}, Omega.{arith}}
 use lib.{IntN.{ℤ, pos}, ListN.{length, getD, set, take, drop, length-append, length-drop, take-append-drop}}
 use lib.Seq.{take-at, drop-at, length-take-le, drop-drop}
 use borrow.Rule.Slice.PartMut.{putMid, post-is}
-use Rattle.stations.specs.{declared.Sums.{Sums}, Summary.{filled, stationLength}, Sums.{none, six, sixes, putAt}}
+use Rattle.station_sums.specs.{declared.Sums.{Sums}, Summary.{filled, stationLength}, Sums.{none, six, sixes, putAt}}
 
 pub six-set : (l : List ℤ) (a b c d e f : ℤ) → length l ≡ stationLength
     → set (set (set (set (set (set l 0 a) 1 b) 2 c) 3 d) 4 e) 5 f ≡ a ∷ b ∷ c ∷ d ∷ e ∷ f ∷ []

@@ -1,20 +1,17 @@
 // The station summary beside the rows. Document 02 (m).
-mod adding;
-mod appearance;
 mod copy;
-mod gather;
 mod put;
 
 ghost use Rattle.stations.specs.Answer.{SummaryAnswered};
 use appearance::find_stations;
 use copy::copy_numbers;
-use gather::sum_rows;
 use judgement::LINES;
 use put::put_stations;
 use row::ROW_LENGTH;
 use sheet::Answer;
 use sheet::TABLE_SHORT;
 use sheet::sheet;
+use station_sums::sum_rows;
 
 // A row for each of the most value lines.
 const TABLE: usize = LINES * ROW_LENGTH;
@@ -24,31 +21,6 @@ pub const STATION_LENGTH: usize = 6;
 
 // The refusal of a table without room for the stations.
 const SUMMARY_SHORT: u32 = 20;
-
-// What the summary reads of a row.
-struct Entry {
-    pub season: i64,
-    pub verdict: i64,
-    // upper end, millivolts
-    pub mesh: i64,
-}
-
-// The counts of one station, and its season with the highest upper mesh end.
-struct Sums {
-    pub seasons: usize,
-    pub safe: usize,
-    pub not_safe: usize,
-    pub undecided: usize,
-    pub season: i64,
-    pub mesh: i64,
-}
-
-// The stations of some rows by first appearance, of which there are count, and the place of each row's station among them.
-struct Found {
-    pub stations: [i64; LINES],
-    pub places: [usize; LINES],
-    pub count: usize,
-}
 
 // The count of rows and of stations, or a refusal with number, line and column.
 pub enum Summed {

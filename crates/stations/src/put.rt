@@ -3,11 +3,11 @@ ghost use mathlib.Core.Path.{_≡_};
 ghost use Prim.Native.Nat.{ℕ, _≤_, _<_, _*_, _+_};
 ghost use lib.ListN.{length, getD};
 ghost use Rattle.judgement.specs.Limits.{mostLines};
-ghost use Rattle.stations.specs.Summary.{filled, stationLength};
-ghost use Rattle.stations.specs.Sums.{Small, none, six, sixes, putAt};
+ghost use Rattle.station_sums.specs.Summary.{filled, stationLength};
+ghost use Rattle.station_sums.specs.Sums.{Small, none, six, sixes, putAt};
 use crate::STATION_LENGTH;
-use crate::Sums;
 use judgement::LINES;
+use station_sums::Sums;
 
 // The six numbers of a station.
 fn put_numbers(station: i64, s: Sums, part: &mut [i64])

@@ -2,7 +2,7 @@
 use Prim.Native.Nat.{_≤_}
 use native.Mathlib.Omega.{arith}
 use Rattle.judgement.specs.Limits.{mostLines}
-use Rattle.stations.proofs.RowSums.{small-at}
+use Rattle.station_sums.proofs.RowSums.{small-at}
 use Rattle.stations.proofs.Answers.{rows-most, rows-within, short-elsewhere, rows-elsewhere, refused-elsewhere, stations-count}
 use Rattle.stations.proofs.Answers.{copied-answered, summary-is, summary-refused, summary-short, summary-done}
 use Rattle.stations.proofs.summary.Statement.{statement}

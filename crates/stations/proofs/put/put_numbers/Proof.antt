@@ -2,7 +2,7 @@
 use native.Mathlib.Omega.{arith}
 use lib.ListN.{length-set}
 use mir.{Syntax.{w64}, Val.{SFits}, Facts.{toZ-ofZ, toZ-pos}}
-use Rattle.stations.specs.Sums.{six}
+use Rattle.station_sums.specs.Sums.{six}
 use Rattle.stations.proofs.{Tables.{six-set}, put.put_numbers.Statement.{statement}}
 use borrow.Author.Needs.{needs}
 use Rattle.stations.proofs.put.put_numbers.Tie as tie

@@ -3,7 +3,7 @@ use Prim.Native.Nat.{_-_}
 use native.Mathlib.Omega.{arith}
 use lib.{IntN.{pos}, ListN.{getD}}
 use mir.{Syntax.{w64}, Val.{SFits}, Facts.{toZ-ofZ}}
-use Rattle.stations.specs.Sums.{none}
+use Rattle.station_sums.specs.Sums.{none}
 use Rattle.stations.proofs.{Tables.{Putting, putting-start, putting-next, putting-end}, put.put_stations.Statement.{statement}}
 use borrow.Author.Needs.{needs}
 use Rattle.stations.proofs.put.put_stations.Tie as tie
