@@ -4,7 +4,7 @@ ghost use Prim.Native.Nat.{_≤_, _*_};
 ghost use lib.ListN.{length};
 ghost use Rattle.case.specs.Columns.{nameCount};
 ghost use Rattle.judgement.specs.Limits.{mostLines};
-ghost use Rattle.sheet.specs.Rows.{StoredBounds, storedCases};
+ghost use Rattle.table_rows.specs.Rows.{StoredBounds, storedCases};
 ghost use Rattle.c_line.specs.Line.{widthOf};
 ghost use Rattle.c_lines.specs.Lines.{Filled, LinesAnswered};
 use c_line::Question;

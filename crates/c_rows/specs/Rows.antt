@@ -6,7 +6,7 @@ use lib.ListN.{length, getD}
 use Rattle.tables.specs.Parts as parts
 use Rattle.case.specs.{declared.Case.{Case}, Case.{caseOf}}
 use Rattle.row.specs.{Row.{numbers, rowLength}, Ends.{rowOf}}
-use Rattle.sheet.specs.Table.{RowOf}
+use Rattle.table_rows.specs.Rows.{RowOf}
 use Rattle.c_bytes.specs.Bytes.{bytesOfAll, numbersOf}
 
 -- "160 bytes a line"

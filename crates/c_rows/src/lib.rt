@@ -4,7 +4,7 @@ ghost use mathlib.Core.Path.{_≡_};
 ghost use lib.ListN.{length};
 ghost use Rattle.case.specs.Columns.{nameCount};
 ghost use Rattle.case.specs.Bounds.{Bounds};
-ghost use Rattle.sheet.specs.Rows.{StoredBounds, storedCases};
+ghost use Rattle.table_rows.specs.Rows.{StoredBounds, storedCases};
 ghost use Rattle.c_rows.specs.Rows.{rowBytes, Filled};
 ghost use Rattle.c_rows.specs.Put.{Put, RowPut};
 use c_bytes::NUMBER_BYTES;
@@ -13,7 +13,7 @@ use case::Case;
 use row::ROW_LENGTH;
 use row::row_numbers;
 use row::work_row;
-use sheet::line_case;
+use table_rows::line_case;
 
 // How many bytes a row has.
 pub const ROW_BYTES: usize = NUMBER_BYTES * ROW_LENGTH;

@@ -7,7 +7,7 @@ ghost use lib.ListN.{length};
 ghost use Rattle.tables.specs.Parts.{Written};
 ghost use Rattle.case.specs.Columns.{nameCount};
 ghost use Rattle.judgement.specs.Limits.{mostLines};
-ghost use Rattle.sheet.specs.Rows.{StoredBounds, storedCases};
+ghost use Rattle.table_rows.specs.Rows.{StoredBounds, storedCases};
 ghost use Rattle.release.specs.Licence.{pairsOf};
 ghost use Rattle.tally.specs.Lines.{linesOf, one};
 ghost use Rattle.release.specs.Pair.{pairLength, releaseOf, stationNumbers, eight};

@@ -5,7 +5,8 @@ use lib.{IntN.{ℤ}, ListN.{length}}
 use borrow.Author.Tests.{lt-ltb, le-ltb}
 use Rattle.row.specs.Row.{rowLength}
 use Rattle.sheet.specs.{declared.Answer.the-variants.{Rows, Refused}, Answer.{tableRefused, answerBy, cases, answer}}
-use Rattle.sheet.specs.Table.{Filled, TableAfter, Answered}
+use Rattle.sheet.specs.Table.{TableAfter, Answered}
+use Rattle.table_rows.specs.Rows.{Filled}
 use Rattle.case.specs.Columns.{columns}
 use Rattle.judgement.specs.{declared.Judgement.{Judgement}, Sheet.{judgement}}
 use Rattle.judgement.specs.declared.Judgement.the-variants as judged

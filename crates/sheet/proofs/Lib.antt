@@ -1,5 +1,4 @@
 pub mod Accepted
-pub mod RowParts
 pub mod StoredCases
 pub mod ReadLines
 pub mod Answers

@@ -2,26 +2,17 @@
 use Prim.Native.Nat.{ℕ, zero, suc, _<_}
 use mathlib.Core.{Path.{_≡_, refl, sym, ap, _∙_}, List.{List, [], _∷_, map}}
 use native.Mathlib.Omega.{arith}
-use lib.ListN.{length, getD, length-map, List·getD-map}
+use lib.ListN.{length, getD}
 use Rattle.text.specs.Text.{fieldsOf}
-use Rattle.tables.{specs.Parts.{partAt, partsOf}, proofs.Parts.{parts-length, parts-at}}
+use Rattle.tables.specs.Parts.{partAt, partsOf}
 use Rattle.case.specs.{declared.Case.{Case}, Case.{caseOf}, Columns.{columns, nameCount, name-count}}
 use Rattle.header.specs.Header.{columnsOf}
 use Rattle.line.specs.Line.{lineValues, lineCase}
 use Rattle.judgement.{specs.{Sheet.{names, valueLines}, Read.{Stored}}, proofs.StoredLines.{stored-parts}}
 use Rattle.judgement.specs.Accepted as judged
-use Rattle.sheet.specs.{Answer.{cases}, Rows.{storedCases, StoredBounds}}
+use Rattle.sheet.specs.Answer.{cases}
+use Rattle.table_rows.specs.Rows.{storedCases, StoredBounds}
 use Rattle.sheet.proofs.Accepted.{sound-bounds}
-
--- ---- the cases of any stored values
-
-pub cases-count : (values : List ℕ) (n : ℕ) → length (storedCases values n) ≡ n
-unfolding storedCases
-cases-count values n = length-map (partsOf nameCount n values) caseOf ∙ parts-length nameCount n values
-
-pub stored-case : (values : List ℕ) (n i : ℕ) → i < n → getD (storedCases values n) i (caseOf []) ≡ caseOf (partAt nameCount values i)
-unfolding storedCases
-stored-case values n i h = List·getD-map caseOf (partsOf nameCount n values) i [] ∙ ap caseOf (parts-at nameCount n i values h)
 
 -- ---- the case of line i of a sheet
 

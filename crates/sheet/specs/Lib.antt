@@ -1,5 +1,4 @@
 pub mod Answer
 pub mod Table
 pub mod Accepted
-pub mod Rows
 pub mod Examples

@@ -1,26 +1,15 @@
 -- The table after a sheet: one claim over every sheet, every table and every row. Document 01, 'The result table' and 'To the testers'.
 use Prim.Native.Nat.{ℕ}
-use mathlib.Core.{Path.{_≡_}, List.{List, []}}
-use lib.{IntN.{ℤ}, ListN.{length, getD}}
+use mathlib.Core.{Path.{_≡_}, List.{List}}
+use lib.{IntN.{ℤ}, ListN.{length}}
 use Rattle.tables.specs.Parts.{partAt}
-use Rattle.tables.specs.Parts as parts
-use Rattle.case.specs.{declared.Case.{Case}, Case.{caseOf}}
-use Rattle.row.specs.{Row.{RightRow, numbers, rowLength}, Ends.{rowOf}}
+use Rattle.row.specs.Row.{rowLength}
+use Rattle.table_rows.specs.Rows.{Filled}
 use Rattle.sheet.specs.{declared.Answer.{Answer, the-variants.{Rows, Refused}}, Answer.{answer, cases}}
 
 -- the numbers of row i
 abbrev pub rowAt : List ℤ → ℕ → List ℤ
 rowAt table i = partAt rowLength table i
-
--- some numbers are the row of a case, and that row is right. The case asked alone has the same row: claims/specs/Demands.antt,
--- `asked-alone`.
-pub record RowOf (c : Case) (row : List ℤ) : Type 0 where
-  pub is : row ≡ numbers (rowOf c)
-  pub right : RightRow c (rowOf c)
-
--- every case has its own row, in order, "Numbers past the last row keep what they held."
-abbrev pub Filled : List Case → List ℤ → List ℤ → Type 0
-Filled cs before after = parts.Filled rowLength (λ i row. RowOf (getD cs i (caseOf [])) row) (length cs) before after
 
 -- "A refusal changes nothing in the table"
 unfoldable pub TableAfter : List ℕ → List ℤ → List ℤ → Answer → Type 0

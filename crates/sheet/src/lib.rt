@@ -1,6 +1,4 @@
 // The sheet: its answer, and its rows in the caller's table.
-mod rows;
-
 ghost use Prim.Native.Nat.{_*_};
 ghost use mathlib.Core.Path.{_≡_};
 ghost use lib.ListN.{length};
@@ -12,8 +10,7 @@ use judgement::Judgement;
 use judgement::VALUES;
 use judgement::read;
 use row::ROW_LENGTH;
-pub use rows::line_case;
-use rows::write_rows;
+use table_rows::write_rows;
 
 // The refusal of a table without room for the rows.
 pub const TABLE_SHORT: u32 = 8;

@@ -11,8 +11,9 @@ use Rattle.header.specs.Header.{columnsOf}
 use Rattle.line.specs.Line.{lineCase}
 use Rattle.judgement.specs.{Limits.{mostLines}, Sheet.{names, valueLines}}
 use Rattle.row.specs.Row.{rowLength}
-use Rattle.sheet.specs.{declared.Answer.{Answer}, Answer.{cases, answer}, Table.{rowAt, Filled, TableAfter, Answered}}
-use Rattle.sheet.proofs.{Accepted.{accepted}, AnyRoom.{refused-anywhere, count-most, short-there, rows-there}}
+use Rattle.sheet.{specs.{declared.Answer.{Answer}, Answer.{cases, answer}, Table.{rowAt, TableAfter, Answered}}, proofs.Accepted.{accepted}}
+use Rattle.sheet.proofs.AnyRoom.{refused-anywhere, count-most, short-there, rows-there}
+use Rattle.table_rows.specs.Rows.{Filled}
 use Rattle.sheet.specs.declared.Answer.the-variants as sheet
 use Rattle.stations.specs.declared.Summed.the-variants.{Summary, Refused}
 use Rattle.station_sums.specs.{Summary.{byAppearance, stations, stationLength, summaryOf, filled}, declared.Sums.{Sums}}

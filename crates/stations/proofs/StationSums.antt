@@ -8,7 +8,8 @@ use borrow.Author.Tests.{eqb-true, eqb-false}
 use Rattle.case.specs.{declared.Case.{Case}, Case.{caseOf}}
 use Rattle.row.specs.{declared.Row.{Row}, Places.{seasonPlace, verdictPlace, meshUpperPlace}, Row.{rowLength, numbers}, Ends.{rowOf}}
 use Rattle.judgement.specs.Limits.{mostLines}
-use Rattle.sheet.specs.Table.{rowAt, RowOf}
+use Rattle.table_rows.specs.Rows.{RowOf}
+use Rattle.sheet.specs.Table.{rowAt}
 use Rattle.station_sums.specs.declared.{Entry.{Entry}, Sums.{Sums}}
 use Rattle.station_sums.specs.Summary.{sameZ, byAppearance, stationsOf, stations, rowsOf, countOf, worstSeason, stationNumbers, summaryOf}
 use Rattle.station_sums.specs.Sums.{entryOf, entryAt, addTo, none, worstMesh, sumsOf, sumsAt, six, sixes}

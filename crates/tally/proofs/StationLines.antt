@@ -7,7 +7,7 @@ use borrow.Author.Tests.{eq-eqb, ne-eqb}
 use Rattle.tables.{specs.Parts.{partAt}, proofs.Parts.{part-entry}}
 use Rattle.case.specs.{declared.Case.{Case}, Case.{caseOf}, Columns.{nameCount}, Bounds.{Bounds}}
 use Rattle.judgement.specs.Limits.{mostLines}
-use Rattle.sheet.{specs.Rows.{storedCases}, proofs.StoredCases.{cases-count, stored-case}}
+use Rattle.table_rows.{specs.Rows.{storedCases}, proofs.StoredCases.{cases-count, stored-case}}
 use Rattle.tally.specs.{declared.Tally.{Tally}, Lines.{linesOf, firstLine}, Tally.{EveryBounds, tallyOf, addLine, Small}}
 use Rattle.tally.proofs.Counts.{tally-none, tally-step, tally-small}
 

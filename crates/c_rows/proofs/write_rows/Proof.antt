@@ -7,7 +7,7 @@ use mathlib.Core.List.{[]}
 use Rattle.tables.specs.Parts as parts
 use Rattle.tables.proofs.Filling.{filled-start, filled-step, filled-end}
 use Rattle.case.specs.{Case.{caseOf}, Bounds.{Bounds}}
-use Rattle.sheet.{specs.Rows.{storedCases}, proofs.StoredCases.{cases-count, stored-case}}
+use Rattle.table_rows.{specs.Rows.{storedCases}, proofs.StoredCases.{cases-count, stored-case}}
 use Rattle.c_rows.specs.Rows.{rowBytes, RowBytes}
 use Rattle.c_rows.proofs.{RowBytes.{row-right}, write_rows.Statement.{statement}}
 use Rattle.c_rows.proofs.write_rows.Tie as tie

@@ -7,7 +7,7 @@ use borrow.Rule.Slice.PartMut.{mid-len}
 use lib.ListN.{length, take, drop}
 use Rattle.tables.{specs.Parts.{partAt}, proofs.Filling.{filled-start, filled-end}}
 use Rattle.case.specs.{Columns.{nameCount}, Case.{caseOf}}
-use Rattle.sheet.{specs.Rows.{storedCases}, proofs.StoredCases.{cases-count, stored-case}}
+use Rattle.table_rows.{specs.Rows.{storedCases}, proofs.StoredCases.{cases-count, stored-case}}
 use Rattle.c_lines.proofs.{Arrays.{FilledTo, part-within, line-filled}, lines.write_lines.Statement.{statement}}
 use Rattle.c_lines.proofs.lines.write_lines.Tie as tie
 

@@ -5,7 +5,7 @@ use native.Mathlib.Omega.{arith}
 use lib.ListN.{getD}
 use borrow.Author.Needs.{needs}
 use Rattle.tables.{specs.Parts.{Filled}, proofs.Filling.{filled-start, filled-step, filled-end}}
-use Rattle.sheet.specs.Rows.{storedCases}
+use Rattle.table_rows.specs.Rows.{storedCases}
 use Rattle.release.specs.{Licence.{pairsOf}, Pair.{pairLength, releaseOf}}
 use Rattle.release.proofs.{Tables.{release-count, release-at}, put.put_pairs.Statement.{statement}}
 use Rattle.release.proofs.put.put_pairs.Tie as tie

@@ -6,9 +6,9 @@ use borrow.Author.Needs.{needs}
 use Rattle.tables.proofs.Filling.{filled-start, filled-step, filled-end}
 use Rattle.case.specs.Bounds.{Bounds}
 use Rattle.row.proofs.Right.{right-row}
-use Rattle.sheet.specs.Rows.{FilledTo, storedCases}
-use Rattle.sheet.proofs.{StoredCases.{cases-count, stored-case}, rows.write_rows.Statement.{statement}}
-use Rattle.sheet.proofs.rows.write_rows.Tie as tie
+use Rattle.table_rows.specs.Rows.{FilledTo, storedCases}
+use Rattle.table_rows.proofs.{StoredCases.{cases-count, stored-case}, write_rows.Statement.{statement}}
+use Rattle.table_rows.proofs.write_rows.Tie as tie
 
 abbrev Inv-loop : tie.InvT-loop
 Inv-loop values n table₀ i₀ table i = FilledTo (storedCases values n) i table₀ table × (i ≤ n)

@@ -1,9 +1,9 @@
 -- `write_row` puts the row of a case in its own part of the table.
 use Rattle.row.specs.Row.{numbers}
 use mathlib.Core.Path.{ap, _∙_}
-use Rattle.sheet.proofs.{RowParts.{row-written}, rows.write_row.Statement.{statement}}
+use Rattle.table_rows.proofs.{RowParts.{row-written}, write_row.Statement.{statement}}
 use borrow.Author.Needs.{needs}
-use Rattle.sheet.proofs.rows.write_row.Tie as tie
+use Rattle.table_rows.proofs.write_row.Tie as tie
 
 returns : tie.Need-returns
 returns c =

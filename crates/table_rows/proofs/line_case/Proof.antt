@@ -6,8 +6,8 @@ use lib.ListN.{take, drop}
 use borrow.Rule.Slice.PartMut.{mid-len}
 use borrow.Author.Needs.{needs}
 use Rattle.case.specs.{Case.{caseOf}, Columns.{nameCount}}
-use Rattle.sheet.proofs.rows.line_case.Statement.{statement}
-use Rattle.sheet.proofs.rows.line_case.Tie as tie
+use Rattle.table_rows.proofs.line_case.Statement.{statement}
+use Rattle.table_rows.proofs.line_case.Tie as tie
 
 part-case-of-end : tie.Need-part-case-of-end
 part-case-of-end c = search needs

@@ -1,4 +1,4 @@
-// The rows of the table.
+// The rows of stored lines, in the table.
 ghost use mathlib.Core.Path.{_≡_};
 ghost use Prim.Native.Nat.{_≤_, _+_, _*_};
 ghost use lib.ListN.{length};
@@ -8,8 +8,7 @@ ghost use Rattle.case.specs.Case.{caseOf};
 ghost use Rattle.case.specs.Bounds.{Bounds};
 ghost use Rattle.row.specs.Row.{numbers, rowLength};
 ghost use Rattle.row.specs.Ends.{rowOf};
-ghost use Rattle.sheet.specs.Rows.{StoredBounds, storedCases};
-ghost use Rattle.sheet.specs.Table.{Filled};
+ghost use Rattle.table_rows.specs.Rows.{Filled, StoredBounds, storedCases};
 use case::Case;
 use case::NAMES;
 use case::case_of;
