@@ -11,10 +11,11 @@ use Rattle.case.proofs.{Findings.{form-most}, Values.{entries-from}}
 use Rattle.case.specs.declared.Finding.the-variants as found
 use Rattle.header.specs.Header.{noColumns, fresh, wrongName, columnsFrom, columnsOf}
 use Rattle.line.specs.Line.{wrongForm, lineValues}
-use Rattle.judgement.specs.{declared.Judgement.{Judgement, the-variants.{Lines}}, Limits.{today, mostBytes, mostLines}}
-use Rattle.judgement.specs.{Refusal.{lineJudgement}, Findings.{orFinding, repeats, lineFinding}}
+use Rattle.judgement.specs.{declared.Judgement.{the-variants.{Lines}, Judgement}, Limits.{today, mostBytes, mostLines}}
+use Rattle.judgement.specs.Refusal.{lineJudgement}
 use Rattle.judgement.specs.Sheet.{names, valueLines, badText, linesJudgement, valuesJudgement, namesJudgement, judgementWithin, judgement}
-use Rattle.judgement.specs.declared.LineFinding.the-variants as line
+use Rattle.line_finding.specs.Findings.{orFinding, repeats, lineFinding}
+use Rattle.line_finding.specs.declared.LineFinding.the-variants as line
 use Rattle.writing.specs.{Decimal.{decimal}, Text.{moreFields, parted, ended, textOf, valueLine, sheetText, lacks, allLack, allValues}}
 use Rattle.writing.proofs.{Decimal.{decimal-is-value}, ReadBack.{both}, Sheet.{Names, sheet-lines, line-fields, line-numbers, sheet-back}}
 use Rattle.writing.proofs.Lengths.{sheet-most}

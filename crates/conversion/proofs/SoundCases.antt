@@ -9,9 +9,10 @@ use Rattle.case.specs.declared.{Form.{Form as CodeForm, the-variants.{Present, 
 use Rattle.case.specs.{Columns.{Form, columns, formerColumns, nameIndex, named}, Check.{finding}, Bounds.{Placed}, Parts.{formOf}}
 use Rattle.case.specs.declared.Finding.the-variants as found
 use Rattle.line.specs.Line.{wrongForm, lineValues}
-use Rattle.judgement.specs.{declared.Judgement.{Judgement, the-variants.{Lines}}, Findings.{orFinding, sameKey, repeats, lineFinding}}
-use Rattle.judgement.{specs.{Sheet.{valueLines, linesJudgement}, Accepted.{Accepted}}, proofs.LineJudged.{sound-line}}
-use Rattle.judgement.specs.declared.LineFinding.the-variants as line
+use Rattle.judgement.specs.{declared.Judgement.{the-variants.{Lines}, Judgement}, Sheet.{valueLines, linesJudgement}, Accepted.{Accepted}}
+use Rattle.judgement.proofs.LineJudged.{sound-line}
+use Rattle.line_finding.specs.Findings.{orFinding, sameKey, repeats, lineFinding}
+use Rattle.line_finding.specs.declared.LineFinding.the-variants as line
 use Rattle.writing.specs.Text.{allLines}
 use Rattle.conversion.specs.{Values.{other, presentValues, formerValues, carried}, Sheet.{casesIn}}
 use Rattle.conversion.proofs.Soundness.{Sound, sound-values, sound-small, carried-sound}

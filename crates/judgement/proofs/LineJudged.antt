@@ -1,53 +1,10 @@
--- The judgement of one line: its form, then its values.
+-- What the refusal of a line says of its finding.
 use Prim.Native.Nat.{ℕ}
-use mathlib.Core.{Path.{_≡_, refl, sym, _∙_}, Bool.{cond}, List.{List}}
-use lib.ListN.{length, getD}
-use borrow.Author.Tests.{eq-eqb, ne-eqb}
-use Rattle.text.{specs.Text.{fieldsOf}, proofs.Clash.{clash}}
-use Rattle.case.specs.{Columns.{Form}, declared.Finding.{Finding}, Check.{finding}}
-use Rattle.case.specs.declared.Finding.the-variants as found
-use Rattle.line.specs.{Line.{lineValues}, Parts.{LineValues}}
-use Rattle.judgement.specs.declared.{Judgement.{Judgement, the-variants.{Lines, Refused}}, LineFinding.{LineFinding}}
-use Rattle.judgement.specs.declared.LineFinding.the-variants.{Sound, Form as WrongForm, OutOfRange, Disagreement, Repeated}
-use Rattle.judgement.specs.{Refusal.{lineJudgement}, Findings.{orFinding, lineFinding}}
-use Rattle.judgement.specs.Parts.{Keyable, packed, keysOf, seenIn, Checks}
-use Rattle.judgement.proofs.Keys.{Keyed, seen-repeats}
-
--- what follows counts where the values are sound
-or-same : {x y : LineFinding} (f : Finding) → (f ≡ found.Sound → x ≡ y) → orFinding f x ≡ orFinding f y
-unfolding orFinding
-or-same found.Sound h = h refl
-or-same (found.OutOfRange c) h = refl
-or-same (found.Disagreement c) h = refl
-
-pub sound-case : (f : Finding) (next : LineFinding) → orFinding f next ≡ Sound → f ≡ found.Sound
-unfolding orFinding
-sound-case found.Sound next e = refl
-sound-case (found.OutOfRange c) next e = clash cc
-sound-case (found.Disagreement c) next e = clash cc
-
-module _ {form : Form} {order line row : List ℕ} {c : ℕ} (at : List ℕ) (l : LineValues (length form) order line c row) where
-  pub judged-form : (earlier : List (List ℕ)) → (c ≡ 0 → ⊥) → Checks form at earlier line (WrongForm c) row
-  unfolding lineFinding
-  judged-form earlier h =
-      record { found-is = rw (← l .wrong-is, ne-eqb c 0 h); row-is = λ e. clash cc; count = l .count; keyable = λ e. clash cc }
-
-  pub judged-values : {f : LineFinding} (keys : List ℕ) (n : ℕ) → Keyed form
-      → (finding form at row ≡ found.Sound → Keyable (getD row 0 0) (getD row 1 0)) → c ≡ 0 → row ≡ lineValues at (fieldsOf line)
-      → f ≡ orFinding (finding form at row) (cond (seenIn (packed (getD row 0 0) (getD row 1 0)) keys n) Repeated Sound)
-      → Checks form at (keysOf keys n) line f row
-  unfolding lineFinding
-  judged-values keys n keyed fits h p q =
-      record {
-        found-is =
-            rw (← l .wrong-is, eq-eqb c 0 h, ← p) (q ∙ or-same (finding form at row)
-            (λ e. rw (seen-repeats keyed row keys n (fits e .season-few))));
-        row-is = λ e. p;
-        count = l .count;
-        keyable = λ e. fits (sound-case (finding form at row) _ (sym q ∙ e));
-      }
-
--- ---- what the refusal of a line says of its finding
+use mathlib.Core.Path.{_≡_, refl, sym, _∙_}
+use Rattle.text.proofs.Clash.{clash}
+use Rattle.line_finding.specs.declared.LineFinding.{LineFinding}
+use Rattle.line_finding.specs.declared.LineFinding.the-variants.{Sound, Form as WrongForm, OutOfRange, Disagreement, Repeated}
+use Rattle.judgement.specs.{declared.Judgement.{Judgement, the-variants.{Lines, Refused}}, Refusal.{lineJudgement}}
 
 -- a refused line is refused whatever follows
 pub refused-line : {k l c : ℕ} {a : Judgement} (n : ℕ) (sound : Judgement) (f : LineFinding) → a ≡ lineJudgement n (Lines 0) f

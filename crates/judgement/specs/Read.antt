@@ -3,16 +3,24 @@ use Prim.Native.Nat.{ℕ, _<_}
 use mathlib.Core.{Path.{_≡_}, List.{List, []}}
 use lib.ListN.{length, getD}
 use Rattle.text.specs.Text.{fieldsOf}
-use Rattle.tables.specs.Parts.{partAt}
+use Rattle.tables.specs.Parts.{partAt, Written}
 use Rattle.case.specs.Columns.{Form}
 use Rattle.header.specs.Header.{columnsOf}
 use Rattle.line.specs.Line.{lineValues}
+use Rattle.line_finding.specs.{declared.LineFinding.{LineFinding}, Parts.{Checks}}
 use Rattle.judgement.specs.{declared.Judgement.{Judgement, the-variants.{Lines}}, Limits.{today}}
 use Rattle.judgement.specs.Sheet.{names, valueLines, linesJudgement, valuesJudgement, judgement}
 
 -- the values of some lines stand one after the other in a store, each line's in the order of the form
 abbrev pub Stored : Form → List ℕ → List (List ℕ) → List ℕ → Type 0
 Stored form at lines store = (i : ℕ) → i < length lines → partAt (length form) store i ≡ lineValues at (fieldsOf (getD lines i []))
+
+-- what the checks of a line find, with its values as part n of a store
+pub record LineStored (form : Form) (at : List ℕ) (earlier : List (List ℕ)) (line : List ℕ) (n : ℕ) (before after : List ℕ)
+    (found : LineFinding) : Type 0 where
+  pub row : List ℕ
+  pub checks : Checks form at earlier line found row
+  pub written : Written (length form) n row before after
 
 -- value lines with the columns of their names, judged line by line
 pub record LinesRead (form : Form) (at : List ℕ) (lines : List (List ℕ)) (sound : Judgement) (before after : List ℕ) (r : Judgement) : Type

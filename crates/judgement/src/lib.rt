@@ -1,5 +1,4 @@
 // The reading of a sheet: how many value lines it has, and their values, or why it is refused.
-mod check;
 mod pass;
 
 ghost use mathlib.Core.Path.{_≡_};
@@ -46,15 +45,6 @@ pub const WRONG_LINE_COUNT: u32 = 4;
 pub enum Judgement {
     Lines(usize),
     Refused(u32, usize, usize),
-}
-
-// What the checks of a value line find, with the column at fault.
-pub enum LineFinding {
-    Sound,
-    Form(usize),
-    OutOfRange(usize),
-    Disagreement(usize),
-    Repeated,
 }
 
 // Refusal 1.

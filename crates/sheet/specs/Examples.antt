@@ -9,7 +9,7 @@ use Rattle.header.specs.Header.{noColumns, fresh, wrongName, columnsFrom, colum
 use Rattle.line.specs.Line.{wrongForm, lineValues, lineCase}
 use Rattle.judgement.specs.declared.Judgement.the-variants as judged
 use Rattle.judgement.specs.Refusal.{textRefused, nameRefused, noLineRefused, manyLinesRefused, lineJudgement}
-use Rattle.judgement.specs.Findings.{orFinding, sameKey, repeats, lineFinding}
+use Rattle.line_finding.specs.Findings.{orFinding, sameKey, repeats, lineFinding}
 use Rattle.judgement.specs.Sheet.{names, valueLines, badText, linesJudgement, valuesJudgement, namesJudgement, judgementWithin, judgement}
 use Rattle.sheet.specs.{declared.Answer.{Answer, the-variants.{Rows, Refused}}, Answer.{cases, tableRefused, answerBy, answer}}
 

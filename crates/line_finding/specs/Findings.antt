@@ -5,8 +5,8 @@ use lib.{Dec.{eqb}, ListN.{length}}
 use Rattle.case.specs.{declared.Finding.{Finding}, Columns.{Form, named}, Check.{finding}}
 use Rattle.case.specs.declared.Finding.the-variants as found
 use Rattle.line.specs.Line.{wrongForm, lineValues}
-use Rattle.judgement.specs.declared.LineFinding.{LineFinding}
-use Rattle.judgement.specs.declared.LineFinding.the-variants.{Sound, Form as WrongForm, OutOfRange, Disagreement, Repeated}
+use Rattle.line_finding.specs.declared.LineFinding.{LineFinding}
+use Rattle.line_finding.specs.declared.LineFinding.the-variants.{Sound, Form as WrongForm, OutOfRange, Disagreement, Repeated}
 
 -- 5 and 6, or what follows where the values are sound
 unfoldable pub orFinding : Finding → LineFinding → LineFinding

@@ -1,12 +1,11 @@
--- What the parts of judging a sheet promise.
+-- What the checks of a value line promise.
 use Prim.Native.Nat.{ℕ, zero, suc, _+_, _*_, _/_, _%_, _^_, _<_}
 use mathlib.Core.{Path.{_≡_}, Bool.{Bool, false, _||_}, List.{List, [], _∷_}}
 use lib.{Dec.{eqb}, ListN.{length, getD}}
 use Rattle.text.specs.Text.{fieldsOf}
-use Rattle.tables.specs.Parts.{Written}
 use Rattle.case.specs.Columns.{Form}
 use Rattle.line.specs.Line.{lineValues}
-use Rattle.judgement.specs.{declared.LineFinding.{LineFinding, the-variants.{Sound}}, Findings.{lineFinding}}
+use Rattle.line_finding.specs.{declared.LineFinding.{the-variants.{Sound}, LineFinding}, Findings.{lineFinding}}
 
 -- values of which only station and season, the first two, are kept
 unfoldable pub keyOf : ℕ → ℕ → List ℕ
@@ -37,10 +36,3 @@ pub record Checks (form : Form) (at : List ℕ) (earlier : List (List ℕ)) (lin
   pub row-is : found ≡ Sound → row ≡ lineValues at (fieldsOf line)
   pub count : length row ≡ length form
   pub keyable : found ≡ Sound → Keyable (getD row 0 0) (getD row 1 0)
-
--- the same, with its values as part n of a store
-pub record LineStored (form : Form) (at : List ℕ) (earlier : List (List ℕ)) (line : List ℕ) (n : ℕ) (before after : List ℕ)
-    (found : LineFinding) : Type 0 where
-  pub row : List ℕ
-  pub checks : Checks form at earlier line found row
-  pub written : Written (length form) n row before after

@@ -6,9 +6,9 @@ use borrow.Author.Tests.{eqb-true, eqb-false}
 use Rattle.case.specs.{declared.Finding.{Finding}, Columns.{Form, named}, Check.{outOfRange, agree, disagreement, finding}}
 use Rattle.case.specs.declared.Finding.the-variants as found
 use Rattle.line.specs.Line.{wrongForm, lineValues}
-use Rattle.judgement.specs.declared.LineFinding.{LineFinding}
-use Rattle.judgement.specs.declared.LineFinding.the-variants.{Sound, Form as WrongForm, OutOfRange, Disagreement, Repeated}
-use Rattle.judgement.specs.Findings.{orFinding, repeats, lineFinding}
+use Rattle.line_finding.specs.declared.LineFinding.{LineFinding}
+use Rattle.line_finding.specs.declared.LineFinding.the-variants.{Sound, Form as WrongForm, OutOfRange, Disagreement, Repeated}
+use Rattle.line_finding.specs.Findings.{orFinding, repeats, lineFinding}
 
 module _ (form : Form) where
   -- "layer and thick are both 0 (bare soil) or both not 0. rods, rodlen and place are all 0 or all not 0."

@@ -1,11 +1,11 @@
--- `judgement::check::values_finding` meets its contract, by what the checks of the values find.
+-- `values_finding` meets its contract, by what the checks of the values find.
 use mathlib.Core.Path.{sym, _∙_}
 use native.Mathlib.Omega.{arith}
 use borrow.Author.Needs.{needs}
 use Rattle.case.proofs.Findings.{rods-place}
-use Rattle.judgement.specs.Findings.{orFinding}
-use Rattle.judgement.proofs.{Keys.{key-fits}, check.values_finding.Statement.{statement}}
-use Rattle.judgement.proofs.check.values_finding.Tie as tie
+use Rattle.line_finding.specs.Findings.{orFinding}
+use Rattle.line_finding.proofs.{Keys.{key-fits}, values_finding.Statement.{statement}}
+use Rattle.line_finding.proofs.values_finding.Tie as tie
 
 shared-slice-read-key : tie.Need-shared-slice-read-key
 shared-slice-read-key c =

@@ -1,9 +1,9 @@
--- `judgement::check::key` meets its contract: the number fits.
+-- `key` meets its contract: the number fits.
 use mathlib.Core.Path.{refl}
 use borrow.Author.Needs.{needs}
-use Rattle.judgement.specs.Parts.{packed}
-use Rattle.judgement.proofs.check.key.Statement.{statement}
-use Rattle.judgement.proofs.check.key.Tie as tie
+use Rattle.line_finding.specs.Parts.{packed}
+use Rattle.line_finding.proofs.key.Statement.{statement}
+use Rattle.line_finding.proofs.key.Tie as tie
 
 returns : tie.Need-returns
 unfolding packed

@@ -10,7 +10,7 @@ use Rattle.case.specs.declared.Form.{Form as CodeForm, the-variants.{Present, F
 use Rattle.case.specs.{Columns.{Form, columns, formerColumns, nameIndex, named, inRange}, Check.{outOfRange, disagreement, finding}}
 use Rattle.case.{specs.{Bounds.{Placed}, Parts.{formOf, rangeAt}}, proofs.Ranges.{in-range, in-range-at, some-columns}}
 use Rattle.case.specs.declared.Finding.the-variants as found
-use Rattle.judgement.specs.{Findings.{sameKey, repeats, lineFinding}, Parts.{keyOf, Keyable, packed, keysOf, seenIn}}
+use Rattle.line_finding.specs.{Findings.{sameKey, repeats, lineFinding}, Parts.{keyOf, Keyable, packed, keysOf, seenIn}}
 
 -- a form whose first two names are station and season
 pub record Keyed (form : Form) : Type 0 where

@@ -1,10 +1,10 @@
--- `judgement::check::check_line` meets its contract, by the laws of proofs/LineJudged.antt.
+-- `check_line` meets its contract, by the laws of proofs/LineChecked.antt.
 use lib.ListN.{length}
 use Rattle.case.{specs.Parts.{formOf}, proofs.Order.{distinct}}
 use Rattle.line.{specs.Parts.{LineValues}, proofs.Arranging.{arranged}}
-use Rattle.judgement.proofs.{Keys.{form-keyed, key-fits}, LineJudged.{judged-form, judged-values}}
-use Rattle.judgement.proofs.check.check_line.Statement.{statement}
-use Rattle.judgement.proofs.check.check_line.Tie as tie
+use Rattle.line_finding.proofs.{Keys.{form-keyed, key-fits}, LineChecked.{judged-form, judged-values}}
+use Rattle.line_finding.proofs.check_line.Statement.{statement}
+use Rattle.line_finding.proofs.check_line.Tie as tie
 
 read-values-requires : tie.Need-read-values-requires
 read-values-requires c κs = let s = c .before .before .before .before .before .before in rw (s .pre .1 .1 .1) (distinct (s .pre .1 .0))

@@ -7,13 +7,21 @@ ghost use Rattle.case.specs.Check.{finding};
 ghost use Rattle.case.specs.Bounds.{Placed};
 ghost use Rattle.case.specs.Order.{Ordered};
 ghost use Rattle.case.specs.Parts.{formOf};
-ghost use Rattle.judgement.specs.Findings.{orFinding};
-ghost use Rattle.judgement.specs.Parts.{Keyable, packed, keysOf, seenIn, Checks};
-use crate::LineFinding;
+ghost use Rattle.line_finding.specs.Findings.{orFinding};
+ghost use Rattle.line_finding.specs.Parts.{Keyable, packed, keysOf, seenIn, Checks};
 use case::Finding;
 use case::Form;
 use case::check_values;
 use line::read_values;
+
+// What the checks of a value line find, with the column at fault.
+pub enum LineFinding {
+    Sound,
+    Form(usize),
+    OutOfRange(usize),
+    Disagreement(usize),
+    Repeated,
+}
 
 // Station and season in one number.
 pub fn key(station: u32, season: u32) -> u32

@@ -1,9 +1,9 @@
--- `judgement::check::seen` meets its contract: the search of proofs/Keys.antt.
+-- `seen` meets its contract: the search of proofs/Keys.antt.
 use Prim.Native.Nat.{_-_}
 use native.Mathlib.Omega.{arith}
 use borrow.Author.Needs.{needs}
-use Rattle.judgement.proofs.{Keys.{Seeking, seeking-start, seeking-step, seeking-end}, check.seen.Statement.{statement}}
-use Rattle.judgement.proofs.check.seen.Tie as tie
+use Rattle.line_finding.proofs.{Keys.{Seeking, seeking-start, seeking-step, seeking-end}, seen.Statement.{statement}}
+use Rattle.line_finding.proofs.seen.Tie as tie
 
 abbrev Inv-loop : tie.InvT-loop
 Inv-loop keys n key found₀ j₀ found j = Seeking key keys n found j
