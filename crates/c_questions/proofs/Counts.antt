@@ -18,7 +18,8 @@ use Rattle.release.specs.declared.{licence.Wrong.{Wrong, the-variants.{At, Noth
 use Rattle.release.specs.{Licence.{pairsOf, badCount, firstWrong}, Pair.{pairLength}}
 use Rattle.release.specs.Answer.{roomAnswer, afterPairs, licenceAnswer, afterSheet, releaseAnswer, ReleaseAnswered}
 use Rattle.release.specs.declared.Released.the-variants as released
-use Rattle.conversion.{specs.{declared.Carried.{Carried}, Values.{other}, Sheet.{casesIn}}, proofs.RoundTrip.{carried-short}}
+use Rattle.conversion.{specs.declared.Carried.{Carried}, proofs.RoundTrip.{carried-short}}
+use Rattle.carried_values.specs.{Values.{other, casesIn}, Changes.{changes}}
 use Rattle.conversion.specs.declared.Carried.the-variants as carried
 use Rattle.conversion.specs.Answer as conversion
 use Rattle.c_tell.specs.Room.{Few}
@@ -116,7 +117,7 @@ module _ (form : Form) (s : List ℕ) where
   pub bytes-few : {before after : List ℕ} (a : Carried) → conversion.Answered form s before after a → Few (byteCount a)
   unfolding Few byteCount conversion.answer
   bytes-few {before} (carried.Bytes k) p =
-      let changed = conversion.changes form (casesIn (formOf (other form)) s) in
+      let changed = changes form (casesIn (formOf (other form)) s) in
       let next = conversion.refusedOr changed (conversion.roomAnswer text (length before)) in
       let e = refused-or (judgement (formOf (other form)) s) next k (p .answer-is) in
       let z = room-bytes (length before) k (refused-or changed (conversion.roomAnswer text (length before)) k e) in

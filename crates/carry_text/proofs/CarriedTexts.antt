@@ -7,9 +7,9 @@ use borrow.Author.Tests.{le-ltb}
 use Rattle.case.specs.{declared.Form.{Form}, Parts.{formOf}}
 use Rattle.judgement.specs.{declared.Judgement.{Judgement, the-variants.{Lines, Refused}}, Limits.{mostBytes}, Sheet.{judgement}}
 use Rattle.writing.specs.Put.{Put}
-use Rattle.conversion.specs.{declared.Carried.{Carried}, Values.{other}, Sheet.{casesIn}}
-use Rattle.conversion.specs.Answer.{changes, carriedText, roomAnswer, refusedOr, answer, bufferAfter, Answered}
+use Rattle.conversion.specs.{declared.Carried.{Carried}, Answer.{carriedText, roomAnswer, refusedOr, answer, bufferAfter, Answered}}
 use Rattle.conversion.proofs.RoundTrip.{carried-short}
+use Rattle.carried_values.specs.{Values.{other, casesIn}, Changes.{changes}}
 use Rattle.conversion.specs.declared.Carried.the-variants as carried
 use Rattle.fields.{specs.Refusal.{refusedText, unlessRefused}, proofs.Refusals.{answer-fits}}
 use Rattle.carry_text.specs.Carried.{carryText}

@@ -5,7 +5,8 @@ use Prim.Native.Nat.{ℕ}
 use mathlib.Core.List.{List}
 use Rattle.case.specs.{declared.Form.{Form}, Parts.{formOf}}
 use Rattle.judgement.specs.Sheet.{judgement}
-use Rattle.conversion.specs.{Values.{other}, Sheet.{casesIn}, Answer.{changes, carriedText}}
+use Rattle.carried_values.specs.{Values.{other, casesIn}, Changes.{changes}}
+use Rattle.conversion.specs.Answer.{carriedText}
 use Rattle.fields.specs.Refusal.{unlessRefused}
 
 unfoldable pub carryText : Form → List ℕ → List ℕ

@@ -13,7 +13,8 @@ use Rattle.stations.specs.declared.Summed.{Summed}
 use Rattle.stations.specs.declared.Summed.the-variants as summed
 use Rattle.release.specs.declared.Released.{Released}
 use Rattle.release.specs.declared.Released.the-variants as released
-use Rattle.conversion.specs.{declared.Carried.{Carried}, Values.{other}}
+use Rattle.conversion.specs.declared.Carried.{Carried}
+use Rattle.carried_values.specs.Values.{other}
 use Rattle.conversion.specs.declared.Carried.the-variants as carried
 use Rattle.c_tell.specs.{Answer.{signedAnswer}, Place.{placeAfter}, Told.{Told}}
 use Rattle.c_counts.specs.Counts.{stationCount, pairCount, byteCount}

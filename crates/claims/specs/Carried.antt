@@ -6,8 +6,8 @@ use Rattle.case.specs.{declared.Form.{Form, the-variants.{Present, Former}}, Co
 use Rattle.formulas.proofs.Tables.{Every}
 use Rattle.judgement.specs.declared.Judgement.the-variants as judged
 use Rattle.judgement.specs.Sheet.{names, judgement}
-use Rattle.conversion.specs.{declared.Carried.{Carried, the-variants.{Bytes, Refused}}, Values.{other}, Sheet.{casesIn}}
-use Rattle.conversion.specs.Answer.{carriedText}
+use Rattle.conversion.specs.{declared.Carried.{the-variants.{Bytes, Refused}, Carried}, Answer.{carriedText}}
+use Rattle.carried_values.specs.Values.{other, casesIn}
 
 -- a sheet passes all checks of a form with so many value lines, or is refused by them
 abbrev pub AcceptedIn : Form → List ℕ → ℕ → Type 0

@@ -1,9 +1,4 @@
-pub mod LineChanges
-pub mod Converting
-pub mod NamesLine
-pub mod Soundness
-pub mod SoundCases
-pub mod Answers
+mod NamesLine
+mod Answers
 pub mod ReadsBack
-pub mod Restored
 pub mod RoundTrip

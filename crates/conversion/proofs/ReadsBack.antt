@@ -19,9 +19,10 @@ use Rattle.line_finding.specs.declared.LineFinding.the-variants as line
 use Rattle.writing.specs.{Decimal.{decimal}, Text.{moreFields, parted, ended, textOf, valueLine, sheetText, lacks, allLack, allValues}}
 use Rattle.writing.proofs.{Decimal.{decimal-is-value}, ReadBack.{both}, Sheet.{Names, sheet-lines, line-fields, line-numbers, sheet-back}}
 use Rattle.writing.proofs.Lengths.{sheet-most}
-use Rattle.conversion.specs.Sheet.{casesIn, sheetOf}
-use Rattle.conversion.proofs.{NamesLine.{some-names}, Soundness.{Sound, sound-small, values-sound}}
-use Rattle.conversion.proofs.SoundCases.{SoundCases, all-lines}
+use Rattle.carried_values.{specs.Values.{casesIn}, proofs.Soundness.{Sound, sound-small, values-sound}}
+use Rattle.carried_values.proofs.SoundCases.{SoundCases, all-lines}
+use Rattle.conversion.specs.Sheet.{sheetOf}
+use Rattle.conversion.proofs.NamesLine.{some-names}
 
 -- ---- the line of names
 

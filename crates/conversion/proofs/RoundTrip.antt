@@ -7,9 +7,10 @@ use lib.ListN.{length, length-map}
 use Rattle.case.specs.{declared.Form.{Form, the-variants.{Present, Former}}, Parts.{formOf}}
 use Rattle.judgement.specs.{declared.Judgement.the-variants.{Lines}, Limits.{mostBytes}, Sheet.{names, judgement}, Accepted.{Accepted}}
 use Rattle.judgement.proofs.{Accepted.{accepted}, StoredLines.{values-count}}
-use Rattle.conversion.specs.{Values.{other, carried}, Sheet.{casesIn}, Answer.{changes, carriedText}}
-use Rattle.conversion.proofs.SoundCases.{SoundCases, accepted-cases, carried-cases}
-use Rattle.conversion.proofs.{ReadsBack.{names-are, text-short, cases-back, accepted-back}, Restored.{restored, nothing-left-out}}
+use Rattle.carried_values.specs.{Values.{other, carried, casesIn}, Changes.{changes}}
+use Rattle.carried_values.proofs.{SoundCases.{SoundCases, accepted-cases, carried-cases}, Restored.{restored, nothing-left-out}}
+use Rattle.conversion.specs.Answer.{carriedText}
+use Rattle.conversion.proofs.ReadsBack.{names-are, text-short, cases-back, accepted-back}
 
 other-twice : (form : Form) → other (other form) ≡ form
 unfolding other

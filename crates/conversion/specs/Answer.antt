@@ -1,34 +1,12 @@
 -- What a sheet carried over is, or why it is refused. Document 02 (e).
-use Prim.Native.Nat.{ℕ, suc}
-use mathlib.Core.{Path.{_≡_}, Bool.{cond, _&&_}, List.{List, [], _∷_, _++_, map}}
-use lib.{Dec.{eqb, ltb}, ListN.{length, drop}}
-use Rattle.case.specs.{declared.Form.{Form, the-variants.{Present, Former}}, Columns.{columns, named}, Parts.{formOf}}
+use Prim.Native.Nat.{ℕ}
+use mathlib.Core.{Path.{_≡_}, Bool.{cond}, List.{List, _++_, map}}
+use lib.{Dec.{ltb}, ListN.{length, drop}}
+use Rattle.case.specs.{declared.Form.{Form}, Parts.{formOf}}
 use Rattle.judgement.specs.{declared.Judgement.{Judgement}, Sheet.{judgement}}
 use Rattle.judgement.specs.declared.Judgement.the-variants as judged
-use Rattle.conversion.specs.{declared.Carried.{Carried, the-variants.{Bytes, Refused}}, Values.{other, carried}}
-use Rattle.conversion.specs.Sheet.{casesIn, sheetOf}
-
--- ---- "On the way back a line is then refused, with its line and column 0"
-
--- "9 when its three times are not equal; 10 when across and along differ; 11 when hz is not 60; in that order on each line", or what
--- follows
-unfoldable pub lineChange : ℕ → Judgement → List ℕ → Judgement
-lineChange line next v =
-    cond (eqb (named columns v "shock") (named columns v "clear") && eqb (named columns v "clear") (named columns v "wire"))
-    (cond (eqb (named columns v "across") (named columns v "along"))
-    (cond (eqb (named columns v "hz") 60) next (judged.Refused 11 line 0))
-    (judged.Refused 10 line 0))
-    (judged.Refused 9 line 0)
-
--- line by line from a line on; no lines where there is no such refusal
-unfoldable pub changesFrom : ℕ → List (List ℕ) → Judgement
-changesFrom line [] = judged.Lines 0
-changesFrom line (v ∷ vs) = lineChange line (changesFrom (suc line) vs) v
-
--- on the way to a form
-unfoldable pub changes : Form → List (List ℕ) → Judgement
-changes Present vs = judged.Lines 0
-changes Former vs = changesFrom 2 vs
+use Rattle.conversion.specs.{declared.Carried.{Carried, the-variants.{Bytes, Refused}}, Sheet.{sheetOf}}
+use Rattle.carried_values.specs.{Values.{other, carried, casesIn}, Changes.{changes}}
 
 -- ---- the answer, for a buffer of this length
 

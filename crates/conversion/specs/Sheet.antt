@@ -1,16 +1,8 @@
 -- A sheet of cases, each as its values in the order of a form.
 use Prim.Native.Nat.{ℕ}
 use mathlib.Core.List.{List, map}
-use Rattle.text.specs.Text.{fieldsOf}
 use Rattle.case.specs.Columns.{Form}
-use Rattle.header.specs.Header.{columnsOf}
-use Rattle.line.specs.Line.{lineValues}
-use Rattle.judgement.specs.Sheet.{names, valueLines}
 use Rattle.writing.specs.Text.{parted, ended, sheetText}
-
--- the cases of a sheet, in their order
-unfoldable pub casesIn : Form → List ℕ → List (List ℕ)
-casesIn form s = map (λ line. lineValues (columnsOf form (names s)) (fieldsOf line)) (valueLines s)
 
 -- the line of names of a form, with its byte 10
 unfoldable pub namesLine : Form → List ℕ

@@ -1,7 +1,5 @@
 // Sheets of document 01's own names carried over to those of today, and back. Document 02 (e).
-mod changes;
 mod names;
-mod values;
 
 ghost use Rattle.case.specs.declared.Form.the-variants.{Present, Former};
 ghost use Rattle.case.specs.Parts.{formOf};
@@ -11,21 +9,21 @@ ghost use lib.ListN.{length};
 ghost use Rattle.tables.specs.Parts.{partsOf};
 ghost use Rattle.judgement.specs.Limits.{mostLines};
 ghost use Rattle.writing.specs.Put.{WrittenFirst};
-ghost use Rattle.conversion.specs.Values.{other};
+ghost use Rattle.carried_values.specs.Values.{other};
 ghost use Rattle.writing.specs.Text.{allLines};
 ghost use mathlib.Core.Bool.{true};
 ghost use Rattle.conversion.specs.Sheet.{sheetOf};
 ghost use Rattle.conversion.specs.Answer.{Answered};
+use carried_values::convert;
+use carried_values::first_change;
+use carried_values::other_form;
 use case::Form;
 use case::name_count;
-use changes::first_change;
 use judgement::Judgement;
 use judgement::VALUES;
 use judgement::read;
 use names::NAMES_BYTES;
 use names::put_names;
-use values::convert;
-use values::other_form;
 use writing::Written;
 use writing::write_sheet;
 

@@ -12,8 +12,9 @@ use Rattle.judgement.{specs.{Sheet.{names, valueLines, judgement}, Accepted.{Ac
 use Rattle.judgement.proofs.StoredLines.{stored-parts}
 use Rattle.header.specs.Header.{columnsOf}
 use Rattle.writing.{specs.{Put.{WrittenFirst}, Text.{allLines}}, proofs.Whole.{written-size}}
-use Rattle.conversion.specs.{Values.{other, carried}, Sheet.{casesIn, sheetOf}, Answer.{changes, carriedText}}
-use Rattle.conversion.proofs.SoundCases.{accepted-cases, carried-cases, all-lines}
+use Rattle.carried_values.specs.{Values.{other, carried, casesIn}, Changes.{changes}}
+use Rattle.carried_values.proofs.SoundCases.{accepted-cases, carried-cases, all-lines}
+use Rattle.conversion.specs.{Sheet.{sheetOf}, Answer.{carriedText}}
 use Rattle.conversion.proofs.Answers.{answered-source, answered-change, answered-short, answered-written}
 use Rattle.conversion.proofs.carry_to.Statement.{statement}
 use Rattle.conversion.proofs.carry_to.Tie as tie

@@ -1,0 +1,5 @@
+mod LineChanges
+mod Converting
+pub mod Soundness
+pub mod SoundCases
+pub mod Restored
