@@ -1,4 +1,5 @@
 mod LineChanges
+mod Places
 mod Converting
 pub mod Soundness
 pub mod SoundCases

@@ -13,7 +13,7 @@ use Rattle.case.specs.{Check.{leftOf, outOfRange, agree, disagreement, finding}
 use Rattle.case.proofs.Ranges.{InRange, in-range, in-range-at, some-columns}
 use Rattle.case.specs.declared.Finding.the-variants as found
 use Rattle.writing.specs.Text.{allValues}
-use Rattle.carried_values.specs.Values.{other, presentValues, formerValues, carried}
+use Rattle.carried_values.specs.{Values.{other, presentValues, formerValues, carried}, Parts.{placesIn}}
 
 -- which values must agree
 unfoldable pub agreeing : Form → List ℕ → Bool
@@ -132,11 +132,6 @@ picked-in-range source v at (c ∷ form) more (p ∷ places) w e r =
     let q : rangeAt source p ≡ c .range = cc in
     (rw (← q) (at p), picked-in-range source v at form more places w (cc) r)
 
--- where the values of a form, but hz, stand among those of the other
-placesIn : CodeForm → List ℕ
-placesIn Present = 0 ∷ 1 ∷ 2 ∷ 3 ∷ 4 ∷ 5 ∷ 5 ∷ 5 ∷ 6 ∷ 7 ∷ 8 ∷ 9 ∷ 10 ∷ 10 ∷ 11 ∷ 12 ∷ 13 ∷ 14 ∷ 15 ∷ 16 ∷ 17 ∷ []
-placesIn Former = 0 ∷ 1 ∷ 2 ∷ 3 ∷ 4 ∷ 5 ∷ 8 ∷ 9 ∷ 10 ∷ 11 ∷ 12 ∷ 14 ∷ 15 ∷ 16 ∷ 17 ∷ 18 ∷ 19 ∷ 20 ∷ []
-
 pub carried-sound : (form : CodeForm) (v : List ℕ) → Sound (formOf (other form)) v → Sound (formOf form) (carried form v)
 unfolding formOf other carried presentValues formerValues columns formerColumns agreeing named nameIndex same rangeAt inRange placesIn
 carried-sound Present v s =
@@ -144,7 +139,7 @@ carried-sound Present v s =
     record {
       count = refl;
       ranges =
-          picked-in-range formerColumns v at (take 21 columns) (drop 21 columns) (placesIn Present) (drop 21 (carried Present v)) refl
+          picked-in-range formerColumns v at (take 21 columns) (drop 21 columns) (take 21 (placesIn Present)) (drop 21 (carried Present v)) refl
           (tt, tt);
       agrees = s .agrees;
     }

@@ -10,6 +10,7 @@ ghost use Rattle.carried_values.specs.Values.{other};
 ghost use Rattle.carried_values.specs.Changes.{lineChange};
 ghost use Rattle.carried_values.specs.Changes.{changesFrom};
 ghost use Rattle.carried_values.specs.Changes.{changes};
+use crate::FORMER_HZ;
 use case::Form;
 use case::NAMES;
 use judgement::Judgement;
@@ -48,7 +49,7 @@ fn line_change(line: usize, v: &[u32]) -> Judgement
     if v[ACROSS] != v[ALONG] {
         return Judgement::Refused(COUNTS_DIFFER, line, 0);
     }
-    if v[HZ] != 60 {
+    if v[HZ] != FORMER_HZ {
         return Judgement::Refused(OTHER_FREQUENCY, line, 0);
     }
     Judgement::Lines(0)

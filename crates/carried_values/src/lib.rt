@@ -5,3 +5,6 @@ mod values;
 pub use changes::first_change;
 pub use values::convert;
 pub use values::other_form;
+
+// The frequency of every case in document 01's own form.
+const FORMER_HZ: u32 = 60;

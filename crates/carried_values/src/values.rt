@@ -1,14 +1,11 @@
 // The values of a case in the other form.
 ghost use mathlib.Core.Path.{_≡_};
-ghost use mathlib.Core.List.{map};
-ghost use Prim.Native.Nat.{_*_, _≤_};
-ghost use lib.ListN.{length};
-ghost use Rattle.case.specs.declared.Form.the-variants.{Present, Former};
-ghost use Rattle.case.specs.Columns.{nameCount, formerNameCount};
+ghost use Prim.Native.Nat.{_*_, _≤_, _<_};
+ghost use lib.ListN.{length, getD};
 ghost use Rattle.case.specs.Parts.{formOf};
-ghost use Rattle.tables.specs.Parts.{partsOf};
 ghost use Rattle.carried_values.specs.Values.{other, carried};
-ghost use Rattle.carried_values.specs.Parts.{Converted};
+ghost use Rattle.carried_values.specs.Parts.{placesIn, Converted};
+use crate::FORMER_HZ;
 use case::FORMER_NAMES;
 use case::Form;
 use case::NAMES;
@@ -23,75 +20,74 @@ pub fn other_form(form: Form) -> Form
     }
 }
 
-// Today's values of a case, from document 01's own: one time for the three, one count for both, 60 Hz.
-fn present_values(v: &[u32]) -> [u32; NAMES]
-    requires { ⌜ length (now v) ≡ formerNameCount ⌝ }
-    ensures { λ r. ⌜ r ≡ carried Present (now (v .entry)) ⌝ }
-{
-    let ms = v[5];
-    let lines = v[10];
-    [
-        v[0],
-        v[1],
-        v[2],
-        v[3],
-        v[4],
-        ms,
-        ms,
-        ms,
-        v[6],
-        v[7],
-        v[8],
-        v[9],
-        lines,
-        lines,
-        v[11],
-        v[12],
-        v[13],
-        v[14],
-        v[15],
-        v[16],
-        v[17],
-        60,
-    ]
-}
+// Where today's values stand among document 01's own: one time for the three, one count for both. The frequency stands nowhere, past the
+// last of them.
+const AMONG_FORMER: [usize; NAMES] = [
+    0,
+    1,
+    2,
+    3,
+    4,
+    5,
+    5,
+    5,
+    6,
+    7,
+    8,
+    9,
+    10,
+    10,
+    11,
+    12,
+    13,
+    14,
+    15,
+    16,
+    17,
+    18,
+];
 
-// Document 01's own values of a case, from today's.
-fn former_values(v: &[u32]) -> [u32; FORMER_NAMES]
-    requires { ⌜ length (now v) ≡ nameCount ⌝ }
-    ensures { λ r. ⌜ r ≡ carried Former (now (v .entry)) ⌝ }
-{
-    [
-        v[0],
-        v[1],
-        v[2],
-        v[3],
-        v[4],
-        v[5],
-        v[8],
-        v[9],
-        v[10],
-        v[11],
-        v[12],
-        v[14],
-        v[15],
-        v[16],
-        v[17],
-        v[18],
-        v[19],
-        v[20],
-    ]
-}
+// Where document 01's own values stand among today's.
+const AMONG_PRESENT: [usize; FORMER_NAMES] = [
+    0,
+    1,
+    2,
+    3,
+    4,
+    5,
+    8,
+    9,
+    10,
+    11,
+    12,
+    14,
+    15,
+    16,
+    17,
+    18,
+    19,
+    20,
+];
 
-fn copy(from: &[u32], to: &mut [u32])
-    requires { ⌜ length (now to) ≡ length (now from) ⌝ }
-    ensures { λ _. ⌜ now (to .exit) ≡ now (from .entry) ⌝ }
+// Where value k of a form stands among those of the other.
+fn source(form: Form, k: usize) -> usize
+    requires { ⌜ k < length (formOf form) ⌝ }
+    ensures { λ r. ⌜ r ≡ getD (placesIn form) k 0 ⌝ }
 {
-    let mut i: usize = 0;
-    while i < from.len() {
-        to[i] = from[i];
-        i += 1;
+    match form {
+        Form::Present => AMONG_FORMER[k],
+        Form::Former => AMONG_PRESENT[k],
     }
+}
+
+// Value k of a case in a form, from its values in the other.
+fn carried_value(form: Form, v: &[u32], k: usize) -> u32
+    requires { ⌜ length (now v) ≡ length (formOf (other form)) ⌝ }
+    requires { ⌜ k < length (formOf form) ⌝ }
+    ensures { λ r. ⌜ r ≡ getD (carried form (now (v .entry))) k 0 ⌝ }
+{
+    let p = source(form, k);
+    if p < v.len() { v[p] } else { FORMER_HZ }
 }
 
 // The values of a case in a form, from those in the other.
@@ -100,15 +96,10 @@ fn convert_line(form: Form, v: &[u32], row: &mut [u32])
     requires { ⌜ length (now row) ≡ length (formOf form) ⌝ }
     ensures { λ _. ⌜ now (row .exit) ≡ carried form (now (v .entry)) ⌝ }
 {
-    match form {
-        Form::Present => {
-            let a = present_values(v);
-            copy(&a, row);
-        }
-        Form::Former => {
-            let a = former_values(v);
-            copy(&a, row);
-        }
+    let mut k: usize = 0;
+    while k < row.len() {
+        row[k] = carried_value(form, v, k);
+        k += 1;
     }
 }
 
