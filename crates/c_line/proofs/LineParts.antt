@@ -4,7 +4,7 @@ use mathlib.Core.{Path.{_≡_, refl, sym, ap, _∙_}, List.{List, [], _∷_, _++
 use native.Mathlib.Omega.{arith}
 use lib.{IntN.{ℤ}, ListN.{length, drop, set}, Seq.{drop-length}}
 use mir.{Syntax.{w64}, Val.{SFits}, Facts.{toZ-ofZ}}
-use Rattle.interval.proofs.Bits.{read}
+use Rattle.whole.proofs.Bits.{read}
 use Rattle.text.proofs.Clash.{clash}
 use Rattle.case.{specs.{declared.Case.{Case}, Check.{recordAnswer}, Bounds.{Bounds}}, proofs.BoundsSound.{bounds-sound}}
 use Rattle.row.specs.{Row.{numbers}, Ends.{rowOf}}

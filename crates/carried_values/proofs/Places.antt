@@ -5,7 +5,7 @@ use native.Mathlib.Omega.{arith}
 use lib.{Dec.{ltb}, ListN.{length, getD}}
 use Rattle.text.specs.Text.{same}
 use Rattle.case.specs.{declared.Form.{Form, the-variants.{Present, Former}}, Parts.{formOf}}
-use Rattle.case.specs.Columns.{columns, formerColumns, nameIndex, named, name-count, former-name-count}
+use Rattle.case.specs.Columns.{columns, formerColumns, nameIndex, named}
 use Rattle.carried_values.specs.{Values.{other, presentValues, formerValues, carried}, Parts.{placesIn}}
 
 -- the value at a place, or 60 past the last

@@ -6,8 +6,8 @@ use lib.{Dec.{leb, eqb, le→leb, lt→ltb, lit≤}, IntN.{ℤ, pos, natAbs}, Li
 use lib.Signed.{_≤ℤ_, _<ℤ_, leZ-yes, ltZ-yes}
 use borrow.Author.Tests.{leb-true, leb-false, eqb-true, eqb-false}
 use Rattle.text.proofs.Clash.{clash}
-use Rattle.interval.specs.{declared.Interval.{Interval}, Operations.{natural}, Whole.{ceilDiv}}
-use Rattle.interval.proofs.Rounding.{ceilDiv-above, ceilDiv-by}
+use Rattle.interval.specs.{declared.Interval.{Interval}, Operations.{natural}}
+use Rattle.whole.{specs.Whole.{ceilDiv}, proofs.Rounding.{ceilDiv-above, ceilDiv-by}}
 use Rattle.exact.specs.{Exact.{AtOrBelow}, Reported.{ten}}
 use Rattle.readings.specs.declared.{outside.{Range.{Range}, Found.{Found, the-variants.{At, Nothing}}}, Sounding.{Sounding}}
 use Rattle.readings.specs.{declared.Sounding.the-variants.{Soil, Refused}, Reading.{Reading, pairsOf}}

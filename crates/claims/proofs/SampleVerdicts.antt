@@ -12,7 +12,8 @@ use Rattle.claims.proofs.VerdictNumbers.{number-unsafe}
 use Prim.Native.Nat.{ℕ, _≤_}
 use mathlib.Core.{Path.{_≡_, refl, ap, subst, _∙_}, List.{List}, Logic.{inl}}
 use native.Mathlib.Omega.{arith}
-use Rattle.interval.{specs.declared.Interval.{Interval}, proofs.Signed.{halves-le, lt-halves}}
+use Rattle.interval.specs.declared.Interval.{Interval}
+use Rattle.whole.proofs.Signed.{halves-le, lt-halves}
 use Rattle.exact.specs.{Fraction.{Fraction, _≤f_, whole, decimal, _+f_, _·f_, _÷f_}, Ends.{Ends}, Exact.{Exact, Holds}}
 use Rattle.exact.{specs.Reported.{reported, Reports}, proofs.{Order.{refl≤, trans≤}, Sums.{mono+}, Products.{mul-left≤}, Quotients.{div≤}}}
 use Rattle.formulas.specs.{Lengths.{ρ, LT}, Current.{IG}, Step.{LS}}

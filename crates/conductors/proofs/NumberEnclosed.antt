@@ -2,9 +2,9 @@
 use Prim.Native.Nat.{ℕ, _+_, _*_, _/_, _^_, _≤_, _<_}
 use mathlib.Core.Path.{_≡_, refl, ap}
 use native.Mathlib.{Omega.{arith}, Nat.{mul-div-mul-left, mul-le-mul-right, mul-lt-mul-of-pos-right, mul-pos as nat-pos}}
-use Rattle.interval.specs.{Root.{IsRoot}, Whole.{ceilDiv}, Operations.{natural, point, quotientOf}}
-use Rattle.interval.proofs.{Natural.{point-natural, natural-scaled, natural-outward, natural-quotient}, Choice.{pos≤}}
-use Rattle.interval.proofs.Rounding.{floorDiv-below, ceilDiv-above, ceilDiv-cancel}
+use Rattle.interval.specs.{Root.{IsRoot}, Operations.{natural, point, quotientOf}}
+use Rattle.interval.proofs.Natural.{point-natural, natural-scaled, natural-outward, natural-quotient}
+use Rattle.whole.{specs.Whole.{ceilDiv}, proofs.{Choice.{pos≤}, Rounding.{floorDiv-below, ceilDiv-above, ceilDiv-cancel}}}
 use Rattle.exact.specs.{Fraction.{_≤f_, _<f_, _≈f_, whole, decimal, _+f_, _·f_, inv, _÷f_}, Exact.{exactly, _·x_, _÷x_}}
 use Rattle.exact.{specs.Reported.{ten, over}, proofs.{Powers.{square}, Order.{trans≤, refl≈, sym≈, trans≈, le-of-lt, whole-pos}}}
 use Rattle.exact.proofs.{Products.{cong·}, Quotients.{clamped}, Divisors.{cong÷, expand}}

@@ -3,7 +3,8 @@ use Prim.Native.Nat.{ℕ, _+_, _-_, _*_, _/_, _^_, _≤_, _<_}
 use mathlib.Core.{Path.{_≡_}, Bool.{Bool, true, false, cond}}
 use native.Mathlib.{Omega.{arith}, Nat.{mul-le-mul}}
 use lib.{Dec.{eqb}, IntN.{pos}}
-use Rattle.interval.specs.{Whole.{ceilDiv}, Operations.{natural, point, scaledOf}, Span.{Span}}
+use Rattle.whole.specs.Whole.{ceilDiv}
+use Rattle.interval.specs.{Operations.{natural, point, scaledOf}, Span.{Span}}
 use Rattle.interval.proofs.Natural.{point-natural, natural-sum, natural-scaled, natural-outward}
 use Rattle.interval.proofs.Span.{span-natural, span-wider, span-scaled}
 use Rattle.enclosure.proofs.SquareRoot.{square-root-is}

@@ -4,7 +4,8 @@ use Prim.Native.Nat.{ℕ, zero, suc, _+_, _-_, _*_, _/_, _^_, min, _≤_, _<_}
 use mathlib.Core.{Path.{_≡_}, Bool.{false, cond}, List.{List, [], _∷_}}
 use native.Mathlib.{Omega.{arith}, Decide.{decLe}}
 use lib.Dec.{eqb}
-use Rattle.interval.{specs.{Root.{IsRoot}, Whole.{ceilDiv}}, proofs.Rules.{Rule, _≼_, Kept}}
+use Rattle.interval.{specs.Root.{IsRoot}, proofs.Rules.{Rule, _≼_, Kept}}
+use Rattle.whole.specs.Whole.{ceilDiv}
 use Rattle.exact.specs.{Fraction.{choose}, Exponential.{leastFrom}}
 use Rattle.enclosure.specs.Pi.{πBelow, πAbove}
 use Rattle.logarithm.specs.{Series.{squareOf, powerOf, termOf, termsOf}, Ends.{doublings, nearOf, endOf}}

@@ -1,13 +1,11 @@
 // n, the effective number of parallel conductors, and Ki.
 ghost use mathlib.Core.Path.{_≡_};
-ghost use Prim.Native.Nat.{_<_};
 ghost use Rattle.interval.specs.Span.{Span};
-ghost use Rattle.enclosure.specs.SquareRoot.{squareRoot};
 ghost use Rattle.conductors.specs.Counts.{Counts, spacings, halfPerimeter as halfOf, meshes};
-ghost use Rattle.conductors.specs.Number.{ratioLow, ratioHigh, meshRoot, nbEnds, productEnds, nEnds, KiEnds};
+ghost use Rattle.conductors.specs.Number.{meshRoot, nbEnds, productEnds, nEnds, KiEnds};
 use interval::Interval;
 use interval::root::isqrt;
-use interval::wide;
+use whole::wide;
 
 const BILLION: u64 = 1000000000;
 

@@ -8,7 +8,6 @@ use Rattle.text.specs.Text.{linesOf, fieldsOf, same}
 use Rattle.case.specs.declared.Form.{Form as CodeForm, the-variants.{Present, Former}}
 use Rattle.case.specs.{Columns.{columns, formerColumns, nameCount, nameIndex}, Check.{countFrom}, Parts.{formOf}}
 use Rattle.case.proofs.{Findings.{form-most}, Values.{entries-from}}
-use Rattle.case.specs.declared.Finding.the-variants as found
 use Rattle.header.specs.Header.{noColumns, fresh, wrongName, columnsFrom, columnsOf}
 use Rattle.line.specs.Line.{wrongForm, lineValues}
 use Rattle.judgement.specs.{declared.Judgement.{the-variants.{Lines}, Judgement}, Limits.{today, mostBytes, mostLines}}

@@ -3,7 +3,7 @@ mod names;
 
 ghost use Rattle.case.specs.declared.Form.the-variants.{Present, Former};
 ghost use Rattle.case.specs.Parts.{formOf};
-ghost use Prim.Native.Nat.{_+_, _*_, _≤_};
+ghost use Prim.Native.Nat.{_*_, _≤_};
 ghost use mathlib.Core.Path.{_≡_};
 ghost use lib.ListN.{length};
 ghost use Rattle.tables.specs.Parts.{partsOf};

@@ -3,8 +3,8 @@ use Prim.Native.Nat.{ℕ, _+_, _*_, _/_, _^_, _≤_, _<_}
 use mathlib.Core.Path.{refl}
 use native.Mathlib.{Omega.{arith}, Nat.{mul-le-mul, mul-le-mul-right}}
 use lib.{Dec.{lit<}, IntN.{pos}}
-use Rattle.interval.specs.{Whole.{ceilDiv}, Operations.{natural, scaledOf}, Span.{Span, Relative}}
-use Rattle.interval.proofs.{Natural.{natural-scaled, natural-outward}, Rounding.{floorDiv-above, ceilDiv-below}}
+use Rattle.whole.{specs.Whole.{ceilDiv}, proofs.Rounding.{floorDiv-above, ceilDiv-below}}
+use Rattle.interval.{specs.{Operations.{natural, scaledOf}, Span.{Span, Relative}}, proofs.Natural.{natural-scaled, natural-outward}}
 use Rattle.interval.proofs.{Span.{span-wider, span-scaled}, Rules.{lits}, NumeralSpans.{numeral-outward}}
 use Rattle.exact.specs.{Fraction.{_≈f_, whole, decimal, _+f_, neg, _−f_, _·f_}, Reported.{ten, over, reported, AtMost, Reports}}
 use Rattle.enclosure.{specs.Enclosure.{Encloses}, proofs.{Basics.{encloses-outward}, Multiples.{encloses-multiple}, Reporting.{reports}}}

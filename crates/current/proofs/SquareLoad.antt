@@ -3,7 +3,7 @@ use Prim.Native.Nat.{ℕ, _+_, _*_, _/_, _%_, _^_, _≤_, _<_}
 use mathlib.Core.Path.{_≡_}
 use native.Mathlib.{Omega.{arith}, Nat.{mul-le-mul, div-add-mod'}}
 use lib.Dec.{lit<}
-use Rattle.interval.proofs.Rounding.{ceilDiv-above, ceilDiv-below, ceilDiv-by}
+use Rattle.whole.proofs.Rounding.{ceilDiv-above, ceilDiv-below, ceilDiv-by}
 use Rattle.current.specs.Size.{carriedOf, squareOf, Parts, squareLoad}
 
 module _ (n below : ℕ) where

@@ -1,6 +1,6 @@
 -- How the conductor size is worked within 64 bits: the square of I·Kf times t, in units that lose nothing by rounding up.
 use Prim.Native.Nat.{ℕ, _+_, _*_, _/_, _%_, _≤_, _<_}
-use Rattle.interval.specs.Whole.{ceilDiv}
+use Rattle.whole.specs.Whole.{ceilDiv}
 
 -- a part of the square, and what is carried to it from the part below, over a million
 unfoldable pub carriedOf : ℕ → ℕ → ℕ

@@ -3,10 +3,10 @@ use Prim.Native.Nat.{ℕ, _+_, _*_, _/_, _^_, _≤_, _<_}
 use mathlib.Core.Path.{_≡_}
 use native.Mathlib.{Omega.{arith}, Nat.{mul-le-mul, mul-le-mul-left, mul-le-mul-right}}
 use lib.Dec.{lit≤, lit<}
-use Rattle.interval.specs.{Whole.{ceilDiv}, Operations.{natural}, Span.{Span}, Wide.{Wide}}
-use Rattle.interval.proofs.{Rounding.{floorDiv-below, floorDiv-above, ceilDiv-below, ceilDiv-by}, Natural.{natural-scaled, natural-product}}
+use Rattle.whole.{specs.Whole.{ceilDiv}, proofs.Rounding.{floorDiv-below, floorDiv-above, ceilDiv-below, ceilDiv-by}}
+use Rattle.interval.{specs.{Operations.{natural}, Span.{Span}, Wide.{Wide}}, proofs.Natural.{natural-scaled, natural-product}}
 use Rattle.interval.proofs.{Span.{floor≤ceil, span-natural, span-wider, span-scaled}, Relatives.{relative-ends, relative-span}}
-use Rattle.interval.proofs.WideProduct.{wide-fits}
+use Rattle.interval.proofs.WidePairs.{wide-fits}
 use Rattle.case.specs.{declared.Case.{Case}, Bounds.{Bounds}}
 use Rattle.current.{specs.Ends.{currentEnds}, proofs.GridCurrent.{current-span, current-relative}}
 use Rattle.lengths.specs.Lengths.{sideOf, conductorLength}

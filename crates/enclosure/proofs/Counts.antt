@@ -3,8 +3,8 @@ use Prim.Native.Nat.{ℕ, zero, suc, _*_, _<_}
 use mathlib.Core.Path.{_≡_, ap, sym, _∙_}
 use native.Mathlib.{Omega.{arith}, Nat.{mul-le-mul-right, le-of-mul-le-mul-right}}
 use lib.{IntN.{ℤ, pos, _*ℤ_}, Signed.{_≤ℤ_}}
-use Rattle.interval.{specs.{Signed.{plus, minus}, Whole.{floorZ, ceilZ}}, proofs.Signed.{scale-plus, scale-minus, halves-le}}
-use Rattle.interval.proofs.Rounding.{ceil-above}
+use Rattle.whole.{specs.{Signed.{plus, minus}, Whole.{floorZ, ceilZ}}, proofs.Signed.{scale-plus, scale-minus, halves-le}}
+use Rattle.whole.proofs.Rounding.{ceil-above}
 use Rattle.exact.{specs.{Fraction.{Fraction, _≤f_, _≈f_, whole, decimal, _·f_}, Reported.{Scale, ten, over}}, proofs.Order.{sym≈, trans≈}}
 use Rattle.exact.proofs.{Products.{cong·}, Reported.{scaleProduct, over-down, over-mul}}
 

@@ -3,8 +3,8 @@ use Prim.Native.Nat.{ℕ, _*_}
 use mathlib.Core.Path.{_≡_, ap}
 use native.Mathlib.Omega.{arith}
 use lib.{Dec.{lit≤}, IntN.{ℤ, pos, _*ℤ_}}
-use Rattle.interval.specs.{Signed.{plus, minus}, Operations.{scaledOf}, declared.Interval.{Interval}}
-use Rattle.interval.proofs.Signed.{scale-plus, scale-minus}
+use Rattle.whole.{specs.Signed.{plus, minus}, proofs.Signed.{scale-plus, scale-minus}}
+use Rattle.interval.specs.{Operations.{scaledOf}, declared.Interval.{Interval}}
 use Rattle.exact.specs.{Fraction.{Fraction, _≤f_, _≈f_, whole, _·f_}, Exact.{Exact, exactly, _·x_}, Depth.{workDepth, Consistent}}
 use Rattle.exact.{specs.Reported.{Scale, over, reported}, proofs.{Order.{trans≤, refl≈, sym≈, trans≈}, Products.{mul-left≤, cong·}}}
 use Rattle.exact.proofs.{Consistency.{proper-at}, Inclusion.{within-trans, within-same}, KnownEnds.{scaled-ends}}

@@ -3,10 +3,11 @@ use Prim.Native.Nat.{ℕ, _*_, _<_}
 use mathlib.Core.Path.{_≡_, sym, ap, _∙_, subst}
 use native.Mathlib.{Omega.{arith}, Nat.{mul-le-mul-right}}
 use lib.{Dec.{lit≤}, IntN.{ℤ, pos, natAbs, _*ℤ_}, Signed.{_≤ℤ_, _<ℤ_, pos-natAbs}}
-use Rattle.interval.specs.{Signed.{plus, minus}, Whole.{floorZ, ceilZ}, Operations.{quotientOf, hullOf, outwardOf, scaledOf}}
-use Rattle.interval.specs.declared.Interval.{Interval}
-use Rattle.interval.proofs.{Signed.{scale-plus, scale-minus, le-halves, halves-le, halves-lt, floor-below}, Rounding.{ceil-above}}
-use Rattle.interval.proofs.{Choice.{≤ℤ-trans, min-left, min-right, max-left, max-right}, Sizes.{size-positive, positive-natural}}
+use Rattle.whole.specs.{Signed.{plus, minus}, Whole.{floorZ, ceilZ}}
+use Rattle.whole.proofs.{Signed.{scale-plus, scale-minus, le-halves, halves-le, halves-lt, floor-below}, Rounding.{ceil-above}}
+use Rattle.whole.proofs.Choice.{≤ℤ-trans, min-left, min-right, max-left, max-right}
+use Rattle.interval.specs.{Operations.{quotientOf, hullOf, outwardOf, scaledOf}, declared.Interval.{Interval}}
+use Rattle.interval.proofs.Sizes.{size-positive, positive-natural}
 use Rattle.exact.specs.{Fraction.{_≤f_, _÷f_}, Ends.{_÷e_}, Exact.{Exact, _÷x_}, Depth.{Consistent, Within}}
 use Rattle.exact.{specs.Reported.{Scale, over, reported}, proofs.{Order.{trans≤}, Quotients.{div≤}, Outcomes.{lower-of, upper-of}}}
 use Rattle.exact.proofs.{Inclusion.{within-quotient, within-trans}, Reported.{over≤, quotient-low, quotient-high, reported-positive}}

@@ -4,9 +4,10 @@ use Prim.Native.Nat.{ℕ, _*_, _<_}
 use mathlib.Core.Path.{_≡_, ap, _∙_}
 use native.Mathlib.{Omega.{arith}, Nat.{mul-le-mul-right, mul-lt-mul-of-pos-right, mul-pos}}
 use lib.{IntN.{ℤ, pos, negℤ, _+ℤ_, _-ℤ_, _*ℤ_}, Signed.{_≤ℤ_, _<ℤ_}}
-use Rattle.interval.specs.{Signed.{plus, minus}, Whole.{floorZ}, declared.Interval.{Interval}}
-use Rattle.interval.proofs.Signed.{neg-plus, neg-minus, sum-is, difference-is, mul-plus, mul-minus, scale-plus, scale-minus, le-halves}
-use Rattle.interval.proofs.Signed.{lt-halves, floor-below}
+use Rattle.whole.specs.{Signed.{plus, minus}, Whole.{floorZ}}
+use Rattle.whole.proofs.Signed.{neg-plus, neg-minus, sum-is, difference-is, mul-plus, mul-minus, scale-plus, scale-minus, le-halves}
+use Rattle.whole.proofs.Signed.{lt-halves, floor-below}
+use Rattle.interval.specs.declared.Interval.{Interval}
 use Rattle.exact.specs.Fraction.{_≤f_, _<f_, _≈f_, whole, decimal, _+f_, neg, _−f_, _·f_, inv, _÷f_}
 use Rattle.exact.specs.{Reported.{Scale, ten, over, reported}, Depth.{Positive}}
 use Rattle.exact.proofs.{Order.{trans≤, refl≈}, Products.{cong·}}

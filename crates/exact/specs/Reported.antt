@@ -2,7 +2,8 @@
 use Prim.Native.Nat.{ℕ, _^_, _<_}
 use native.Mathlib.Nat.{zero-lt-suc, one-le-pow}
 use lib.{IntN.{ℤ}, Signed.{_≤ℤ_}}
-use Rattle.interval.specs.{Signed.{plus, minus}, declared.Interval.{Interval}}
+use Rattle.whole.specs.Signed.{plus, minus}
+use Rattle.interval.specs.declared.Interval.{Interval}
 use Rattle.exact.specs.{Fraction.{Fraction, _≤f_, _−f_}, Ends.{Ends}, Exact.{Exact, Holds}}
 
 -- the scale of a unit: how many of it make one

@@ -1,11 +1,8 @@
-pub mod Signed
-pub mod Bits
-pub mod Choice
-pub mod Rounding
+pub mod Held
 pub mod Sizes
 pub mod Natural
+pub mod WidePairs
 pub mod Rules
-pub mod WideProduct
 pub mod Roots
 pub mod Newton
 pub mod FirstGuess
@@ -19,6 +16,5 @@ pub mod Fits
 pub mod SpanFits
 pub mod NumeralSpans
 pub mod Negated
-pub mod Divisors
 pub mod Relatives
 pub mod Below

@@ -4,11 +4,10 @@ use mathlib.Core.Path.{_≡_, refl, ap}
 use native.Mathlib.{Omega.{arith}, Nat.{mul-le-mul-left, mul-le-mul-right}}
 use borrow.Author.Tests.{le-ltb}
 use lib.IntN.{pos, _-ℤ_}
-use Rattle.interval.specs.Whole.{ceilDiv}
+use Rattle.whole.{specs.Whole.{ceilDiv}, proofs.Choice.{min-rising, max-rising, min-falling, max-falling}}
+use Rattle.whole.proofs.Rounding.{floor-pos, ceil-pos, floorDiv-falls, ceilDiv-falls}
 use Rattle.interval.specs.Operations.{natural, point, sumOf, differenceOf, cornersOf, outwardOf, scaledOf, hullOf, productOf}
 use Rattle.interval.specs.Operations.{quotientOf}
-use Rattle.interval.proofs.Choice.{min-rising, max-rising, min-falling, max-falling}
-use Rattle.interval.proofs.Rounding.{floor-pos, ceil-pos, floorDiv-falls, ceilDiv-falls}
 
 pub point-natural : (n : ℕ) → point (pos n) ≡ natural n n
 unfolding point natural

@@ -2,37 +2,19 @@
 use Prim.Native.Nat.{ℕ, zero, suc, _+_, _-_, _*_, _/_, _≤_, _<_}
 use mathlib.Core.Path.{_≡_, refl, sym, ap, _∙_}
 use native.Mathlib.{Omega.{arith}, Nat.{mul-le-mul-left, mul-le-mul-right}}
-use lib.{IntN.{pos, negℤ, negℤ-negℤ, _*ℤ_}, Signed.{_≤ℤ_}}
-use Rattle.interval.specs.{declared.Interval.{Interval}, Whole.{floorZ, ceilZ, ceilDiv, minZ, maxZ}}
+use lib.IntN.{pos, negℤ, negℤ-negℤ, _*ℤ_}
+use Rattle.interval.specs.declared.Interval.{Interval}
 use Rattle.interval.specs.Operations.{natural, point, size, sumOf, differenceOf, minusOf, cornersOf, outwardOf, productOf}
 use Rattle.interval.specs.Span.{Span}
-use Rattle.interval.proofs.{Signed.{neg-plus, neg-minus, size-neg, le-halves}, Choice.{min-cases, max-cases}}
-use Rattle.interval.proofs.{Rounding.{floor-pos, ceil-pos}, Natural.{point-natural, natural-difference, natural-product}}
+use Rattle.whole.specs.Whole.{floorZ, ceilZ, ceilDiv}
+use Rattle.whole.proofs.{Signed.{size-neg}, BelowZero.{min-rising, max-rising, min-falling, max-falling}, Rounding.{floor-pos, ceil-pos}}
+use Rattle.interval.proofs.Natural.{point-natural, natural-difference, natural-product}
 
 -- ---- products
 
 pos-neg : (m n : ℕ) → pos m *ℤ negℤ (pos n) ≡ negℤ (pos (m * n))
 pos-neg m zero = let e : m * 0 ≡ 0 = omega arith in rw e
 pos-neg m (suc n) = refl
-
--- the lesser and the greater of two numbers below 0
-module _ {m n : ℕ} (h : m ≤ n) where
-  same : negℤ (pos m) ≤ℤ negℤ (pos n) → negℤ (pos m) ≡ negℤ (pos n)
-  same k =
-      let e : m ≡ n = omega (arith, le-halves k, neg-plus (pos m), neg-minus (pos m), neg-plus (pos n), neg-minus (pos n)) in
-      ap (λ t. negℤ (pos t)) e
-
-  min-rising : minZ (negℤ (pos n)) (negℤ (pos m)) ≡ negℤ (pos n)
-  min-rising = min-cases (λ z. z ≡ negℤ (pos n)) (negℤ (pos n)) (negℤ (pos m)) (λ k. refl) same
-
-  pub max-rising : maxZ (negℤ (pos n)) (negℤ (pos m)) ≡ negℤ (pos m)
-  max-rising = max-cases (λ z. z ≡ negℤ (pos m)) (negℤ (pos n)) (negℤ (pos m)) (λ k. refl) (λ k. sym (same k))
-
-  min-falling : minZ (negℤ (pos m)) (negℤ (pos n)) ≡ negℤ (pos n)
-  min-falling = min-cases (λ z. z ≡ negℤ (pos n)) (negℤ (pos m)) (negℤ (pos n)) same (λ k. refl)
-
-  max-falling : maxZ (negℤ (pos m)) (negℤ (pos n)) ≡ negℤ (pos m)
-  max-falling = max-cases (λ z. z ≡ negℤ (pos m)) (negℤ (pos m)) (negℤ (pos n)) (λ k. sym (same k)) (λ k. refl)
 
 floor-negated : (n : ℕ) {d : ℕ} → 0 < d → floorZ (negℤ (pos n)) d ≡ negℤ (pos (ceilDiv n d))
 unfolding ceilZ

@@ -2,8 +2,9 @@
 use Prim.Native.Nat.{ℕ, suc, _+_, _*_, _≤_}
 use native.Mathlib.{Omega.{arith}, Nat.{mul-le-mul-left, mul-le-mul-right}}
 use lib.{IntN.{ℤ, pos, negsuc, natAbs, _*ℤ_, *ℤ-comm}, Signed.{_≤ℤ_, ≤ℤ-refl}}
-use Rattle.interval.specs.{Signed.{plus, minus}, Operations.{size, Ordered, Narrow}, declared.Interval.{Interval}}
-use Rattle.interval.proofs.{Signed.{mul-plus, mul-minus, le-halves}, Corners.{Corners}, Sizes.{size-lower, size-upper}}
+use Rattle.whole.{specs.Signed.{plus, minus}, proofs.Signed.{mul-plus, mul-minus, le-halves}}
+use Rattle.interval.specs.{Operations.{size, Ordered, Narrow}, declared.Interval.{Interval}}
+use Rattle.interval.proofs.{Corners.{Corners}, Sizes.{size-lower, size-upper}}
 
 -- c ≤ z + w
 pub record Near (w : ℕ) (c z : ℤ) : Type 0 where

@@ -4,11 +4,11 @@ use mathlib.Core.{Path.{_≡_, ap}, Logic.{_⊎_, ⊎-elim}}
 use native.Mathlib.Omega.{arith}
 use native.Mathlib.Nat.{mul-le-mul, mul-le-mul-left, mul-le-mul-right, le-refl, le-trans, lt-of-mul-lt-mul-right, le-of-suc-le-suc}
 use lib.{IntN.{pos, natAbs, _*ℤ_}, Signed.{_≤ℤ_}}
-use Rattle.interval.specs.{Signed.{plus, minus}, Whole.{floorZ, ceilZ, minZ}}
+use Rattle.whole.specs.{Signed.{plus, minus}, Whole.{floorZ, ceilZ, minZ}}
+use Rattle.whole.proofs.{Signed.{halves, size-is, floor-above, scale-plus, scale-minus}, Choice.{≤ℤ-trans, min-cases, max-cases}}
+use Rattle.whole.proofs.Rounding.{ceil-below}
 use Rattle.interval.specs.{Operations.{size, quotientOf, hullOf, outwardOf, scaledOf, Ordered, Narrow}, declared.Interval.{Interval}}
-use Rattle.interval.proofs.{Signed.{halves, size-is, floor-above, scale-plus, scale-minus}, Choice.{≤ℤ-trans, min-cases, max-cases}}
-use Rattle.interval.proofs.{Rounding.{ceil-below}, Sizes.{size-lower, size-positive, size-rises, positive-halves}}
-use Rattle.interval.proofs.ProductWidth.{Near}
+use Rattle.interval.proofs.{Sizes.{size-lower, size-positive, size-rises, positive-halves}, ProductWidth.{Near}}
 
 -- c − c′ over d1 rounded up and f − f′ over d2 rounded down are at most w + 1 apart, where the exact ones are at most w
 cross : (c c′ f f′ h h′ l l′ k d1 d2 w : ℕ) → 0 < d1 → c * d1 + h′ * k < h * k + c′ * d1 + d1 → l * k + f′ * d2 < f * d2 + l′ * k + d2

@@ -5,10 +5,10 @@ use native.Mathlib.Omega.{arith}
 use native.Mathlib.Nat.{mul-le-mul, mul-le-mul-left, mul-le-mul-right, le-trans, le-of-mul-le-mul-right, lt-of-mul-lt-mul-right}
 use native.Mathlib.{Nat.{le-of-suc-le-suc}, Decide.{decLe}}
 use lib.IntN.{pos, natAbs}
-use Rattle.interval.specs.{declared.Interval.{Interval}, Whole.{ceilDiv}, Operations.{natural, point, sumOf, productOf, quotientOf}}
+use Rattle.interval.specs.{declared.Interval.{Interval}, Operations.{natural, point, sumOf, productOf, quotientOf}}
 use Rattle.interval.specs.Span.{Span, Relative}
+use Rattle.whole.{specs.Whole.{ceilDiv}, proofs.Rounding.{floorDiv-above, ceilDiv-below}}
 use Rattle.interval.proofs.{Rules.{_≼_, Kept}, Natural.{point-natural, natural-sum, natural-product, natural-quotient}}
-use Rattle.interval.proofs.Rounding.{floorDiv-above, ceilDiv-below}
 
 -- the width, by ends that are known
 pub relative-ends : {i : Interval} (a b : ℕ) {per extra : ℕ} → i ≡ natural a b → Relative i per extra

@@ -5,11 +5,13 @@ use native.Mathlib.Omega.{arith}
 use native.Mathlib.Nat.{mul-le-mul, mul-le-mul-left, mul-le-mul-right, le-trans, lt-of-mul-lt-mul-right, mul-lt-mul-of-pos-right}
 use native.Mathlib.Nat.{le-of-suc-le-suc}
 use lib.{IntN.{pos}, Signed.{_≤ℤ_}}
-use Rattle.interval.specs.{Whole.{ceilDiv}, Operations.{natural, point, size, sumOf, outwardOf, scaledOf, productOf, quotientOf}}
+use Rattle.whole.specs.Whole.{ceilDiv}
+use Rattle.whole.proofs.Rounding.{floorDiv-below, floorDiv-above, ceilDiv-above, ceilDiv-below, ceilDiv-by, floorDiv-by}
+use Rattle.whole.proofs.Signed.{halves-le}
+use Rattle.interval.specs.Operations.{natural, point, size, sumOf, outwardOf, scaledOf, productOf, quotientOf}
 use Rattle.interval.specs.{declared.Interval.{Interval}, Span.{Span}}
 use Rattle.interval.proofs.Natural.{point-natural, natural-sum, natural-scaled, natural-outward, natural-product, natural-quotient}
-use Rattle.interval.proofs.Rounding.{floorDiv-below, floorDiv-above, ceilDiv-above, ceilDiv-below, ceilDiv-by, floorDiv-by}
-use Rattle.interval.proofs.{Signed.{halves-le}, Sizes.{size-natural}}
+use Rattle.interval.proofs.Sizes.{size-natural}
 
 -- ---- natural ends
 

@@ -5,7 +5,8 @@ use mathlib.Core.Path.{_≡_, _∙_}
 use lib.{IntN.{pos}, Signed.{_≤ℤ_}}
 use Rattle.interval.specs.{Operations.{size}, Span.{Span}, declared.Interval.{Interval}}
 use mir.Facts.{toZ-ofZ}
-use Rattle.interval.proofs.{Bits.{read, Held}, Span.{span-lower, span-upper, span-size, span-divisor}}
+use Rattle.interval.proofs.{Held.{Held}, Span.{span-lower, span-upper, span-size, span-divisor}}
+use Rattle.whole.proofs.Bits.{read}
 
 pub sum-fits : {i j : Interval} {l h w l′ h′ w′ : ℕ} → h + h′ < 2 ^ 63 → Span i l h w → Span j l′ h′ w′ → size i + size j < 2 ^ 63
 sum-fits p s t = omega (arith, span-size s, span-size t)

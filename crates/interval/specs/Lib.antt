@@ -1,5 +1,3 @@
-pub mod Signed
-pub mod Whole
 pub mod Operations
 pub mod Root
 pub mod Wide

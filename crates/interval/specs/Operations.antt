@@ -1,7 +1,8 @@
 -- What the methods of an interval give: the exact ends, rounded outward.
 use Prim.Native.Nat.{ℕ, _+_, _≤_, max}
 use lib.{IntN.{ℤ, pos, natAbs, negℤ, _+ℤ_, _-ℤ_, _*ℤ_}, Signed.{_≤ℤ_}}
-use Rattle.interval.specs.{Signed.{plus, minus}, Whole.{floorZ, ceilZ, minZ, maxZ}, declared.Interval.{Interval}}
+use Rattle.whole.specs.{Signed.{plus, minus}, Whole.{floorZ, ceilZ, minZ, maxZ}}
+use Rattle.interval.specs.declared.Interval.{Interval}
 
 -- both ends are natural numbers
 unfoldable pub natural : ℕ → ℕ → Interval

@@ -1,13 +1,8 @@
--- Where a product over a divisor is worked within 64 bits, though the product itself may pass them.
-use Prim.Native.Nat.{ℕ, _+_, _*_, _/_, _^_, _≤_, _<_}
+-- Where the product of two pairs over a divisor is worked within 64 bits.
+use Prim.Native.Nat.{ℕ, _≤_}
 use mathlib.Core.Path.{_≡_}
+use Rattle.whole.specs.Wide.{WideFits}
 use Rattle.interval.specs.{declared.Interval.{Interval}, Operations.{natural}}
-
--- k · (x / den) and k · (x % den) with their sums
-pub record WideFits (k x den : ℕ) : Type 0 where
-  pub divisor : 0 < den
-  pub rest : k * den + den < 2 ^ 63
-  pub quotient : k * (x / den) + k < 2 ^ 63
 
 -- two pairs of natural ends in order, whose upper ends may be multiplied so
 pub record Wide (i j : Interval) (den : ℕ) : Type 0 where

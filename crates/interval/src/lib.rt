@@ -1,7 +1,5 @@
 // Pairs of signed whole numbers, as results are reported, with outward rounding: each operation's pair includes the exact one.
 pub mod root;
-mod whole;
-pub mod wide;
 
 use whole::ceil_div;
 use whole::floor_div;
@@ -9,6 +7,7 @@ use whole::least;
 use whole::least_floor;
 use whole::most;
 use whole::most_ceil;
+use whole::wide;
 ghost use mathlib.Core.Path.{_≡_};
 ghost use Prim.Native.Nat.{_+_, _*_, _<_, _^_};
 ghost use lib.IntN.{pos, natAbs};

@@ -3,8 +3,8 @@ use Prim.Native.Nat.{ℕ, _+_, _*_, _≤_, _<_}
 use mathlib.Core.Path.{_≡_, ap}
 use native.Mathlib.{Omega.{arith}, Nat.{mul-le-mul-left, mul-le-mul-right}}
 use lib.{IntN.{pos}, Signed.{_≤ℤ_}}
-use Rattle.interval.{specs.{Signed.{plus, minus}, Whole.{ceilDiv}}, proofs.Signed.{difference-is, le-halves, halves-le}}
-use Rattle.interval.proofs.Rounding.{ceilDiv-above, ceilDiv-below, ceilDiv-by}
+use Rattle.whole.{specs.{Signed.{plus, minus}, Whole.{ceilDiv}}, proofs.Signed.{difference-is, le-halves, halves-le}}
+use Rattle.whole.proofs.Rounding.{ceilDiv-above, ceilDiv-below, ceilDiv-by}
 use Rattle.margin.specs.{Margin.{whole, margin}, Meaning.{IsMargin}}
 
 -- all of the tolerable voltage and the margin are the share

@@ -1,7 +1,7 @@
 -- The margins of a case's row are right.
 use mathlib.Core.Path.{_≡_, refl, _∙_}
 use lib.{IntN.{ℤ, pos}, Signed.{_≤ℤ_}}
-use Rattle.interval.proofs.Choice.{pos≤, le-pos}
+use Rattle.whole.proofs.Choice.{pos≤, le-pos}
 use Rattle.case.specs.{declared.Case.{Case}, Bounds.{Bounds}}
 use Rattle.formulas.proofs.Consistent.{consistent-touch, consistent-tolerable-step, consistent-mesh, consistent-step}
 use Rattle.tolerable.specs.Ends.{touchEnds, stepEnds}

@@ -4,7 +4,7 @@ use mathlib.Core.Path.{_≡_, refl}
 use native.Mathlib.{Omega.{arith}, Nat.{mul-le-mul-left, div-le-self}}
 use lib.{Dec.{T}, IntN.{ℤ, pos, negsuc}, Signed.{leZ, leZ-yes}}
 use mir.Facts.{and-yes}
-use Rattle.interval.{specs.{Whole.{ceilDiv}, Wide.{WideFits}}, proofs.{Choice.{le-pos}, Rounding.{ceilDiv-by}}}
+use Rattle.whole.{specs.{Whole.{ceilDiv}, Wide.{WideFits}}, proofs.{Choice.{le-pos}, Rounding.{ceilDiv-by}}}
 use Rattle.margin.specs.Margin.{whole, mostVoltage, inRange, comparable}
 
 -- a number from low to the most

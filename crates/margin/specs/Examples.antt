@@ -1,7 +1,7 @@
 -- Margins worked by hand.
 use mathlib.Core.{Path.{_≡_, refl}, List.{List, [], _∷_}}
 use lib.IntN.{ℤ, pos, negsuc}
-use Rattle.interval.specs.Whole.{ceilDiv}
+use Rattle.whole.specs.Whole.{ceilDiv}
 use Rattle.margin.specs.{declared.Compared.the-variants.{Margins, None}, Margin.{margin, inRange, comparable, fourMargins, marginsOf}}
 
 -- document 01's sample, seasons 1 and 2: 22.3 percent above and 68.2 below; then at the limit, one mV above it, one below, nothing, twice

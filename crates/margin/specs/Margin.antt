@@ -3,7 +3,7 @@
 use Prim.Native.Nat.{ℕ, _*_, _^_}
 use mathlib.Core.{Bool.{Bool, cond, _&&_}, List.{List}}
 use lib.{Dec.{eqb}, IntN.{ℤ, pos, natAbs, _-ℤ_}, ListN.{getD, length}, Signed.{leZ}}
-use Rattle.interval.specs.Whole.{ceilDiv}
+use Rattle.whole.specs.Whole.{ceilDiv}
 use Rattle.row.specs.{Row.{rowLength}, Places.{tolerableTouchLowerPlace, tolerableStepLowerPlace, meshUpperPlace, stepUpperPlace}}
 use Rattle.margin.specs.declared.Compared.{Compared, the-variants.{Margins, None}}
 

@@ -3,7 +3,7 @@ use Prim.Native.Nat.{ℕ, _+_, _*_, _≤_, _<_}
 use mathlib.Core.Path.{_≡_}
 use native.Mathlib.Nat.{zero-lt-suc}
 use lib.{IntN.{ℤ, pos}, Signed.{_≤ℤ_}}
-use Rattle.interval.specs.Signed.{plus, minus}
+use Rattle.whole.specs.Signed.{plus, minus}
 use Rattle.exact.specs.{Fraction.{Fraction}, Exact.{exactly, _·x_, AtOrBelow}}
 use Rattle.case.specs.declared.Case.{Case}
 use Rattle.formulas.specs.Tolerable.{tolerableTouch, tolerableStep}

@@ -4,12 +4,12 @@ ghost use mathlib.Core.Path.{_≡_};
 ghost use lib.Dec.{T};
 ghost use lib.IntN.{natAbs};
 ghost use Rattle.margin.specs.Margin.{inRange, comparable as comparableEnds, margin as marginOf, fourMargins, marginsOf};
-use interval::wide;
 use row::MESH_UPPER;
 use row::ROW_LENGTH;
 use row::STEP_UPPER;
 use row::TOLERABLE_STEP_LOWER;
 use row::TOLERABLE_TOUCH_LOWER;
+use whole::wide;
 
 // Mesh voltage above tolerable touch, then step voltage above tolerable step, in tenths of a percent of what is tolerable and below it as a
 // negative number; or None, which no row has.

@@ -4,8 +4,8 @@ use Prim.Native.Nat.{ℕ, _+_, _*_, _/_, _≤_, _<_}
 use mathlib.Core.Path.{_≡_}
 use native.Mathlib.{Omega.{arith}, Nat.{mul-le-mul-left, le-trans, lt-of-mul-lt-mul-right, le-of-suc-le-suc, le-of-mul-le-mul-right}}
 use lib.Dec.{eqb, lit≤, lit<}
-use Rattle.interval.{specs.{Whole.{ceilDiv}, Operations.{natural}, Span.{Span, Relative}}, proofs.Natural.{natural-quotient}}
-use Rattle.interval.proofs.{Span.{span-natural}, Rounding.{floorDiv-below, floorDiv-above, ceilDiv-above, ceilDiv-below, ceilDiv-by}}
+use Rattle.whole.{specs.Whole.{ceilDiv}, proofs.Rounding.{floorDiv-below, floorDiv-above, ceilDiv-above, ceilDiv-below, ceilDiv-by}}
+use Rattle.interval.{specs.{Operations.{natural}, Span.{Span, Relative}}, proofs.{Natural.{natural-quotient}, Span.{span-natural}}}
 use Rattle.interval.proofs.Relatives.{relative-span, relative-point, relative-sum, relative-product, relative-quotient}
 use Rattle.case.specs.{declared.Case.{Case}, Bounds.{Bounds}}
 use Rattle.formulas.proofs.Conductors.{by-place}

@@ -3,7 +3,8 @@ use Prim.Native.Nat.{ℕ, _+_, _-_, _*_, _≤_, _<_}
 use mathlib.Core.Path.{_≡_, ap}
 use native.Mathlib.{Omega.{arith}, Nat.{mul-le-mul-left}}
 use lib.{Dec.{lit≤, lit<}, IntN.{pos}}
-use Rattle.interval.{specs.Operations.{natural}, proofs.{Natural.{natural-product}, Rounding.{floorDiv-above, ceilDiv-below}}}
+use Rattle.interval.{specs.Operations.{natural}, proofs.Natural.{natural-product}}
+use Rattle.whole.proofs.Rounding.{floorDiv-above, ceilDiv-below}
 use Rattle.exact.specs.{Fraction.{_≤f_, decimal, _+f_, neg, _−f_, _·f_, inv, _÷f_}, Reported.{ten, over, reported, AtMost}}
 use Rattle.exact.proofs.{Order.{trans≤, refl≈, sym≈}, Quotients.{clamped}, Divisors.{cong÷}}
 use Rattle.case.specs.{declared.Case.{Case}, Bounds.{Bounds}}

@@ -3,7 +3,8 @@ use Prim.Native.Nat.{ℕ, _*_, _^_, _≤_, _<_}
 use mathlib.Core.{Path.{_≡_, refl, ap}, List.{List, [], _∷_}}
 use native.Mathlib.Omega.{arith}
 use lib.{Dec.{lit<}, IntN.{ℤ, pos}, ListN.{length}}
-use Rattle.interval.{specs.{Signed.{plus, minus}, declared.Interval.{Interval}, Operations.{outwardOf}}, proofs.Natural.{natural-outward}}
+use Rattle.whole.specs.Signed.{plus, minus}
+use Rattle.interval.{specs.{declared.Interval.{Interval}, Operations.{outwardOf}}, proofs.Natural.{natural-outward}}
 use Rattle.exact.specs.{Fraction.{_≈f_, whole, inv, _·f_}, Exact.{Exact, exactly, _·x_, _÷x_}, Depth.{workDepth, Consistent, SameEnds}}
 use Rattle.exact.{specs.Reported.{Scale, ten, over, Reports}, proofs.{Order.{whole-pos}, Reported.{scaleProduct}}}
 use Rattle.exact.proofs.{Quotients.{clamped, inv-nonneg}, Consistency.{consistent-exactly, consistent-quotient}}

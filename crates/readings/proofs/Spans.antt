@@ -3,9 +3,10 @@ use Prim.Native.Nat.{ℕ, _+_, _*_, _/_, _≤_, _<_}
 use mathlib.Core.Path.{_≡_, refl}
 use native.Mathlib.Omega.{arith}
 use lib.{Dec.{lit<, lit≤}, IntN.{pos}}
-use Rattle.interval.specs.{Whole.{ceilDiv}, Operations.{natural, point}, Span.{Span, Relative}, Wide.{Wide}}
-use Rattle.interval.proofs.{Natural.{point-natural, natural-product}, Relatives.{relative-product}, Rounding.{ceilDiv-by}}
-use Rattle.interval.proofs.{Span.{span-natural, span-point, floor≤ceil}, WideProduct.{wide-fits}, Rules.{lits}}
+use Rattle.whole.{specs.Whole.{ceilDiv}, proofs.Rounding.{ceilDiv-by}}
+use Rattle.interval.specs.{Operations.{natural, point}, Span.{Span, Relative}, Wide.{Wide}}
+use Rattle.interval.proofs.{Natural.{point-natural, natural-product}, Relatives.{relative-product}}
+use Rattle.interval.proofs.{Span.{span-natural, span-point, floor≤ceil}, WidePairs.{wide-fits}, Rules.{lits}}
 use Rattle.interval.proofs.NumeralSpans.{numeral-natural}
 use Rattle.exact.specs.{Fraction.{decimal, _+f_, neg, _−f_, _·f_}, Reported.{ten, over, reported, AtMost}}
 use Rattle.readings.specs.{Taken.{mostPairs, mostProduct}, Report.{μΩm, width}}

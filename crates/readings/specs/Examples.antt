@@ -3,7 +3,8 @@ use Prim.Native.Nat.{ℕ}
 use mathlib.Core.{Path.{_≡_, refl}, Bool.{true, false}, List.{List, [], _∷_, map}}
 use native.Mathlib.Decide.{decLe}
 use lib.Dec.{lit≤}
-use Rattle.interval.specs.{Whole.{ceilDiv}, Operations.{natural}}
+use Rattle.whole.specs.Whole.{ceilDiv}
+use Rattle.interval.specs.Operations.{natural}
 use Rattle.exact.specs.Fraction.{_≈f_, whole, decimal, _+f_, neg, _−f_, _·f_, inv, _÷f_, decLef, choose, minf, maxf}
 use Rattle.exact.specs.Ends.{least as leastOf, greatest as greatestOf, combine, _+e_, _−e_, _·e_, _÷e_}
 use Rattle.exact.specs.{Exact.{exactly, _+x_, _−x_, _·x_, _÷x_}, Pi.{alternating, arctanTerm, arctanOver, π}, Depth.{Within}}

@@ -1,15 +1,13 @@
 // The eight numbers of each pair into the table.
 ghost use mathlib.Core.Path.{_≡_};
-ghost use mathlib.Core.Bool.{not, cond, _&&_};
-ghost use Prim.Native.Nat.{_≤_, _<_, _+_, _*_, _/_, _%_};
-ghost use lib.Dec.{eqb};
+ghost use Prim.Native.Nat.{_≤_, _<_, _+_, _*_, _/_};
 ghost use lib.ListN.{length};
 ghost use Rattle.tables.specs.Parts.{Written};
 ghost use Rattle.case.specs.Columns.{nameCount};
 ghost use Rattle.judgement.specs.Limits.{mostLines};
 ghost use Rattle.table_rows.specs.Rows.{StoredBounds, storedCases};
 ghost use Rattle.release.specs.Licence.{pairsOf};
-ghost use Rattle.tally.specs.Lines.{linesOf, one};
+ghost use Rattle.tally.specs.Lines.{one};
 ghost use Rattle.release.specs.Pair.{pairLength, releaseOf, stationNumbers, eight};
 ghost use Rattle.tally.specs.Tally.{Small};
 ghost use Rattle.release.specs.Answer.{Filled};

@@ -3,8 +3,9 @@ use Prim.Native.Nat.{ℕ, _+_, _*_, _/_, _^_, _≤_, _<_}
 use mathlib.Core.Path.{refl}
 use native.Mathlib.{Omega.{arith}, Nat.{mul-le-mul-left, mul-le-mul-right}}
 use lib.Dec.{lit≤, lit<}
-use Rattle.interval.{specs.{Whole.{ceilDiv}, Operations.{natural}, Span.{Relative}, Wide.{Wide}}, proofs.Natural.{natural-product}}
-use Rattle.interval.proofs.{Rounding.{floorDiv-above, ceilDiv-below}, Relatives.{relative-span}, WideProduct.{wide-fits}}
+use Rattle.whole.{specs.Whole.{ceilDiv}, proofs.Rounding.{floorDiv-above, ceilDiv-below}}
+use Rattle.interval.{specs.{Operations.{natural}, Span.{Relative}, Wide.{Wide}}, proofs.Natural.{natural-product}}
+use Rattle.interval.proofs.{Relatives.{relative-span}, WidePairs.{wide-fits}}
 use Rattle.exact.specs.{Fraction.{decimal, _+f_, neg, _−f_, _·f_}, Exact.{_·x_}, Depth.{workDepth}, Reported.{ten, over, reported, AtMost}}
 use Rattle.exact.proofs.Factors.{product-turned}
 use Rattle.enclosure.{specs.Enclosure.{Encloses}, proofs.{Basics.{encloses-same}, Products.{encloses-product}}}

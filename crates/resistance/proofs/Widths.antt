@@ -2,8 +2,9 @@
 use Prim.Native.Nat.{ℕ, _+_, _*_, _/_, _≤_, _<_}
 use native.Mathlib.{Omega.{arith}, Nat.{mul-le-mul-right}}
 use lib.Dec.{lit<}
-use Rattle.interval.{specs.{Whole.{ceilDiv}, Operations.{natural}, Span.{Relative}}, proofs.Natural.{natural-scaled, natural-outward}}
-use Rattle.interval.proofs.{Relatives.{relative-span}, Rounding.{floorDiv-above, ceilDiv-below}}
+use Rattle.whole.{specs.Whole.{ceilDiv}, proofs.Rounding.{floorDiv-above, ceilDiv-below}}
+use Rattle.interval.{specs.{Operations.{natural}, Span.{Relative}}, proofs.Natural.{natural-scaled, natural-outward}}
+use Rattle.interval.proofs.Relatives.{relative-span}
 use Rattle.exact.specs.{Fraction.{decimal, _+f_, neg, _−f_, _·f_}, Reported.{ten, over, reported, AtMost}}
 use Rattle.case.specs.{declared.Case.{Case}, Bounds.{Bounds}}
 use Rattle.formulas.specs.Width.{μΩ, resistanceWidth}

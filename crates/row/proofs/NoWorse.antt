@@ -2,7 +2,8 @@
 -- stay, those of the tolerable voltages rise or stay, so a safe yard stays safe.
 use Prim.Native.Nat.{ℕ, _*_, _≤_}
 use mathlib.Core.Path.{_≡_, refl, ap, _∙_}
-use Rattle.interval.{specs.declared.Interval.{Interval}, proofs.{Choice.{≤ℤ-trans}, Below.{Below, below-upper, below-lower}}}
+use Rattle.interval.{specs.declared.Interval.{Interval}, proofs.Below.{Below, below-upper, below-lower}}
+use Rattle.whole.proofs.Choice.{≤ℤ-trans}
 use Rattle.case.specs.{declared.Case.{Case}, Bounds.{Bounds}, Key.{underKey}, Eased.{eased}}
 use Rattle.decrement.specs.Ends.{exponentEnds, ratioEnds, restEnds, squareEnds, factorEnds}
 use Rattle.current.specs.Ends.{currentEnds}

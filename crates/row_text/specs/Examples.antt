@@ -3,7 +3,8 @@ use Prim.Native.Nat.{ℕ}
 use mathlib.Core.{Path.{_≡_, refl}, List.{[], _∷_, map}}
 use lib.IntN.{pos}
 use Rattle.text.specs.Text.{bytes}
-use Rattle.interval.specs.{Whole.{ceilDiv}, Operations.{natural}}
+use Rattle.whole.specs.Whole.{ceilDiv}
+use Rattle.interval.specs.Operations.{natural}
 use Rattle.writing.specs.{Decimal.{digitsIn, digitCount, lastDigits, decimal, signed}, Text.{moreFields, parted, ended, textOf}}
 use Rattle.row.specs.{declared.{Row.{Row}, Verdict.{Verdict, the-variants.{Safe, Unsafe, Undecided}}}, Verdict.{verdictNumber}}
 use Rattle.row.specs.Row.{numbers}

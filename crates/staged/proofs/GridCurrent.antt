@@ -4,7 +4,7 @@ use mathlib.Core.{Path.{_≡_, refl, ap, sym, _∙_}, List.{List, [], _∷_}}
 use native.Mathlib.{Omega.{arith}, Nat.{add-zero}}
 use lib.IntN.{ℤ, pos, negℤ, natAbs, _+ℤ_, _-ℤ_, +ℤ-idr, +ℤ-assoc, +ℤ-comm, negℤ-+ℤ, -ℤ-+ℤ-cancel}
 use lib.{ListN.{length, getD, drop, drop-of-length-le}, Seq.{getD-drop, drop-drop}}
-use Rattle.interval.proofs.Signed.{size-difference}
+use Rattle.whole.proofs.Signed.{size-difference}
 use Rattle.staged.specs.{Check.{mostNumbers, largestPart}, Current.{everyOther, injected, branches, total, gridPart}}
 use Rattle.staged.specs.Parts.{largestGridPart, Parts}
 

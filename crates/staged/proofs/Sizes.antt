@@ -3,7 +3,7 @@ use Prim.Native.Nat.{_<_, _^_}
 use mathlib.Core.{Path.{_≡_, refl, _∙_}, Bool.{true, false}}
 use lib.{IntN.{ℤ, pos, negsuc, negℤ, natAbs, _-ℤ_}, Signed.{mag, ltZ}}
 use mir.{Syntax.{w64}, Val.{SFits}, Facts.{toZ-ofZ}}
-use Rattle.interval.proofs.Bits.{read, negated-is, below-zero, not-below-zero}
+use Rattle.whole.proofs.Bits.{read, negated-is, below-zero, not-below-zero}
 
 turned : (z : ℤ) → z ≡ negsuc (mag z) → negℤ z ≡ pos (natAbs z)
 turned (pos n) e = cc

@@ -4,7 +4,7 @@ use mathlib.Core.{Path.{_≡_, refl, sym, ap, _∙_}, Bool.{Bool, true, false, c
 use native.Mathlib.Omega.{arith}
 use lib.{IntN.{ℤ, pos}, ListN.{length, getD}, Signed.{ltZ, _≤ℤ_, _<ℤ_, ltZ-no, ≤ℤ-refl}}
 use Rattle.text.proofs.Clash.{clash}
-use Rattle.interval.proofs.Signed.{le-halves, halves-le, lt-halves, halves-lt}
+use Rattle.whole.proofs.Signed.{le-halves, halves-le, lt-halves, halves-lt}
 use Rattle.row.specs.declared.Row.{Row}
 use Rattle.station_sums.specs.Summary.{sameZ, one, among, stationsOf, rowsOf, higher, highest, worstSeason, stations, stationNumbers}
 use Rattle.station_sums.specs.{Summary.{summaryOf}, Meaning.{times, numberOf, HighestAt, WorstSeason}}

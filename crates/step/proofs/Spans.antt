@@ -3,8 +3,8 @@ use Prim.Native.Nat.{ℕ, _+_, _*_, _/_, _≤_, _<_}
 use mathlib.Core.Path.{_≡_}
 use native.Mathlib.{Omega.{arith}, Nat.{mul-le-mul-left, lt-of-mul-lt-mul-right, le-of-suc-le-suc}}
 use lib.IntN.{pos}
-use Rattle.interval.{specs.{Whole.{ceilDiv}, Operations.{natural, point}, Span.{Span}}, proofs.Natural.{point-natural, natural-quotient}}
-use Rattle.interval.proofs.Rounding.{floorDiv-below, floorDiv-above, ceilDiv-below, ceilDiv-by}
+use Rattle.whole.{specs.Whole.{ceilDiv}, proofs.Rounding.{floorDiv-below, floorDiv-above, ceilDiv-below, ceilDiv-by}}
+use Rattle.interval.{specs.{Operations.{natural, point}, Span.{Span}}, proofs.Natural.{point-natural, natural-quotient}}
 use Rattle.interval.proofs.Span.{floor≤ceil, span-natural, span-point}
 use Rattle.case.specs.{declared.Case.{Case}, Bounds.{Between, Bounds}}
 use Rattle.lengths.{specs.Lengths.{conductorLength}, proofs.Lengths.{conductor-bounds, rod-bound}}

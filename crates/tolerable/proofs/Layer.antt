@@ -4,10 +4,10 @@ use mathlib.Core.{Path.{_≡_, ap}, Bool.{cond}, Logic.{_⊎_, inl, inr, ⊎-eli
 use native.Mathlib.{Omega.{arith}, Nat.{mul-le-mul-right}}
 use lib.{Dec.{eqb}, IntN.{ℤ, pos, _-ℤ_}}
 use borrow.Author.Tests.{ne-eqb}
-use Rattle.interval.specs.{Whole.{floorZ, ceilZ, ceilDiv}, Operations.{natural, point, size, differenceOf, outwardOf}, Span.{Span}}
-use Rattle.interval.proofs.Signed.{difference-is, floor-below, floor-above}
-use Rattle.interval.proofs.{Rounding.{ceilDiv-by, ceil-above, ceil-below, floor-is, ceil-is}, Sizes.{size-point, size-difference}}
-use Rattle.interval.proofs.Span.{span-natural, span-point, span-wider, floor≤ceil, round-near}
+use Rattle.whole.{specs.Whole.{floorZ, ceilZ, ceilDiv}, proofs.Signed.{difference-is, floor-below, floor-above}}
+use Rattle.whole.proofs.Rounding.{ceilDiv-by, ceil-above, ceil-below, floor-is, ceil-is}
+use Rattle.interval.specs.{Operations.{natural, point, size, differenceOf, outwardOf}, Span.{Span}}
+use Rattle.interval.proofs.{Sizes.{size-point, size-difference}, Span.{span-natural, span-point, span-wider, floor≤ceil, round-near}}
 use Rattle.case.specs.{declared.Case.{Case}, Bounds.{Bounds, Bare, Layered}}
 use Rattle.tolerable.specs.Ends.{layered, layerEnds}
 

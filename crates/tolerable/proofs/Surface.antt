@@ -4,7 +4,8 @@ use mathlib.Core.{Path.{_≡_}, Logic.{⊎-elim}}
 use native.Mathlib.Omega.{arith}
 use borrow.Author.Tests.{eq-eqb, ne-eqb}
 use lib.IntN.{pos}
-use Rattle.interval.{specs.{Whole.{ceilDiv}, Operations.{natural, point}}, proofs.Rounding.{floorDiv-below, ceilDiv-above}}
+use Rattle.whole.{specs.Whole.{ceilDiv}, proofs.Rounding.{floorDiv-below, ceilDiv-above}}
+use Rattle.interval.specs.Operations.{natural, point}
 use Rattle.exact.{specs.{Fraction.{_≤f_, whole, decimal, _+f_, _−f_, _·f_, _÷f_}, Reported.{ten, over, reported}}, proofs.Order.{trans≤}}
 use Rattle.exact.proofs.Points.{Point}
 use Rattle.case.specs.{declared.Case.{Case}, Bounds.{Bounds, Bare, Layered}}

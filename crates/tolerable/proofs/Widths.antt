@@ -2,8 +2,8 @@
 use Prim.Native.Nat.{ℕ, _+_, _*_, _/_, _≤_, _<_}
 use native.Mathlib.{Omega.{arith}, Nat.{mul-le-mul-left, mul-le-mul-right, le-trans, lt-of-mul-lt-mul-right, le-of-suc-le-suc}}
 use lib.Dec.{lit≤}
-use Rattle.interval.{specs.{Whole.{ceilDiv}, Operations.{natural}, Span.{Relative}}, proofs.Natural.{natural-quotient}}
-use Rattle.interval.proofs.Rounding.{floorDiv-above, ceilDiv-below}
+use Rattle.whole.{specs.Whole.{ceilDiv}, proofs.Rounding.{floorDiv-above, ceilDiv-below}}
+use Rattle.interval.{specs.{Operations.{natural}, Span.{Relative}}, proofs.Natural.{natural-quotient}}
 use Rattle.exact.specs.{Fraction.{decimal, _+f_, neg, _−f_, _·f_}, Reported.{ten, over, reported, AtMost}}
 use Rattle.case.specs.{declared.Case.{Case}, Bounds.{Bounds}}
 use Rattle.formulas.specs.Width.{mV, tolerableWidth}

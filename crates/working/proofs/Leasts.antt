@@ -3,9 +3,10 @@ use Prim.Native.Nat.{ℕ, zero, suc, _+_, _*_, _/_, _^_, _≤_, _<_}
 use mathlib.Core.Path.{_≡_, ap}
 use native.Mathlib.{Omega.{arith}, Nat.{mul-le-mul, div-mul-le-self}}
 use lib.{Dec.{eqb, lit≤, lit<}, IntN.{pos, _+ℤ_}}
-use Rattle.interval.specs.{Signed.{plus, minus}, declared.Interval.{Interval}, Operations.{natural, point, sumOf}, Span.{Span}}
-use Rattle.interval.proofs.{Signed.{size-is, sum-is}, Sizes.{size-lower}, Rounding.{floorDiv-by}, Span.{span-sum, span-divide, span-lower}}
-use Rattle.interval.proofs.{Rules.{lits}, NumeralSpans.{numeral-point, numeral-quotient, numeral-wider}}
+use Rattle.whole.{specs.Signed.{plus, minus}, proofs.{Signed.{size-is, sum-is}, Rounding.{floorDiv-by}}}
+use Rattle.interval.{specs.{declared.Interval.{Interval}, Operations.{natural, point, sumOf}, Span.{Span}}, proofs.Sizes.{size-lower}}
+use Rattle.interval.proofs.{Span.{span-sum, span-divide, span-lower}, Rules.{lits}}
+use Rattle.interval.proofs.NumeralSpans.{numeral-point, numeral-quotient, numeral-wider}
 use Rattle.exponential.specs.Ends.{halvingsOf, argumentOf, nestedOf, seriesOf, inverseOf, squaredOf, endOf, expEnds, expPair}
 use Rattle.exponential.proofs.Sizes.{halvings-least, argument-size, nested-size, series-least}
 use Rattle.enclosure.proofs.Constants.{π-span}

@@ -3,7 +3,7 @@ use mathlib.Core.Path.{_≡_, sym, ap, _∙_}
 use native.Mathlib.Omega.{arith}
 use lib.{IntN.{pos}, Signed.{mag}}
 use mir.Facts.{toZ-ofZ}
-use Rattle.interval.proofs.Bits.{below-zero, not-below-zero, natural-cast}
+use Rattle.whole.proofs.Bits.{below-zero, not-below-zero, natural-cast}
 use Rattle.appearance.specs.Places.{markOf}
 use Rattle.appearance.proofs.{Marks.{mark-natural}, mark.Statement.{statement}}
 use Rattle.appearance.proofs.mark.Tie as tie

@@ -4,7 +4,7 @@ use mathlib.Core.{Path.{_≡_, sym, ap, _∙_}, Bool.{true, false}}
 use native.Mathlib.Omega.{arith}
 use lib.{IntN.{pos}, Signed.{mag, ltZ}}
 use mir.{Syntax.{w64}, Val.{Fits, toZ, ofZ}, Facts.{toZ-ofZ}}
-use Rattle.interval.{specs.Whole.{flipZ}, proofs.Bits.{read, flipped, below-zero, not-below-zero}}
+use Rattle.whole.{specs.Whole.{flipZ}, proofs.Bits.{read, flipped, below-zero, not-below-zero}}
 use Rattle.c_bytes.specs.Bytes.{twosComplement}
 use Rattle.c_bytes.proofs.twos_complement.Statement.{statement}
 use Rattle.c_bytes.proofs.twos_complement.Tie as tie

@@ -1,7 +1,7 @@
 -- `hocsimbur_rows` answers by one number.
 use mathlib.Core.Path.{_∙_}
 use borrow.Author.Needs.{needs}
-use Rattle.interval.proofs.Bits.{back}
+use Rattle.whole.proofs.Bits.{back}
 use Rattle.c_entry.proofs.{Answers.{told-few, told-signed}, hocsimbur_rows.Statement.{statement}}
 use Rattle.c_entry.proofs.hocsimbur_rows.Tie as tie
 

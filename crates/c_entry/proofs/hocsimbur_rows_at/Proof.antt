@@ -1,7 +1,7 @@
 -- `hocsimbur_rows_at` also tells line and column.
 use mathlib.Core.Path.{ap, _∙_}
 use borrow.Author.Needs.{needs}
-use Rattle.interval.proofs.Bits.{back}
+use Rattle.whole.proofs.Bits.{back}
 use Rattle.c_tell.specs.Place.{placeAfter}
 use Rattle.c_entry.proofs.{Answers.{told-few, told-signed}, hocsimbur_rows_at.Statement.{statement}}
 use Rattle.c_entry.proofs.hocsimbur_rows_at.Tie as tie

@@ -1,7 +1,7 @@
 -- `hocsimbur_split` tells the operation's own answer.
 use mathlib.Core.Path.{refl, ap}
 use borrow.Author.Needs.{needs}
-use Rattle.interval.proofs.Bits.{back}
+use Rattle.whole.proofs.Bits.{back}
 use Rattle.c_reply.{specs.Reply.{splitReply}, proofs.Replies.{replied-as}}
 use Rattle.c_questions.proofs.{Telling.{told-as}, ReportCounts.{split-few}, SplitSize.{every-split-small}}
 use Rattle.c_questions.proofs.hocsimbur_split.Statement.{statement}

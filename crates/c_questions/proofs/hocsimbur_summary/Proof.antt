@@ -2,7 +2,7 @@
 use Prim.Native.Nat.{_<_, _^_}
 use lib.ListN.{length}
 use borrow.Author.Needs.{needs}
-use Rattle.interval.proofs.Bits.{back}
+use Rattle.whole.proofs.Bits.{back}
 use Rattle.c_questions.proofs.{Counts.{stations-few}, Telling.{told-as}, hocsimbur_summary.Statement.{statement}}
 use Rattle.c_questions.proofs.hocsimbur_summary.Tie as tie
 

@@ -5,7 +5,7 @@ use native.Mathlib.{Nat.{lt-of-le-of-lt}, Omega.{arith}}
 use borrow.Author.Needs.{needs}
 use lib.IntN.{ℤ, pos, natAbs, _-ℤ_, +ℤ-idl}
 use mir.{Syntax.{w64}, Val.{SFits}, Facts.{toZ-pos, toZ-ofZ}}
-use Rattle.interval.proofs.{Bits.{small-fits}, Signed.{size-difference}}
+use Rattle.whole.proofs.{Bits.{small-fits}, Signed.{size-difference}}
 use Rattle.sheet.specs.declared.Answer.{Answer, the-variants.{Rows}}
 use Rattle.c_tell.specs.{Answer.{signedAnswer}, Room.{Few}}
 use Rattle.c_tell.proofs.signed_answer.Statement.{statement}

@@ -2,7 +2,8 @@
 use Prim.Native.Nat.{_+_, _≤_}
 use native.Mathlib.Omega.{arith}
 use mir.Facts.{toZ-ofZ}
-use Rattle.interval.{specs.Span.{Span}, proofs.{Bits.{Held, natural-cast}, SpanFits.{read-lower, read-upper}}}
+use Rattle.interval.{specs.Span.{Span}, proofs.{Held.{Held}, SpanFits.{read-lower, read-upper}}}
+use Rattle.whole.proofs.Bits.{natural-cast}
 use Rattle.enclosure.proofs.SquareRoot.{square-root-is}
 use Rattle.exponential.specs.Ends.{billion}
 use Rattle.decrement.specs.Ends.{factorEnds}

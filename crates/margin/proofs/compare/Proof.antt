@@ -2,7 +2,7 @@
 use mathlib.Core.{Path.{_≡_, sym, _∙_}, Bool.{true}}
 use mir.Facts.{toZ-ofZ}
 use borrow.Author.Needs.{needs}
-use Rattle.interval.proofs.Bits.{back}
+use Rattle.whole.proofs.Bits.{back}
 use Rattle.margin.specs.Margin.{comparable, margin, fourMargins}
 use Rattle.margin.proofs.compare.Statement.{statement}
 use Rattle.margin.proofs.compare.Tie as tie

@@ -5,7 +5,7 @@ use native.Mathlib.Omega.{arith}
 use lib.IntN.{pos, natAbs, _-ℤ_}
 use mir.{Syntax.{w64}, Val.{SFits}, Facts.{toZ-ofZ, toZ-pos}}
 use borrow.Author.Needs.{needs}
-use Rattle.interval.{specs.Whole.{ceilDiv}, proofs.{Bits.{read, natural-cast, small-fits}, Signed.{size-difference}}}
+use Rattle.whole.{specs.Whole.{ceilDiv}, proofs.{Bits.{read, natural-cast, small-fits}, Signed.{size-difference}}}
 use Rattle.margin.specs.Margin.{whole, margin}
 use Rattle.margin.proofs.{Voltages.{Voltages, voltages, margin-fits, share-small}, margin.Statement.{statement}}
 use Rattle.margin.proofs.margin.Tie as tie

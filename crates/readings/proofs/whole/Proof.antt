@@ -2,7 +2,8 @@
 use native.Mathlib.Omega.{arith}
 use borrow.Author.Needs.{needs}
 use mir.Facts.{toZ-ofZ}
-use Rattle.interval.{specs.{Whole.{ceilDiv}, Span.{Span}}, proofs.{Bits.{Held, natural-cast}, SpanFits.{read-upper}}}
+use Rattle.whole.{specs.Whole.{ceilDiv}, proofs.Bits.{natural-cast}}
+use Rattle.interval.{specs.Span.{Span}, proofs.{Held.{Held}, SpanFits.{read-upper}}}
 use Rattle.exact.specs.Reported.{ten}
 use Rattle.readings.specs.{Report.{μΩm, soilOf}, Ends.{mostMean}}
 use Rattle.readings.proofs.whole.Statement.{statement}

@@ -3,7 +3,7 @@ use Prim.Native.Nat.{ℕ, _-_, _≤_, _<_}
 use mathlib.Core.{Path.{_≡_, refl, sym, ap, _∙_}, List.{[], _∷_, _++_}}
 use native.Mathlib.{Numerals.{add-one}, Omega.{arith}}
 use borrow.Author.Needs.{needs}
-use lib.{ListN.{length, getD, take, length-set}, Seq.{take-all, take-suc, take-suc-set}}
+use lib.{ListN.{length, take, length-set}, Seq.{take-all, take-suc, take-suc-set}}
 use Rattle.case.{specs.Parts.{formOf}, proofs.Findings.{form-most}}
 use Rattle.carried_values.specs.Values.{carried}
 use Rattle.carried_values.proofs.{Converting.{carried-count}, values.convert_line.Statement.{statement}}

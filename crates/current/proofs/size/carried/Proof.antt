@@ -1,7 +1,7 @@
 -- `carried` rounds up.
 use mathlib.Core.Path.{refl}
 use borrow.Author.Needs.{needs}
-use Rattle.interval.specs.Whole.{ceilDiv}
+use Rattle.whole.specs.Whole.{ceilDiv}
 use Rattle.current.specs.Size.{carriedOf}
 use Rattle.current.proofs.size.carried.Statement.{statement}
 use Rattle.current.proofs.size.carried.Tie as tie

@@ -1,7 +1,8 @@
 -- `fault_current` is the product of fault and the factor's upper end.
 use lib.Dec.{lit<}
 use mir.Facts.{toZ-ofZ}
-use Rattle.interval.{specs.Span.{Span}, proofs.{Bits.{Held, natural-cast}, Fits.{fits-product}, SpanFits.{read-upper}}}
+use Rattle.interval.{specs.Span.{Span}, proofs.{Held.{Held}, Fits.{fits-product}, SpanFits.{read-upper}}}
+use Rattle.whole.proofs.Bits.{natural-cast}
 use Rattle.exponential.specs.Ends.{billion}
 use Rattle.decrement.proofs.Widths.{factor-span}
 use borrow.Author.Needs.{needs}

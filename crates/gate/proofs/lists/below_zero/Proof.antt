@@ -2,7 +2,7 @@
 use native.Mathlib.Omega.{arith}
 use borrow.Author.Needs.{needs}
 use lib.IntN.{pos}
-use Rattle.interval.proofs.Bits.{small-fits, negated-fits}
+use Rattle.whole.proofs.Bits.{small-fits, negated-fits}
 use Rattle.gate.proofs.lists.below_zero.Statement.{statement}
 use Rattle.gate.proofs.lists.below_zero.Tie as tie
 

@@ -3,7 +3,7 @@ use mathlib.Core.Path.{_∙_}
 use lib.Signed.{mag}
 use mir.Facts.{toZ-ofZ}
 use borrow.Author.Needs.{needs}
-use Rattle.interval.proofs.Bits.{natural-cast, not-below-zero}
+use Rattle.whole.proofs.Bits.{natural-cast, not-below-zero}
 use Rattle.gate.proofs.lists.natural.Statement.{statement}
 use Rattle.gate.proofs.lists.natural.Tie as tie
 

@@ -5,7 +5,7 @@ use native.Mathlib.Omega.{arith}
 use borrow.Author.Needs.{needs}
 use lib.{IntN.{pos}, Signed.{mag, ltZ}}
 use mir.{Syntax.{w64}, Val.{toZ, ofZ}}
-use Rattle.interval.{specs.Whole.{flipZ}, proofs.Bits.{read, flipped, below-zero}}
+use Rattle.whole.{specs.Whole.{flipZ}, proofs.Bits.{read, flipped, below-zero}}
 use Rattle.gate.proofs.print.signed.Statement.{statement}
 use Rattle.gate.proofs.print.signed.Tie as tie
 

@@ -2,7 +2,8 @@
 use borrow.Author.Needs.{needs}
 use mir.Facts.{toZ-ofZ}
 use Rattle.interval.specs.Operations.{outwardOf}
-use Rattle.interval.proofs.{Sizes.{upper-below}, Bits.{Held, back}, Interval.outward.Statement.{statement}}
+use Rattle.interval.proofs.{Sizes.{upper-below}, Held.{Held}, Interval.outward.Statement.{statement}}
+use Rattle.whole.proofs.Bits.{back}
 use Rattle.interval.proofs.Interval.outward.Tie as tie
 
 held : (s : tie.Start) → Held (s .args .self)

@@ -3,7 +3,7 @@ use Prim.Native.Nat.{_-_}
 use mathlib.Core.Path.{_≡_, sym, _∙_}
 use lib.{IntN.{pos}, ListN.{length, getD, drop}}
 use borrow.Author.Needs.{needs}
-use Rattle.interval.proofs.Bits.{back}
+use Rattle.whole.proofs.Bits.{back}
 use Rattle.staged.specs.Check.{outside, anyOutside}
 use Rattle.staged.proofs.{Checks.{any-found, any-step, any-end}, check.any_outside.Statement.{statement}}
 use Rattle.staged.proofs.check.any_outside.Tie as tie

@@ -3,7 +3,7 @@ use mathlib.Core.{Path.{_≡_}, Bool.{true, false}}
 use borrow.Author.Needs.{needs}
 use lib.{IntN.{pos, negℤ}, Signed.{ltZ}}
 use mir.Facts.{toZ-ofZ}
-use Rattle.interval.proofs.Bits.{read}
+use Rattle.whole.proofs.Bits.{read}
 use Rattle.staged.specs.Check.{largestPart, outside}
 use Rattle.staged.proofs.check.is_outside.Statement.{statement}
 use Rattle.staged.proofs.check.is_outside.Tie as tie

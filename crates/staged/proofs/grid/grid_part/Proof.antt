@@ -5,7 +5,7 @@ use native.Mathlib.Omega.{arith}
 use borrow.Author.Needs.{needs}
 use lib.{IntN.{pos, _-ℤ_}, ListN.{length, getD}}
 use mir.{Syntax.{w64}, Val.{SFits, toZ, ofZ}, Facts.{toZ-ofZ}}
-use Rattle.interval.proofs.Bits.{back, small-fits}
+use Rattle.whole.proofs.Bits.{back, small-fits}
 use Rattle.staged.proofs.{GridCurrent.{Left, left-start, left-step, left-end, left-small}, grid.grid_part.Statement.{statement}}
 use Rattle.staged.proofs.grid.grid_part.Tie as tie
 

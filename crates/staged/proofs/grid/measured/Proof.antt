@@ -4,7 +4,7 @@ use native.Mathlib.Omega.{arith}
 use lib.{IntN.{pos}, ListN.{getD, drop}}
 use borrow.Rule.Slice.PartAt.{part-to-end}
 use borrow.Author.Needs.{needs}
-use Rattle.interval.proofs.Bits.{back}
+use Rattle.whole.proofs.Bits.{back}
 use Rattle.staged.specs.{Current.{squareOf}, Parts.{GridPart}}
 use Rattle.staged.proofs.SoundTest.{two-numbers, parts, parts-after-first, injected-small, answer-is, squares}
 use Rattle.staged.proofs.grid.measured.Statement.{statement}

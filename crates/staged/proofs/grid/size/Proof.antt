@@ -3,7 +3,7 @@ use Prim.Native.Nat.{_<_, _^_}
 use native.Mathlib.Omega.{arith}
 use lib.IntN.{natAbs}
 use mir.{Syntax.{w64}, Val.{Fits}}
-use Rattle.interval.proofs.Bits.{negated-fits}
+use Rattle.whole.proofs.Bits.{negated-fits}
 use Rattle.staged.proofs.{Sizes.{size-below, size-above}, grid.size.Statement.{statement}}
 use Rattle.staged.proofs.grid.size.Tie as tie
 

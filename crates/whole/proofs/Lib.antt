@@ -1,0 +1,7 @@
+pub mod Signed
+pub mod Bits
+pub mod Choice
+pub mod BelowZero
+pub mod Rounding
+pub mod Divisors
+pub mod WideProduct

@@ -1,0 +1,3 @@
+pub mod Signed
+pub mod Whole
+pub mod Wide
