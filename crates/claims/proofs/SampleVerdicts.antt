@@ -3,8 +3,9 @@
 -- verdicts.
 use lib.{ListN.{length}, Dec.{T}, IntN.{ℤ, pos}, Signed.{_≤ℤ_, _<ℤ_}}
 use Rattle.case.specs.{declared.Case.{Case}, Bounds.{Bounds}}
-use Rattle.row.specs.{Verdict.{verdictNumber}, Ends.{rowOf}, declared.{Row.{Row}, Verdict.{Verdict}}}
-use Rattle.row.{specs.{declared.Verdict.the-variants.{Safe, Unsafe, Undecided}, Row.{verdictOf, RightRow}}, proofs.Verdicts.{ends-safe}}
+use Rattle.decision.specs.{Verdict.{verdictNumber}, declared.Verdict.{Verdict, the-variants.{Safe, Unsafe, Undecided}}}
+use Rattle.decision.proofs.Verdicts.{ends-safe}
+use Rattle.row.specs.{Ends.{rowOf}, declared.Row.{Row}, Row.{verdictOf, RightRow}}
 use Rattle.sheet.specs.{declared.Answer.{Answer, the-variants.{Rows}}, Table.{Answered}, Examples.{sample as sheetSample}}
 use Rattle.claims.specs.Words.{caseAt, verdictAt}
 use Rattle.claims.proofs.{Outcomes.{rows-answer}, RowNumbers.{verdict-is}, Sheets.{row-of}, RulesKept.{sample-sheet}}

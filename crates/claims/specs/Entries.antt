@@ -7,7 +7,8 @@ use Rattle.tables.specs.Parts.{partAt}
 use Rattle.exact.specs.Exact.{exactly, _·x_, AtOrBelow}
 use Rattle.case.specs.declared.{Case.{Case}, Form.{Form}}
 use Rattle.formulas.specs.{Mesh.{mesh}, Step.{step}, Tolerable.{tolerableTouch, tolerableStep}}
-use Rattle.row.specs.{declared.{Row.{Row}, Verdict.the-variants.{Safe}}, Row.{numbers}}
+use Rattle.row.specs.{declared.Row.{Row}, Row.{numbers}}
+use Rattle.decision.specs.declared.Verdict.the-variants.{Safe}
 use Rattle.margin.specs.declared.Compared.the-variants as compared
 use Rattle.margin.specs.{Margin.{marginsOf}, Meaning.{share}}
 use Rattle.working.specs.{declared.Quantities.{Quantities}, Numbers.{workingNumbers}}

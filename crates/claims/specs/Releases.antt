@@ -5,7 +5,8 @@ use lib.{IntN.{ℤ, pos, natAbs}, ListN.{length, drop}}
 use Rattle.case.specs.{Bounds.{Between}, Fault.{withFault}}
 use Rattle.tables.specs.Parts.{partAt}
 use Rattle.sheet.specs.Answer.{cases}
-use Rattle.row.specs.declared.{Row.{Row}, Verdict.the-variants.{Safe}}
+use Rattle.row.specs.declared.Row.{Row}
+use Rattle.decision.specs.declared.Verdict.the-variants.{Safe}
 use Rattle.hocsimbur.specs.{declared.RowAnswer.{RowAnswer}, Asked.{RowAnswered, AnsweredWith}}
 use Rattle.hocsimbur.specs.declared.RowAnswer.the-variants as answered
 use Rattle.release.specs.{declared.Released.{Released, the-variants.{Pairs, Refused}}, Pair.{stationNumbers}}

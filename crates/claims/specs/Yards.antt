@@ -2,7 +2,7 @@
 use Prim.Native.Nat.{ℕ, zero, suc, _+_, _*_, _-_, _≤_, _<_}
 use mathlib.Core.{Path.{_≡_}, Logic.{_⊎_}}
 use Rattle.case.specs.{declared.Case.{Case}, Bounds.{Between}}
-use Rattle.row.specs.declared.Verdict.the-variants.{Safe}
+use Rattle.decision.specs.declared.Verdict.the-variants.{Safe}
 use Rattle.station_sums.specs.Summary.{one}
 use Rattle.yards.specs.{declared.FewestLines.{FewestLines, the-variants.{Found, None, Refused}}, Yards.{fits}}
 use Rattle.hocsimbur.specs.{declared.RowAnswer.{RowAnswer}, Asked.{RowAnswered, AnsweredWith}}

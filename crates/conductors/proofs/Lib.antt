@@ -1,9 +1,5 @@
-pub mod Rules
-pub mod Table
-pub mod NumberSpans
-pub mod WeightSpans
+mod Table
+mod WeightSpans
 pub mod LineRoots
-pub mod CodeBounds
 pub mod WeightWidths
-pub mod NumberEnclosed
 pub mod WeightsEnclosed

@@ -12,11 +12,11 @@ use Rattle.enclosure.specs.Pi.{πBelow, πAbove, πEnds}
 use Rattle.logarithm.{specs.Ends.{lnPair}, proofs.KnownHalvings.{up-by, ln-up}}
 use Rattle.exponential.{specs.Ends.{billion, most, halvingsOf, expPair}, proofs.{Sizes.{halvings-parts}, Span.{exp-span}}}
 use Rattle.formulas.proofs.Conductors.{by-place}
-use Rattle.conductors.specs.{Counts.{Counts}, Number.{nEnds}}
+use Rattle.effective_number.{specs.{Counts.{Counts}, Number.{nEnds}}, proofs.Table.{nLow, nHigh, number-known}}
+use Rattle.effective_number.proofs.NumberSpans.{n-least, n-is, n-more}
 use Rattle.conductors.specs.Weights.{eight, oddEnds, innerExponent, innerEnds, halfExponent, halfPowerEnds}
-use Rattle.conductors.proofs.Table.{halved, Halved, nLow, nHigh, oddLow, oddHigh, lnLow, lnHigh, exponentLow, exponentHigh}
-use Rattle.conductors.proofs.{Table.{number-known, spread-known, exponent-known}, NumberSpans.{n-least, n-is, n-more}}
-use Rattle.conductors.proofs.{WeightSpans.{ln2-span}, LineRoots.{line-root-span}}
+use Rattle.conductors.proofs.Table.{halved, Halved, oddLow, oddHigh, lnLow, lnHigh, exponentLow, exponentHigh}
+use Rattle.conductors.proofs.{Table.{spread-known, exponent-known}, WeightSpans.{ln2-span}, LineRoots.{line-root-span}}
 
 -- the ends of a logarithm whose halvings are known
 halved-from : {p s : ℕ} → Halved p s → s ≤ p

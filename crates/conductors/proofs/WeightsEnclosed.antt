@@ -15,11 +15,11 @@ use Rattle.exponential.proofs.Encloses.{power-encloses}
 use Rattle.case.specs.{declared.Case.{Case}, Bounds.{Bounds}}
 use Rattle.formulas.{specs.{Lengths.{n}, Mesh.{innerWeight}}, proofs.Conductors.{by-both, quantity-n}}
 use Rattle.formulas.proofs.Quantities.{one, two, twice-n, quantity-odd, quantity-line-root, consistent-inner, consistent-half-exponent}
-use Rattle.conductors.specs.Number.{nEnds}
+use Rattle.effective_number.{specs.Number.{nEnds}, proofs.{NumberSpans.{n-span}, NumberEnclosed.{counts, n-encloses}}}
 use Rattle.conductors.specs.Weights.{eight, oddEnds, spreadEnds, innerExponent, rootOf, innerEnds, ln2Ends, halfExponent}
 use Rattle.conductors.specs.Weights.{halfPowerEnds}
-use Rattle.conductors.proofs.{NumberSpans.{n-span}, WeightSpans.{twice-span, odd-span}, LineRoots.{root-known, line-root-span}}
-use Rattle.conductors.proofs.{WeightWidths.{exponent-span, half-exponent-span}, NumberEnclosed.{counts, n-encloses}}
+use Rattle.conductors.proofs.{WeightSpans.{twice-span, odd-span}, LineRoots.{root-known, line-root-span}}
+use Rattle.conductors.proofs.WeightWidths.{exponent-span, half-exponent-span}
 
 -- 4m² is a whole number
 squares-top : (m : ℕ) → top (whole 4 ·f whole m ·f whole m) ≡ 4 * (m * m)

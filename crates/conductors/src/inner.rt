@@ -2,7 +2,7 @@
 ghost use mathlib.Core.Path.{_≡_};
 ghost use Rattle.interval.specs.Span.{Span};
 ghost use Rattle.case.specs.Bounds.{Between};
-ghost use Rattle.conductors.specs.Counts.{Counts};
+ghost use Rattle.effective_number.specs.Counts.{Counts};
 ghost use Rattle.conductors.specs.Weights.{rootOf, innerExponent, innerEnds};
 use exponential::exp_pair;
 use interval::Interval;

@@ -9,7 +9,7 @@ use Rattle.enclosure.{specs.Enclosure.{Encloses}, proofs.{Basics.{encloses-same
 use Rattle.case.specs.{declared.Case.{Case}, Bounds.{Bounds}}
 use Rattle.formulas.{specs.{Lengths.{ρ, Ki}, Current.{IG}, Width.{μA}}, proofs.Quantities.{quantity-ρ, quantity-Ki, quantity-IG}}
 use Rattle.current.proofs.GridCurrent.{current-encloses}
-use Rattle.conductors.proofs.NumberEnclosed.{Ki-encloses}
+use Rattle.effective_number.proofs.NumberEnclosed.{Ki-encloses}
 use Rattle.drive.specs.Ends.{soilCurrent, driveEnds}
 
 module _ {c : Case} (b : Bounds c) where

@@ -11,8 +11,8 @@ use Rattle.exact.proofs.{Sums.{cong+, mono+, le+}, Products.{mul-assoc, mul≤,
 use Rattle.exact.proofs.Quotients.{clamped, inv-nonneg, div≤}
 use Rattle.case.specs.{declared.Case.{Case}, Bounds.{Bounds}}
 use Rattle.formulas.{specs.{Lengths.{ρ, na}, Width.{μA, referenceKi}}, proofs.Positive.{decimal-nonneg, ρ-pos, na-pos}}
-use Rattle.conductors.{specs.Counts.{spacings, halfPerimeter}, proofs.{Table.{number-known}, NumberSpans.{half-bounds}}}
-use Rattle.conductors.proofs.NumberEnclosed.{counts, na-is}
+use Rattle.effective_number.{specs.Counts.{spacings, halfPerimeter}, proofs.{Table.{number-known}, NumberSpans.{half-bounds}}}
+use Rattle.effective_number.proofs.NumberEnclosed.{counts, na-is}
 use Rattle.current.specs.Ends.{currentEnds}
 use Rattle.drive.proofs.Spans.{currentLow, currentHigh, current-is, current-order, low, low-below}
 

@@ -4,7 +4,7 @@ ghost use Rattle.case.specs.Bounds.{Bounds};
 ghost use Rattle.current.specs.Ends.{currentEnds};
 ghost use Rattle.drive.specs.Ends.{numberOf, soilCurrent, driveEnds};
 use case::Case;
-use conductors::irregularity;
+use effective_number::irregularity;
 use interval::Interval;
 
 // ρ·IG in 10^-6, for the case's current.

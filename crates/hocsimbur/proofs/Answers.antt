@@ -13,8 +13,9 @@ use Rattle.formulas.proofs.Size.{duty-pos, size-not-below, size-smallest}
 use Rattle.decrement.proofs.Right.{factor-reports}
 use Rattle.current.proofs.GridCurrent.{upper-bounds}
 use Rattle.tolerable.specs.{declared.TouchAndStep.{TouchAndStep}, Ends.{touchEnds, stepEnds, touchAndStep}}
-use Rattle.row.specs.{declared.{Row.{Row}, Verdict.{Verdict}}, Ends.{caseVerdict, rowOf}}
+use Rattle.row.specs.{declared.Row.{Row}, Ends.{caseVerdict, rowOf}}
 use Rattle.row.proofs.Right.{tolerable-touch-reports, tolerable-step-reports, resistance-reports, row-verdict, right-row}
+use Rattle.decision.specs.declared.Verdict.{Verdict}
 use Rattle.hocsimbur.specs.declared.Number.the-variants as number
 use Rattle.hocsimbur.specs.declared.Tolerable.the-variants as tolerable
 use Rattle.hocsimbur.specs.declared.RowAnswer.{RowAnswer}

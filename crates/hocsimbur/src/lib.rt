@@ -14,6 +14,7 @@ pub use headroom::headroom;
 pub use interval::Interval;
 pub use interval::Pair;
 ghost use Rattle.hocsimbur.specs.Asked.{FactorAnswered, SizeAnswered, TolerableAnswered, ResistanceAnswered, RowAnswered};
+pub use decision::Verdict;
 pub use logarithm::logarithm;
 pub use margin::Compared;
 pub use margin::margins;
@@ -23,7 +24,6 @@ pub use readings::soil;
 pub use release::Released;
 pub use release::release;
 pub use row::Row;
-pub use row::Verdict;
 // The twenty numbers of a row in the table's order, as `margins` takes them.
 pub use row::row_numbers;
 pub use sheet::Answer;

@@ -9,7 +9,8 @@ use Rattle.tolerable.proofs.Enclosed as T
 use Rattle.mesh.{specs.Ends.{meshEnds}, proofs.Enclosed.{mesh-encloses}}
 use Rattle.step.specs.Ends.{stepVoltageEnds}
 use Rattle.step.proofs.Enclosed as S
-use Rattle.row.{specs.{Row.{numbers}, Ends.{caseVerdict, rowOf}}, proofs.Verdicts.{safe-ends, ends-safe}}
+use Rattle.row.specs.{Row.{numbers}, Ends.{caseVerdict, rowOf}}
+use Rattle.decision.proofs.Verdicts.{safe-ends, ends-safe}
 use Rattle.margin.specs.{declared.Compared.the-variants.{Margins}, Margin.{margin, fourMargins, marginsOf}}
 use Rattle.margin.specs.Meaning.{RightMargins, Right}
 use Rattle.margin.proofs.{Voltages.{Voltages}, Least.{at-most-zero, zero-at-most}, Share.{share-below}}

@@ -11,7 +11,8 @@ use Rattle.formulas.proofs.Conductors.{by-place}
 use Rattle.mesh.specs.Factor.{argumentLog, depthFactor, perimeterRods, innerFactor, innerTerm, geometricFactor}
 use Rattle.mesh.proofs.Logarithms.{argument-span}
 use Rattle.logarithm.specs.Ends.{lnPair}
-use Rattle.conductors.{specs.Weights.{eight, oddEnds, spreadEnds}, proofs.{WeightWidths.{spread-span, inner-span}, NumberEnclosed.{counts}}}
+use Rattle.conductors.{specs.Weights.{eight, oddEnds, spreadEnds}, proofs.WeightWidths.{spread-span, inner-span}}
+use Rattle.effective_number.proofs.NumberEnclosed.{counts}
 use Rattle.drive.specs.Ends.{numberOf}
 use Rattle.enclosure.{specs.Pi.{πEnds}, proofs.{RootSpan.{root-span}, Constants.{π-span}}}
 

@@ -6,8 +6,8 @@ use lib.{Dec.{eqb}, ListN.{length, getD}}
 use borrow.Author.Tests.{eqb-true, ltb-false, not-false}
 use Rattle.text.proofs.Clash.{clash}
 use Rattle.case.specs.{declared.Case.{Case}, Case.{caseOf}, Bounds.{Bounds}, Fault.{withFault}}
-use Rattle.row.specs.{declared.Verdict.{Verdict, the-variants.{Safe, Unsafe, Undecided}}, Verdict.{verdictNumber}, Ends.{rowOf}}
-use Rattle.row.proofs.Right.{right-row}
+use Rattle.decision.specs.{declared.Verdict.{the-variants.{Safe, Unsafe, Undecided}, Verdict}, Verdict.{verdictNumber}}
+use Rattle.row.{specs.Ends.{rowOf}, proofs.Right.{right-row}}
 use Rattle.yards.specs.Yards.{isSafe}
 use Rattle.sheet.specs.Answer.{cases}
 use Rattle.headroom.specs.Headroom.{InRange}

@@ -1,5 +1,3 @@
-pub mod Compared
-pub mod Verdicts
 pub mod Right
 pub mod NoWorse
 pub mod StaysSafe

@@ -17,8 +17,8 @@ use Rattle.mesh.specs.Ends as Mesh
 use Rattle.step.specs.Ends as Step
 use Rattle.step.specs.Ends.{powerOfTwo, shareEnds, reach, spacingSum, spacingFactor, stepLength, stepVoltageEnds}
 use Rattle.step.proofs.NoWorse.{step-below}
-use Rattle.row.specs.{declared.Verdict.the-variants.{Safe}, Verdict.{verdict}, Ends.{caseVerdict}, NoWorse.{NoWorse}}
-use Rattle.row.proofs.Verdicts.{safe-ends, ends-safe}
+use Rattle.decision.{specs.{declared.Verdict.the-variants.{Safe}, Verdict.{verdict}}, proofs.Verdicts.{safe-ends, ends-safe}}
+use Rattle.row.specs.{Ends.{caseVerdict}, NoWorse.{NoWorse}}
 
 -- of four pairs that are safe, mesh and step may fall, and what is tolerable may rise
 safe-eases : {t l m s t′ l′ m′ s′ : Interval} → Below t t′ → Below l l′ → Below m′ m → Below s′ s

@@ -22,7 +22,7 @@ use Rattle.step.proofs.Widths as SW
 use Rattle.resistance.{specs.Ends.{resistanceEnds}, proofs.{Enclosed.{resistance-encloses}, Widths.{resistance-narrow}}}
 use Rattle.resistance.proofs.Rise.{rise-encloses, rise-narrow}
 use Rattle.row.specs.{Row.{RightRow, verdictOf}, Ends.{caseVerdict, rowOf}}
-use Rattle.row.proofs.Verdicts.{Enclosed, safe-true, unsafe-true}
+use Rattle.decision.proofs.Verdicts.{Enclosed, safe-true, unsafe-true}
 
 pub row-verdict : (c : Case) → rowOf c .verdict ≡ caseVerdict c
 unfolding rowOf

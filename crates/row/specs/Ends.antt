@@ -8,7 +8,8 @@ use Rattle.tolerable.specs.Ends.{touchEnds, stepEnds}
 use Rattle.mesh.specs.Ends.{meshEnds}
 use Rattle.step.specs.Ends.{stepVoltageEnds}
 use Rattle.resistance.specs.Ends.{resistanceEnds, riseEnds}
-use Rattle.row.specs.{declared.{Row.{Row}, Verdict.{Verdict}}, Verdict.{verdict}}
+use Rattle.row.specs.declared.Row.{Row}
+use Rattle.decision.specs.{declared.Verdict.{Verdict}, Verdict.{verdict}}
 
 -- the verdict of a case
 unfoldable pub caseVerdict : Case → Verdict

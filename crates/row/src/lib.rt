@@ -1,8 +1,8 @@
 // The row of a case.
-mod decide;
 mod put;
 mod work;
 
+use decision::Verdict;
 use interval::Interval;
 pub use put::put_row;
 pub use put::row_numbers;
@@ -28,12 +28,6 @@ pub const TOLERABLE_STEP_LOWER: usize = 10;
 pub const MESH_UPPER: usize = 13;
 
 pub const STEP_UPPER: usize = 15;
-
-pub enum Verdict {
-    Safe,
-    Unsafe,
-    Undecided,
-}
 
 // The numbers of a row: a pair is two of them, lower end first.
 pub struct Row {

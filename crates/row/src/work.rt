@@ -7,8 +7,8 @@ ghost use Rattle.decrement.specs.Ends.{factorEnds};
 ghost use Rattle.current.specs.Ends.{upperFactor};
 ghost use Rattle.row.specs.Ends.{rowOf};
 use crate::Row;
-use crate::decide::verdict_of;
 use case::Case;
+use decision::verdict_of;
 use interval::Interval;
 
 fn size_number(c: Case, factor: Interval) -> i64
@@ -29,7 +29,7 @@ pub fn work_row(c: Case) -> Row
     let tolerable = tolerable::touch_and_step(c);
     let tolerable_touch = tolerable.touch;
     let tolerable_step = tolerable.step;
-    let n = conductors::effective_number(c.across, c.along);
+    let n = effective_number::effective_number(c.across, c.along);
     let drive = drive::drive(c, n, current);
     let mesh = mesh::mesh_voltage(c, n, drive);
     let step = step::step_voltage(c, n, drive);

@@ -4,7 +4,8 @@ use Prim.Native.Nat.{ℕ}
 use mathlib.Core.List.{List, [], _∷_}
 use Rattle.text.specs.Text.{bytes}
 use Rattle.writing.specs.Decimal.{signed}
-use Rattle.row.specs.declared.{Row.{Row}, Verdict.{Verdict, the-variants.{Safe, Unsafe, Undecided}}}
+use Rattle.row.specs.declared.Row.{Row}
+use Rattle.decision.specs.declared.Verdict.{the-variants.{Safe, Unsafe, Undecided}, Verdict}
 
 unfoldable pub word : Verdict → List ℕ
 word Safe = bytes "safe"

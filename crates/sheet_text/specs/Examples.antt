@@ -3,7 +3,7 @@ use mathlib.Core.{Path.{_≡_, refl}, List.{[], _∷_, map}}
 use Rattle.text.specs.Text.{bytes}
 use Rattle.interval.specs.Operations.{natural}
 use Rattle.writing.specs.{Decimal.{digitsIn, digitCount, lastDigits, decimal, signed}, Text.{moreFields, parted, ended, textOf}}
-use Rattle.row.specs.{declared.Verdict.the-variants.{Safe, Unsafe, Undecided}, Verdict.{verdictNumber}}
+use Rattle.decision.specs.{declared.Verdict.the-variants.{Safe, Unsafe, Undecided}, Verdict.{verdictNumber}}
 use Rattle.station_sums.specs.Summary.{sameZ, one, among, byAppearance, stations}
 use Rattle.station_sums.specs.Summary.{rowsOf, countOf, higher, highest, worstSeason, stationNumbers}
 use Rattle.station_sums.specs.Summary.{summaryOf}

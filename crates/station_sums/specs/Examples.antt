@@ -3,7 +3,8 @@ use Prim.Native.Nat.{ℕ}
 use mathlib.Core.{Path.{_≡_, refl}, List.{[], _∷_}}
 use lib.IntN.{pos}
 use Rattle.interval.specs.Operations.{natural}
-use Rattle.row.specs.{declared.{Row.{Row}, Verdict.{Verdict, the-variants.{Safe, Unsafe, Undecided}}}, Verdict.{verdictNumber}}
+use Rattle.row.specs.declared.Row.{Row}
+use Rattle.decision.specs.{declared.Verdict.{the-variants.{Safe, Unsafe, Undecided}, Verdict}, Verdict.{verdictNumber}}
 use Rattle.station_sums.specs.Summary.{sameZ, one, among, byAppearance, stations, rowsOf, countOf, higher, highest, worstSeason}
 use Rattle.station_sums.specs.Summary.{stationNumbers, summaryOf, filled}
 

@@ -6,16 +6,16 @@ ghost use lib.Dec.{eqb};
 ghost use lib.Signed.{ltZ};
 ghost use mathlib.Core.Bool.{_||_};
 ghost use Rattle.case.specs.Bounds.{Bounds};
-ghost use Rattle.row.specs.Verdict.{verdictNumber};
+ghost use Rattle.decision.specs.Verdict.{verdictNumber};
 ghost use Rattle.row.specs.Ends.{rowOf};
 ghost use Rattle.tally.specs.Lines.{one, sameYard, otherYard, tooSmall};
 ghost use Rattle.tally.specs.Fault.{commonFault};
 ghost use Rattle.tally.specs.Tally.{addLine, Small};
 use crate::Tally;
 use case::Case;
+use decision::Verdict;
 use headroom::Room;
 use headroom::headroom;
-use row::Verdict;
 use row::work_row;
 
 // 254² and 1000: 1000·dia² is in 64,516ths of a kcmil, dia in tenths of a mm.

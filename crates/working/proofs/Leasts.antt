@@ -12,8 +12,8 @@ use Rattle.exponential.proofs.Sizes.{halvings-least, argument-size, nested-size
 use Rattle.enclosure.proofs.Constants.{π-span}
 use Rattle.case.specs.{declared.Case.{Case}, Bounds.{Bounds}}
 use Rattle.formulas.proofs.Conductors.{by-place}
-use Rattle.conductors.{specs.{Counts.{Counts}, Number.{nEnds}, Weights.{innerEnds}}, proofs.LineRoots.{line-root-span}}
-use Rattle.conductors.proofs.{WeightWidths.{exponent-span, inner-span}, NumberEnclosed.{counts}}
+use Rattle.effective_number.{specs.{Counts.{Counts}, Number.{nEnds}}, proofs.NumberEnclosed.{counts}}
+use Rattle.conductors.{specs.Weights.{innerEnds}, proofs.{LineRoots.{line-root-span}, WeightWidths.{exponent-span, inner-span}}}
 use Rattle.mesh.{specs.Factor.{argumentLog, innerTerm, innerFactor, perimeterRods, geometricFactor}, proofs.Logarithms.{argument-span}}
 use Rattle.mesh.proofs.FactorSpans as mesh
 use Rattle.step.specs.Ends.{perMetre, spacingSum, spacingFactor}

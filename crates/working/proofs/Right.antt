@@ -9,7 +9,7 @@ use Rattle.case.{specs.Bounds.{Bounds}, proofs.Bounds.{record-bounds}}
 use Rattle.formulas.proofs.{Conductors.{quantity-n, quantity-s}, Quantities.{quantity-Ki, quantity-Kh, quantity-Kii, quantity-LM}}
 use Rattle.formulas.proofs.Consistent.{quantity-rootTime, consistent-Km, consistent-Ks}
 use Rattle.lengths.{specs.Lengths.{conductorLength, rodLength, totalLength}, proofs.Lengths.{conductor-is, rod-is, total-is}}
-use Rattle.conductors.proofs.{NumberSpans.{n-span, Ki-span}, NumberEnclosed.{counts, n-encloses, Ki-encloses}}
+use Rattle.effective_number.proofs.{NumberSpans.{n-span, Ki-span}, NumberEnclosed.{counts, n-encloses, Ki-encloses}}
 use Rattle.drive.proofs.Enclosed.{drive-consistent}
 use Rattle.tolerable.proofs.{Spans.{time-span}, Enclosed.{time-encloses}}
 use Rattle.resistance.proofs.{Spans.{side-span}, Enclosed.{side-encloses}}

@@ -6,7 +6,7 @@ use lib.{Dec.{eqb}, IntN.{pos}}
 use Rattle.interval.specs.{declared.Interval.{Interval}, Operations.{point, quotientOf}}
 use Rattle.case.specs.declared.Case.{Case}
 use Rattle.lengths.specs.Lengths.{conductorLength, rodLength, totalLength}
-use Rattle.conductors.specs.Number.{KiEnds}
+use Rattle.effective_number.specs.Number.{KiEnds}
 use Rattle.drive.specs.Ends.{numberOf}
 use Rattle.tolerable.specs.Ends.{timeRoot}
 use Rattle.resistance.specs.Ends.{sideEnds}

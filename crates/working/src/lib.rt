@@ -84,7 +84,7 @@ fn work(c: Case) -> Quantities
     ensures { λ r. ⌜ r ≡ workingOf c ⌝ }
 {
     let current = current::grid_current(c, decrement::factor_ends(c));
-    let n = conductors::effective_number(c.across, c.along);
+    let n = effective_number::effective_number(c.across, c.along);
     let drive = drive::drive(c, n, current);
     Quantities {
         cs: layer_factor(c),
@@ -96,7 +96,7 @@ fn work(c: Case) -> Quantities
         lm: mesh::mesh_length(c),
         ls: step_in_micrometres(c),
         n,
-        ki: conductors::irregularity(n),
+        ki: effective_number::irregularity(n),
         kii: mesh::inner_factor(c, n),
         kh: mesh::depth_factor(c),
         km: mesh::geometric_factor(c, n),

@@ -7,7 +7,8 @@ use Rattle.text.proofs.Clash.{clash}
 use Rattle.case.specs.{declared.{Case.{Case}, Judged.{Judged}}, Check.{recordJudged, recordAnswer}, Bounds.{Bounds}}
 use Rattle.case.proofs.{Bounds.{record-bounds}, BoundsSound.{bounds-sound}}
 use Rattle.case.specs.declared.Judged.the-variants as judged
-use Rattle.row.{specs.{declared.Verdict.the-variants.{Safe}, Ends.{caseVerdict, rowOf}}, proofs.Right.{row-verdict, right-row}}
+use Rattle.decision.specs.declared.Verdict.the-variants.{Safe}
+use Rattle.row.{specs.Ends.{caseVerdict, rowOf}, proofs.Right.{row-verdict, right-row}}
 use Rattle.yards.specs.declared.FewestLines.{FewestLines, the-variants.{Found, None, Refused}}
 use Rattle.yards.specs.Yards.{yard, yards, trial, meansSafe, isSafe}
 use Rattle.yards.specs.Fewest.{leastSide, mostSide, fewest, sideAnswer, answer, AnsweredYard, RightAnswer, FewestAnswered}

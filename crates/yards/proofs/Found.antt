@@ -3,7 +3,8 @@ use Prim.Native.Nat.{ℕ, suc}
 use mathlib.Core.{Path.{_≡_, refl, _∙_}, Bool.{Bool, true, false, cond}, List.{List, [], _∷_}}
 use Rattle.text.proofs.Clash.{clash}
 use Rattle.case.specs.{declared.Case.{Case}, Bounds.{Bounds}}
-use Rattle.row.specs.{declared.Verdict.{Verdict, the-variants.{Safe, Unsafe, Undecided}}, Ends.{caseVerdict}}
+use Rattle.decision.specs.declared.Verdict.{the-variants.{Safe, Unsafe, Undecided}, Verdict}
+use Rattle.row.specs.Ends.{caseVerdict}
 use Rattle.yards.specs.{declared.FewestLines.the-variants.{Found}, Yards.{yard, yards, meansSafe, isSafe}, Fewest.{firstSafe, fewest}}
 use Rattle.yards.proofs.Sound.{Tried, Every, yards-sound}
 

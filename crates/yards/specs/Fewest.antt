@@ -3,7 +3,8 @@ use Prim.Native.Nat.{ℕ, suc, _≤_, _<_}
 use mathlib.Core.{Path.{_≡_}, Bool.{cond, _&&_}, List.{List, [], _∷_}}
 use lib.{Dec.{leb, eqb}, ListN.{length, getD}}
 use Rattle.case.specs.{declared.{Case.{Case}, Judged.the-variants.{Sound}}, Check.{recordJudged, recordAnswer}}
-use Rattle.row.specs.{declared.Verdict.the-variants.{Safe}, Row.{RightRow}, Ends.{rowOf}}
+use Rattle.decision.specs.declared.Verdict.the-variants.{Safe}
+use Rattle.row.specs.{Row.{RightRow}, Ends.{rowOf}}
 use Rattle.yards.specs.{declared.FewestLines.{FewestLines, the-variants.{Found, None, Refused}}, Yards.{yard, yards, trial, isSafe}}
 
 -- the first safe of the yards that are left, after some were tried

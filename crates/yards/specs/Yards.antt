@@ -4,7 +4,8 @@ use mathlib.Core.{Bool.{Bool, true, false, cond, _&&_}, List.{List, [], _∷_, _
 use lib.Dec.{eqb}
 use Rattle.text.specs.Text.{bytes}
 use Rattle.case.specs.{declared.Case.{Case}, Columns.{Range, columns, inRange, nameIndex}, Parts.{rangeAt}, Check.{countFrom}}
-use Rattle.row.specs.{declared.Verdict.{Verdict, the-variants.{Safe, Unsafe, Undecided}}, Ends.{caseVerdict}}
+use Rattle.decision.specs.declared.Verdict.{the-variants.{Safe, Unsafe, Undecided}, Verdict}
+use Rattle.row.specs.Ends.{caseVerdict}
 
 -- mm between two lines
 unfoldable pub spacing : ℕ → ℕ → ℕ

@@ -4,7 +4,7 @@ ghost use Prim.Native.Nat.{_≤_};
 ghost use Rattle.case.specs.Bounds.{Bounds};
 ghost use Rattle.yards.specs.Yards.{fits as fitting, yard as yardOf, trial as trialOf, meansSafe, isSafe};
 use case::Case;
-use row::Verdict;
+use decision::Verdict;
 use row::work_row;
 
 // The spacing's range.

@@ -1,5 +1,5 @@
 -- `may_release` answers true of a safe row alone, and a right row that is safe is so of the exact values.
-use Rattle.row.specs.declared.Verdict.the-variants.{Unsafe, Undecided}
+use Rattle.decision.specs.declared.Verdict.the-variants.{Unsafe, Undecided}
 use Rattle.caller.proofs.Release.{refused-held, verdict-held, released, not-unsafe, not-undecided}
 use Rattle.caller.proofs.may_release.Statement.{statement}
 use borrow.Author.Needs.{needs}

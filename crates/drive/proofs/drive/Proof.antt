@@ -1,5 +1,5 @@
 -- `drive` multiplies Ki by ρ·IG; the product is wide.
-use Rattle.conductors.proofs.{NumberSpans.{n-span}, NumberEnclosed.{counts}}
+use Rattle.effective_number.proofs.{NumberSpans.{n-span}, NumberEnclosed.{counts}}
 use Rattle.drive.specs.Ends.{driveEnds}
 use Rattle.drive.proofs.{Spans.{drive-wide}, drive.Statement.{statement}}
 use Rattle.drive.proofs.drive.Tie as tie

@@ -1,6 +1,6 @@
 -- `inner_factor` is 1 for rods along the perimeter, else the inner conductors' weight.
 use borrow.Author.{Tests.{eq-eqb, ne-eqb}, Needs.{needs}}
-use Rattle.conductors.proofs.{NumberSpans.{n-span}, NumberEnclosed.{counts}}
+use Rattle.effective_number.proofs.{NumberSpans.{n-span}, NumberEnclosed.{counts}}
 use Rattle.mesh.specs.Factor.{innerFactor}
 use Rattle.mesh.proofs.factor.inner_factor.Statement.{statement}
 use Rattle.mesh.proofs.factor.inner_factor.Tie as tie

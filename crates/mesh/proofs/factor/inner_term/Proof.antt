@@ -2,7 +2,7 @@
 use native.Mathlib.{Omega.{arith}, Nat.{mul-le-mul}}
 use lib.Dec.{lit<}
 use Rattle.interval.proofs.{Span.{span-size}, Rules.{lits}, NumeralSpans.{numeral-quotient-fits}}
-use Rattle.conductors.proofs.{NumberSpans.{n-span}, NumberEnclosed.{counts}}
+use Rattle.effective_number.proofs.{NumberSpans.{n-span}, NumberEnclosed.{counts}}
 use Rattle.mesh.specs.Factor.{innerTerm}
 use Rattle.mesh.proofs.FactorSpans.{depth-span, inner-factor-span, ratio-span, spread-size}
 use Rattle.mesh.proofs.factor.inner_term.Statement.{statement}

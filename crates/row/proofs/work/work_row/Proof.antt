@@ -2,7 +2,7 @@
 use native.Mathlib.Omega.{arith}
 use mir.{Syntax.{w64}, Val.{SFits}, Facts.{toZ-ofZ, toZ-pos}}
 use Rattle.tolerable.specs.Ends.{touchAndStep}
-use Rattle.conductors.proofs.NumberEnclosed.{counts}
+use Rattle.effective_number.proofs.NumberEnclosed.{counts}
 use Rattle.row.specs.Ends.{caseVerdict, rowOf}
 use borrow.Author.Needs.{needs}
 use Rattle.row.proofs.work.work_row.Statement.{statement}

@@ -1,6 +1,6 @@
 -- `count_unsafe` goes by the verdict.
 use borrow.Author.Needs.{needs}
-use Rattle.row.specs.Verdict.{verdictNumber}
+use Rattle.decision.specs.Verdict.{verdictNumber}
 use Rattle.tally.specs.Lines.{one}
 use Rattle.tally.proofs.add.count_unsafe.Statement.{statement}
 use Rattle.tally.proofs.add.count_unsafe.Tie as tie

@@ -1,0 +1,5 @@
+pub mod Rules
+pub mod Table
+pub mod NumberSpans
+mod CodeBounds
+pub mod NumberEnclosed
