@@ -11,13 +11,12 @@ use c_line::Question;
 use c_line::put_line;
 use c_line::width;
 use case::Form;
-use case::NAMES;
-use case::case_of;
 use judgement::Judgement;
 use judgement::VALUES;
 use judgement::read;
 use sheet::Answer;
 use sheet::TABLE_SHORT;
+use table_rows::line_case;
 
 // The numbers of n lines of values, which are sound.
 fn write_lines(question: Question, values: &[u32], n: usize, numbers: &mut [i64])
@@ -29,9 +28,7 @@ fn write_lines(question: Question, values: &[u32], n: usize, numbers: &mut [i64]
     let wide = width(question);
     let mut i: usize = 0;
     while i < n {
-        let a = NAMES * i;
-        let b = a + NAMES;
-        let c = case_of(&values[a..b]);
+        let c = line_case(values, i);
         let from = wide * i;
         let to = from + wide;
         put_line(question, c, &mut numbers[from..to]);

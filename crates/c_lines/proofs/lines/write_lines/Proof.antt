@@ -1,12 +1,12 @@
 -- `write_lines` puts line after line.
 use Prim.Native.Nat.{_+_, _*_, _-_, _≤_}
-use mathlib.Core.Path.{_≡_, ap, _∙_}
+use mathlib.Core.Path.{_∙_}
 use native.Mathlib.Omega.{arith}
 use borrow.Author.Needs.{needs}
 use borrow.Rule.Slice.PartMut.{mid-len}
-use lib.ListN.{length, take, drop}
-use Rattle.tables.{specs.Parts.{partAt}, proofs.Filling.{filled-start, filled-end}}
-use Rattle.case.specs.{Columns.{nameCount}, Case.{caseOf}}
+use lib.ListN.{length}
+use Rattle.tables.proofs.Filling.{filled-start, filled-end}
+use Rattle.case.specs.Columns.{nameCount}
 use Rattle.table_rows.{specs.Rows.{storedCases}, proofs.StoredCases.{cases-count, stored-case}}
 use Rattle.c_lines.proofs.{Arrays.{FilledTo, part-within, line-filled}, lines.write_lines.Statement.{statement}}
 use Rattle.c_lines.proofs.lines.write_lines.Tie as tie
@@ -27,28 +27,8 @@ start c = c .before .before .before .before
 within : (c : tie.In-loop Inv-loop μ-loop) → nameCount * c .before .loop .i + nameCount ≤ length (start c .args .values .now)
 within c = omega (arith, start c .pre .1 .0, c .loop-test .taken)
 
-mul-a : tie.Need-mul-a Inv-loop μ-loop
-mul-a c = omega (arith, within c)
-
-add-b : tie.Need-add-b Inv-loop μ-loop
-add-b c = omega (arith, within c)
-
-mul-case-of : tie.Need-mul-case-of Inv-loop μ-loop
-mul-case-of c = omega (arith, within c)
-
-part-case-of-end : tie.Need-part-case-of-end Inv-loop μ-loop
-part-case-of-end c = omega (arith, within c)
-
-case-of-requires : tie.Need-case-of-requires Inv-loop μ-loop
-case-of-requires c κs = mid-len _ _ (start (c .before) .args .values .now) (part-case-of-end (c .before)) ∙ omega arith
-
--- the case of line i
-case-is : (c : tie.After-case-of Inv-loop μ-loop)
-    → c .case-of .result ≡ caseOf (partAt nameCount (start (c .before .before) .args .values .now) (c .before .before .before .loop .i))
-case-is c =
-    let i = c .before .before in
-    let w : nameCount * i .before .loop .i + nameCount - nameCount * i .before .loop .i ≡ nameCount = omega arith in
-    c .case-of .ensures ∙ ap (λ k. caseOf (take k (drop (nameCount * i .before .loop .i) (start i .args .values .now)))) w
+line-case-requires : tie.Need-line-case-requires Inv-loop μ-loop
+line-case-requires c κs = within c
 
 -- part i is within the array
 room : (c : tie.In-loop Inv-loop μ-loop)
@@ -58,34 +38,34 @@ room c =
     part-within (start c .args .question) (l .before .width .ensures) (omega (arith, start c .pre .1 .1, l .loop .inv .0 .size)) (c .loop-test .taken)
 
 mul-from : tie.Need-mul-from Inv-loop μ-loop
-mul-from c = omega (arith, room (c .before .before))
+mul-from c = omega (arith, room (c .before))
 
 add-to : tie.Need-add-to Inv-loop μ-loop
-add-to c = omega (arith, room (c .before .before))
+add-to c = omega (arith, room (c .before))
 
 mul-put-line : tie.Need-mul-put-line Inv-loop μ-loop
-mul-put-line c = omega (arith, room (c .before .before))
+mul-put-line c = omega (arith, room (c .before))
 
 part-put-line-end : tie.Need-part-put-line-end Inv-loop μ-loop
-part-put-line-end c = omega (arith, room (c .before .before))
+part-put-line-end c = omega (arith, room (c .before))
 
 put-line-requires : tie.Need-put-line-requires Inv-loop μ-loop
 put-line-requires c κs =
-    let i = c .before .before .before in
+    let i = c .before .before in
     let l = i .before in (
-      rw (case-is (c .before)) (start i .pre .0 (l .loop .i) (i .loop-test .taken)),
+      rw (c .before .line-case .ensures) (start i .pre .0 (l .loop .i) (i .loop-test .taken)),
       mid-len _ _ (l .loop .numbers) (part-put-line-end (c .before)) ∙ omega arith ∙ l .before .width .ensures,
     )
 
 loop-again : tie.Need-loop-again Inv-loop μ-loop
 loop-again c =
     let k = c .before .before .before in
-    let i = k .before .before in
+    let i = k .before in
     let l = i .before in
     let s = start i in (
       line-filled (s .args .question) (l .before .width .ensures) (storedCases (s .args .values .now) (s .args .n))
           (c .before .put-line .last .1 .1 .0) (l .loop .inv .0) (room i)
-          (rw (stored-case (s .args .values .now) (s .args .n) (l .loop .i) (i .loop-test .taken), ← case-is k)
+          (rw (stored-case (s .args .values .now) (s .args .n) (l .loop .i) (i .loop-test .taken), ← k .line-case .ensures)
           (c .before .put-line .ensures)),
       search needs,
     )
@@ -100,6 +80,5 @@ returns c =
 
 pub write-lines-spec : {M : Type 1} → statement M
 write-lines-spec =
-    tie.close (tie.spec Inv-loop μ-loop (λ c κs. search needs) loop-holds mul-a add-b mul-case-of (λ c. search needs) (λ c. search needs)
-    part-case-of-end case-of-requires mul-from add-to mul-put-line (λ c. search needs) (λ c. search needs) part-put-line-end
+    tie.close (tie.spec Inv-loop μ-loop (λ c κs. search needs) loop-holds line-case-requires mul-from add-to mul-put-line (λ c. search needs) (λ c. search needs) part-put-line-end
     put-line-requires (λ c. search needs) (λ c. search needs) loop-again same-length returns)
