@@ -8,20 +8,20 @@ use Rattle.text.proofs.Clash.{clash}
 use Rattle.case.specs.{declared.Form.{Form}, Columns.{columns}, Parts.{formOf}}
 use Rattle.judgement.specs.{declared.Judgement.{Judgement}, Sheet.{judgement}}
 use Rattle.judgement.specs.declared.Judgement.the-variants as judged
+use Rattle.carried_values.specs.{Values.{other, casesIn}, Changes.{changes}}
+use Rattle.conversion.{specs.declared.Carried.{Carried}, proofs.RoundTrip.{carried-short}}
+use Rattle.conversion.specs.declared.Carried.the-variants as carried
+use Rattle.conversion.specs.Answer as conversion
 use Rattle.sheet.specs.declared.Answer as sheets
 use Rattle.sheet.specs.declared.Answer.the-variants as sheet
 use Rattle.sheet.specs.Answer.{answer}
-use Rattle.stations.specs.{declared.Summed.{Summed}, Answer.{sheetRows, summaryRefused, answerAfter, summaryAnswer, SummaryAnswered}}
 use Rattle.station_sums.specs.Summary.{stations, stationLength}
+use Rattle.stations.specs.{declared.Summed.{Summed}, Answer.{sheetRows, summaryRefused, answerAfter, summaryAnswer, SummaryAnswered}}
 use Rattle.stations.specs.declared.Summed.the-variants as summed
 use Rattle.release.specs.declared.{licence.Wrong.{Wrong, the-variants.{At, Nothing}}, Released.{Released}}
 use Rattle.release.specs.{Licence.{pairsOf, badCount, firstWrong}, Pair.{pairLength}}
 use Rattle.release.specs.Answer.{roomAnswer, afterPairs, licenceAnswer, afterSheet, releaseAnswer, ReleaseAnswered}
 use Rattle.release.specs.declared.Released.the-variants as released
-use Rattle.conversion.{specs.declared.Carried.{Carried}, proofs.RoundTrip.{carried-short}}
-use Rattle.carried_values.specs.{Values.{other, casesIn}, Changes.{changes}}
-use Rattle.conversion.specs.declared.Carried.the-variants as carried
-use Rattle.conversion.specs.Answer as conversion
 use Rattle.c_tell.specs.Room.{Few}
 use Rattle.c_counts.specs.Counts.{stationCount, pairCount, byteCount}
 

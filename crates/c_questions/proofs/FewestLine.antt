@@ -6,9 +6,9 @@ use Rattle.tables.specs.Parts.{partsOf}
 use Rattle.case.specs.{Case.{caseOf}, Columns.{columns, nameCount}}
 use Rattle.judgement.specs.declared.Judgement.the-variants as judged
 use Rattle.judgement.specs.Sheet.{judgement}
-use Rattle.sheet.specs.Answer.{cases}
-use Rattle.table_rows.specs.Rows.{storedCases}
 use Rattle.yards.specs.{declared.FewestLines.{FewestLines, the-variants.{Refused}}, Fewest.{FewestAnswered}}
+use Rattle.table_rows.specs.Rows.{storedCases}
+use Rattle.sheet.specs.Answer.{cases}
 use Rattle.c_questions.specs.OneLine.{CasesFewest, FewestBy, SheetFewest}
 
 pub not-one : (values : List ℕ) (side n : ℕ) → (n ≡ 1 → ⊥) → CasesFewest side (storedCases values n) (Refused 4 3 0)

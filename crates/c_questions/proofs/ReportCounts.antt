@@ -3,14 +3,14 @@ use Prim.Native.Nat.{ℕ, _<_, _^_}
 use mathlib.Core.{Bool.{Bool, true, false, cond}, List.{List}}
 use native.Mathlib.Omega.{arith}
 use lib.{Dec.{ltb}, IntN.{ℤ}, ListN.{length}}
-use Rattle.sheet.specs.declared.Answer.{Answer}
-use Rattle.sheet.specs.declared.Answer.the-variants as sheet
 use Rattle.readings.specs.declared.Sounding.{Sounding}
 use Rattle.readings.specs.declared.Sounding.the-variants as sounding
 use Rattle.staged.specs.declared.SplitAnswer.{SplitAnswer}
 use Rattle.staged.specs.declared.SplitAnswer.the-variants as split
 use Rattle.yards.specs.declared.FewestLines.{FewestLines}
 use Rattle.yards.specs.declared.FewestLines.the-variants as fewest
+use Rattle.sheet.specs.declared.Answer.{Answer}
+use Rattle.sheet.specs.declared.Answer.the-variants as sheet
 use Rattle.c_tell.specs.Room.{Few}
 use Rattle.c_reply.specs.Reply.{soilReply, splitReply, fewestReply, Reply, Numbers, Refused, replyAnswer, Replied}
 

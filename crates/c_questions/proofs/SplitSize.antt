@@ -4,11 +4,12 @@ use mathlib.Core.{Path.{_≡_, refl}, Bool.{Bool, true, false, cond}, List.{List
 use native.Mathlib.{Omega.{arith}, Decide.{decLt}, Nat.{mul-le-mul}}
 use lib.{IntN.{ℤ, natAbs}, ListN.{length}}
 use Rattle.text.proofs.Clash.{clash}
-use Rattle.staged.specs.{declared.SplitAnswer.{SplitAnswer, the-variants.{Grid, Refused}}, Check.{badCount, anyOutside, noneInjected}}
-use Rattle.staged.specs.{Current.{everyOther, gridPart, inPhase, quadrature, squareOf}, Split.{splitOf}}
-use Rattle.staged.specs.{Parts.{Sound, Parts, largestGridPart}, Answer.{gridSquare, injectedSquare, gridAnswer, answer}}
+use Rattle.staged.specs.{declared.SplitAnswer.{the-variants.{Grid, Refused}, SplitAnswer}, Check.{badCount, anyOutside, noneInjected}}
+use Rattle.staged.specs.{Current.{everyOther, gridPart, inPhase, quadrature, squareOf}, Parts.{Sound, Parts, largestGridPart}}
+use Rattle.staged.specs.Answer.{gridSquare, injectedSquare, gridAnswer, answer}
 use Rattle.staged.proofs.GridCurrent.{Left, left-start, left-step, left-end, left-small}
-use Rattle.staged.proofs.{SoundTest.{parts, parts-after-first, injected-some}, Smallest.{split-least}}
+use Rattle.staged.proofs.SoundTest.{parts, parts-after-first, injected-some}
+use Rattle.long_root.{specs.Split.{splitOf}, proofs.Smallest.{split-least}}
 use Rattle.c_reply.specs.Reply.{SmallSplit}
 
 grid-part-small : {s : List ℤ} → Parts s → natAbs (gridPart (everyOther s)) ≤ largestGridPart

@@ -5,8 +5,8 @@ use lib.IntN.{ℤ}
 use Rattle.case.specs.{declared.Case.{Case}, Columns.{columns}}
 use Rattle.judgement.specs.{declared.Judgement.{Judgement}, Sheet.{judgement}}
 use Rattle.judgement.specs.declared.Judgement.the-variants as judged
-use Rattle.sheet.specs.{declared.Answer.{Answer}, Answer.{cases}}
 use Rattle.yards.specs.{declared.FewestLines.{FewestLines, the-variants.{Refused}}, Fewest.{FewestAnswered}}
+use Rattle.sheet.specs.{declared.Answer.{Answer}, Answer.{cases}}
 use Rattle.c_tell.specs.Told.{Told}
 use Rattle.c_reply.specs.Reply.{Replied, fewestReply}
 

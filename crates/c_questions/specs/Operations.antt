@@ -4,10 +4,10 @@ use Prim.Native.Nat.{ℕ}
 use mathlib.Core.List.{List}
 use lib.IntN.{ℤ}
 use Rattle.case.specs.declared.Form.{Form}
-use Rattle.stations.specs.{declared.Summed.{Summed}, Answer.{SummaryAnswered}}
-use Rattle.release.specs.{declared.Released.{Released}, Answer.{ReleaseAnswered}}
 use Rattle.conversion.specs.declared.Carried.{Carried}
 use Rattle.conversion.specs.Answer as conversion
+use Rattle.stations.specs.{declared.Summed.{Summed}, Answer.{SummaryAnswered}}
+use Rattle.release.specs.{declared.Released.{Released}, Answer.{ReleaseAnswered}}
 use Rattle.c_tell.specs.Told.{Told}
 use Rattle.c_counts.specs.Counts.{stationCount, pairCount, byteCount}
 

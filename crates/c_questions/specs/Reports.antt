@@ -3,10 +3,10 @@
 use Prim.Native.Nat.{ℕ}
 use mathlib.Core.List.{List}
 use lib.IntN.{ℤ}
-use Rattle.sheet.specs.declared.Answer.{Answer}
 use Rattle.readings.specs.declared.Sounding.{Sounding}
 use Rattle.readings.specs.Answer as readings
 use Rattle.staged.specs.Answer as staged
+use Rattle.sheet.specs.declared.Answer.{Answer}
 use Rattle.c_tell.specs.Told.{Told}
 use Rattle.c_reply.specs.Reply.{Replied, soilReply, splitReply}
 

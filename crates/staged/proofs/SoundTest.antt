@@ -4,9 +4,9 @@ use mathlib.Core.{Path.{_≡_}, Bool.{false, _&&_}, List.{List}}
 use native.Mathlib.{Omega.{arith}, Nat.{mul-le-mul}}
 use lib.{Dec.{eqb}, IntN.{ℤ, pos, natAbs}, ListN.{length, getD, drop, length-drop}, Seq.{getD-drop}}
 use Rattle.staged.specs.{declared.SplitAnswer.the-variants.{Grid}, Check.{fewestNumbers, largestPart, noneInjected}}
-use Rattle.staged.specs.{Current.{inPhase, quadrature, injected, squareOf}, Split.{splitOf}}
-use Rattle.staged.specs.{Answer.{gridSquare, injectedSquare, gridAnswer}, Parts.{largestGridPart, Sound, Parts, GridPart}}
-use Rattle.staged.specs.LongRoot.{Squares}
+use Rattle.staged.specs.{Current.{inPhase, quadrature, injected, squareOf}, Answer.{gridSquare, injectedSquare, gridAnswer}}
+use Rattle.staged.specs.Parts.{largestGridPart, Sound, Parts, GridPart}
+use Rattle.long_root.specs.{Split.{splitOf}, LongRoot.{Squares}}
 use Rattle.staged.proofs.{Checks.{count-low, count-high, parts-inside}, GridCurrent.{first-kept}}
 
 some-square : (a b : ℕ) → eqb a 0 && eqb b 0 ≡ false → 0 < a * a + b * b

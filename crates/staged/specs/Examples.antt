@@ -1,10 +1,11 @@
 -- The answer to a staged test computed on examples.
 use mathlib.Core.{Path.{_≡_, refl}, List.{List, [], _∷_, map}}
 use lib.IntN.{ℤ, pos, negsuc}
-use Rattle.staged.specs.declared.SplitAnswer.{SplitAnswer, the-variants.{Grid, Refused}}
+use Rattle.staged.specs.declared.SplitAnswer.{the-variants.{Grid, Refused}, SplitAnswer}
 use Rattle.staged.specs.Check.{fewestNumbers, mostNumbers, badCount, largestPart, outside, anyOutside, noneInjected}
 use Rattle.staged.specs.Current.{everyOther, inPhase, quadrature, injected, branches, total, gridPart, squareOf}
-use Rattle.staged.specs.{Split.{smallest, enough, splitOf}, Answer.{gridSquare, injectedSquare, gridAnswer, answer}}
+use Rattle.staged.specs.Answer.{gridSquare, injectedSquare, gridAnswer, answer}
+use Rattle.long_root.specs.Split.{smallest, enough, splitOf}
 
 answered : List ℤ → SplitAnswer
 unfolding fewestNumbers mostNumbers badCount largestPart outside anyOutside noneInjected everyOther inPhase quadrature injected branches

@@ -3,8 +3,8 @@ use Prim.Native.Nat.{_+_, _-_, _*_, _^_, _≤_, _<_}
 use native.Mathlib.Omega.{arith}
 use lib.Dec.{lit<}
 use Rattle.interval.proofs.Fits.{fits-product}
-use Rattle.staged.proofs.{LongRoot.{digit-more, digit-fits}, long_root.digit.Statement.{statement}}
-use Rattle.staged.proofs.long_root.digit.Tie as tie
+use Rattle.long_root.proofs.{LongRoot.{digit-more, digit-fits}, digit.Statement.{statement}}
+use Rattle.long_root.proofs.digit.Tie as tie
 
 abbrev Inv-loop : tie.InvT-loop
 Inv-loop whole rest injected d₀ d = (d < 10) × ((20 * whole + d) * d * injected ≤ rest)

@@ -4,8 +4,7 @@ use mathlib.Core.Path.{_≡_}
 use native.Mathlib.{Omega.{arith}, Decide.{decLe, decLt}}
 use native.Mathlib.Nat.{lt-of-le-of-lt, mul-le-mul, mul-le-mul-right, div-mul-le-self, lt-div-mul-add}
 use Rattle.interval.specs.Root.{IsRoot}
-use Rattle.staged.specs.declared.long_root.Root.{Root}
-use Rattle.staged.specs.LongRoot.{Squares, radicand, Greatest, Room, Appended, Begun, DigitRoom, IsDigit}
+use Rattle.long_root.specs.{declared.Root.{Root}, LongRoot.{Squares, radicand, Greatest, Room, Appended, Begun, DigitRoom, IsDigit}}
 
 -- ---- the start
 

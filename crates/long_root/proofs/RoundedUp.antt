@@ -2,8 +2,8 @@
 use Prim.Native.Nat.{ℕ, _+_, _*_, _≤_, _<_}
 use mathlib.Core.Path.{_≡_}
 use native.Mathlib.{Omega.{arith}, Nat.{mul-le-mul, mul-le-mul-left, mul-le-mul-right}}
-use Rattle.staged.specs.{declared.long_root.Root.{Root}, Split.{million, splitOf}, LongRoot.{Squares, radicand, Greatest}}
-use Rattle.staged.proofs.{LongRoot.{square-le}, Smallest.{split-is}}
+use Rattle.long_root.specs.{declared.Root.{Root}, Split.{million, splitOf}, LongRoot.{Squares, radicand, Greatest}}
+use Rattle.long_root.proofs.{LongRoot.{square-le}, Smallest.{split-is}}
 
 rises : {m w i : ℕ} → m < w → 0 < i → m * m * i < w * w * i
 rises {m} {w} {i} h k =

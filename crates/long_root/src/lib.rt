@@ -1,7 +1,7 @@
 // The split as a root by decimal digits, within 64 bits: of grid / injected the whole part of the root, then three digits.
 ghost use mathlib.Core.Path.{_≡_};
-ghost use Rattle.staged.specs.Split.{splitOf};
-ghost use Rattle.staged.specs.LongRoot.{Squares, Begun, Room, Appended, DigitRoom, IsDigit};
+ghost use Rattle.long_root.specs.Split.{splitOf};
+ghost use Rattle.long_root.specs.LongRoot.{Squares, Begun, Room, Appended, DigitRoom, IsDigit};
 use interval::root::isqrt;
 
 // A number and what is left over by its square times the injected square.

@@ -3,8 +3,8 @@ use native.Mathlib.Nat.{le-trans, div-le-self}
 use borrow.Author.Needs.{needs}
 use lib.Dec.{lit<}
 use Rattle.interval.proofs.Fits.{fits-below}
-use Rattle.staged.proofs.{LongRoot.{begun-low, begun}, long_root.begin.Statement.{statement}}
-use Rattle.staged.proofs.long_root.begin.Tie as tie
+use Rattle.long_root.proofs.{LongRoot.{begun-low, begun}, begin.Statement.{statement}}
+use Rattle.long_root.proofs.begin.Tie as tie
 
 mul-t4 : tie.Need-mul-t4
 mul-t4 c = fits-below (le-trans (c .isqrt .ensures .low) (le-trans (div-le-self _ _) (c .before .pre .grid-most))) (lit< tt)

@@ -3,9 +3,9 @@ use Prim.Native.Nat.{_+_, _*_, _≤_, _^_}
 use native.Mathlib.Omega.{arith}
 use lib.Dec.{lit<}
 use Rattle.interval.proofs.Fits.{fits-product}
-use Rattle.staged.specs.LongRoot.{IsDigit}
-use Rattle.staged.proofs.{LongRoot.{whole-small, rest-small, digit-room, appended}, long_root.append.Statement.{statement}}
-use Rattle.staged.proofs.long_root.append.Tie as tie
+use Rattle.long_root.specs.LongRoot.{IsDigit}
+use Rattle.long_root.proofs.{LongRoot.{whole-small, rest-small, digit-room, appended}, append.Statement.{statement}}
+use Rattle.long_root.proofs.append.Tie as tie
 
 module _ (c : tie.After-digit) where
   abbrev start : tie.Start

@@ -4,10 +4,9 @@ use mathlib.Core.Path.{_≡_}
 use native.Mathlib.Omega.{arith}
 use borrow.Author.Needs.{needs}
 use lib.Dec.{lit≤}
-use Rattle.staged.specs.LongRoot.{radicand}
-use Rattle.staged.proofs.{LongRoot.{room}, RoundedUp.{exact-split, next-split, split-small}}
-use Rattle.staged.proofs.long_root.per_mille.Statement.{statement}
-use Rattle.staged.proofs.long_root.per_mille.Tie as tie
+use Rattle.long_root.specs.LongRoot.{radicand}
+use Rattle.long_root.proofs.{LongRoot.{room}, RoundedUp.{exact-split, next-split, split-small}, per_mille.Statement.{statement}}
+use Rattle.long_root.proofs.per_mille.Tie as tie
 
 -- what each root is the root of
 no-digit : (c : tie.After-begin) → radicand (c .before .args .injected) (c .begin .result) ≡ 1 * c .before .args .grid

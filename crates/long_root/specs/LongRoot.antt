@@ -2,7 +2,7 @@
 -- injected square leaves.
 use Prim.Native.Nat.{ℕ, _+_, _*_, _^_, _≤_, _<_}
 use mathlib.Core.Path.{_≡_}
-use Rattle.staged.specs.declared.long_root.Root.{Root}
+use Rattle.long_root.specs.declared.Root.{Root}
 
 -- the squares of a grid current and an injected current whose parts are at most 17,000,000 and 1,000,000
 pub record Squares (grid injected : ℕ) : Type 0 where

@@ -3,7 +3,7 @@ use Prim.Native.Nat.{ℕ, zero, suc, _*_, _≤_, _<_}
 use mathlib.Core.{Path.{_≡_, refl}, Bool.{Bool, true, false, cond, not}}
 use native.Mathlib.{Omega.{arith}, Decide.{decLt}, Nat.{mul-le-mul}}
 use lib.Dec.{T, leb→le, le→leb, nleb→lt}
-use Rattle.staged.specs.Split.{smallest, million, enough, splitOf}
+use Rattle.long_root.specs.Split.{smallest, million, enough, splitOf}
 
 smallest-passes : (test : ℕ → Bool) (most : ℕ) → T (test most) → T (test (smallest test most))
 unfolding smallest
