@@ -2,8 +2,8 @@
 use Prim.Native.Nat.{ℕ, zero, suc, _*_, _%_, _≤_, _<_}
 use mathlib.Core.{Path.{_≡_}, List.{List, [], _∷_}}
 use lib.{IntN.{ℤ, pos, negsuc}, ListN.{getD, take, length}}
-use Rattle.row.specs.Row.{rowLength}
 use Rattle.judgement.specs.Limits.{mostLines}
+use Rattle.row.specs.Row.{rowLength}
 use Rattle.station_sums.specs.Summary.{byAppearance}
 
 -- the low sixteen bits of a station, by which it is soon told from most others

@@ -5,9 +5,9 @@ use native.Mathlib.Omega.{arith}
 use lib.{IntN.{ℤ}, ListN.{length}}
 use borrow.Author.Tests.{lt-ltb, le-ltb}
 use Rattle.case.specs.Columns.{columns}
-use Rattle.row.specs.Row.{rowLength}
 use Rattle.judgement.specs.{declared.Judgement.{Judgement}, Sheet.{judgement}}
 use Rattle.judgement.specs.declared.Judgement.the-variants as judged
+use Rattle.row.specs.Row.{rowLength}
 use Rattle.sheet.specs.{declared.Answer.{Answer, the-variants.{Rows, Refused}}, Answer.{tableRefused, answerBy, answer, cases}}
 use Rattle.sheet.proofs.Accepted.{accepted}
 use Rattle.c_bytes.specs.Bytes.{numberBytes}

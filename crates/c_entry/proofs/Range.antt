@@ -5,14 +5,14 @@ use native.Mathlib.Omega.{arith}
 use lib.{Dec.{ltb}, IntN.{ℤ}, ListN.{length}}
 use Rattle.text.proofs.Clash.{clash}
 use Rattle.case.specs.Columns.{columns}
-use Rattle.row.specs.Row.{rowLength}
 use Rattle.judgement.{specs.{declared.Judgement.{Judgement}, Sheet.{judgement}}, proofs.Numbers.{Numbered, number, judgement-numbered}}
 use Rattle.judgement.specs.declared.Judgement.the-variants as judged
+use Rattle.row.specs.Row.{rowLength}
 use Rattle.sheet.specs.{declared.Answer.{Answer, the-variants.{Rows, Refused}}, Answer.{tableRefused, answerBy, answer}}
 use Rattle.sheet.proofs.Accepted.{accepted}
 use Rattle.c_bytes.specs.Bytes.{numberBytes}
-use Rattle.c_entry.specs.{Range.{InRange}, Buffer.{answerFor, Answered}}
 use Rattle.c_tell.specs.Answer.{signedAnswer}
+use Rattle.c_entry.specs.{Range.{InRange}, Buffer.{answerFor, Answered}}
 
 -- ---- a refusal has a number from 1 to 8: a judgement's is 1 to 7
 

@@ -7,8 +7,8 @@ use mathlib.Core.{Path.{_≡_}, List.{List}}
 use lib.{IntN.{ℤ}, ListN.{length}}
 use Rattle.sheet.specs.{declared.Answer.{Answer, the-variants.{Rows, Refused}}, Answer.{answer, cases}}
 use Rattle.c_bytes.specs.Bytes.{numberBytes}
-use Rattle.c_rows.specs.Rows.{Filled}
 use Rattle.c_tell.specs.{Answer.{signedAnswer}, Place.{placeAfter}}
+use Rattle.c_rows.specs.Rows.{Filled}
 
 -- "with the buffer untouched"
 unfoldable pub BufferAfter : List ℕ → List ℕ → List ℕ → Answer → Type 0

@@ -8,11 +8,11 @@ use Rattle.whole.proofs.Bits.{read}
 use Rattle.text.proofs.Clash.{clash}
 use Rattle.case.{specs.{declared.Case.{Case}, Check.{recordAnswer}, Bounds.{Bounds}}, proofs.BoundsSound.{bounds-sound}}
 use Rattle.row.specs.{Row.{numbers}, Ends.{rowOf}}
-use Rattle.margin.{specs.{declared.Compared.{Compared}, Margin.{marginsOf}, Meaning.{Right}}, proofs.Right.{right-margins}}
-use Rattle.margin.specs.declared.Compared.the-variants as compared
 use Rattle.working.specs.{declared.{Quantities.{Quantities}, Worked.{Worked}}, Ends.{workingOf}, Numbers.{workingNumbers}}
 use Rattle.working.specs.Working.{workingAnswer, RightWorked, WorkingAnswered}
 use Rattle.working.specs.declared.Worked.the-variants as worked
+use Rattle.margin.{specs.{declared.Compared.{Compared}, Margin.{marginsOf}, Meaning.{Right}}, proofs.Right.{right-margins}}
+use Rattle.margin.specs.declared.Compared.the-variants as compared
 use Rattle.headroom.specs.declared.Room.{Room}
 use Rattle.headroom.specs.declared.Room.the-variants as room
 use Rattle.headroom.specs.Headroom as headroom

@@ -5,15 +5,15 @@ use mathlib.Core.{Path.{_≡_, refl, _∙_}, Bool.{Bool, true, false, cond}, Lis
 use lib.{Dec.{eqb}, ListN.{length, length-map}}
 use borrow.Author.Tests.{eq-eqb}
 use Rattle.text.{specs.Text.{fieldsOf, same}, proofs.Clash.{clash}}
+use Rattle.writing.specs.Text.{allLines}
 use Rattle.case.specs.declared.{Form.{Form as CodeForm, the-variants.{Present, Former}}, Finding.{Finding}}
 use Rattle.case.specs.{Columns.{Form, columns, formerColumns, nameIndex, named}, Check.{finding}, Bounds.{Placed}, Parts.{formOf}}
 use Rattle.case.specs.declared.Finding.the-variants as found
 use Rattle.line.specs.Line.{wrongForm, lineValues}
-use Rattle.judgement.specs.{declared.Judgement.{the-variants.{Lines}, Judgement}, Sheet.{valueLines, linesJudgement}, Accepted.{Accepted}}
-use Rattle.judgement.proofs.LineJudged.{sound-line}
 use Rattle.line_finding.specs.Findings.{orFinding, sameKey, repeats, lineFinding}
 use Rattle.line_finding.specs.declared.LineFinding.the-variants as line
-use Rattle.writing.specs.Text.{allLines}
+use Rattle.judgement.specs.{declared.Judgement.{the-variants.{Lines}, Judgement}, Sheet.{valueLines, linesJudgement}, Accepted.{Accepted}}
+use Rattle.judgement.proofs.LineJudged.{sound-line}
 use Rattle.carried_values.specs.Values.{other, presentValues, formerValues, carried, casesIn}
 use Rattle.carried_values.proofs.Soundness.{Sound, sound-values, sound-small, carried-sound}
 

@@ -7,12 +7,12 @@ use lib.{Dec.{T, leb, eqb, leb→le, eqb→eq}, ListN.{length, getD, take, drop}
 use borrow.Author.Tests.{le-leb, eqb-true}
 use mir.Facts.{and-yes, or-yes}
 use Rattle.text.{specs.Text.{same}, proofs.Clash.{clash}}
+use Rattle.writing.specs.Text.{allValues}
 use Rattle.case.specs.declared.Form.{Form as CodeForm, the-variants.{Present, Former}}
 use Rattle.case.specs.Columns.{Range, from, zeroOr, either, Form, inRange, columns, formerColumns, nameIndex, named}
 use Rattle.case.specs.{Check.{leftOf, outOfRange, agree, disagreement, finding}, Bounds.{Placed}, Parts.{rangeAt, formOf}}
 use Rattle.case.proofs.Ranges.{InRange, in-range, in-range-at, some-columns}
 use Rattle.case.specs.declared.Finding.the-variants as found
-use Rattle.writing.specs.Text.{allValues}
 use Rattle.carried_values.specs.{Values.{other, presentValues, formerValues, carried}, Parts.{placesIn}}
 
 -- which values must agree

@@ -2,8 +2,8 @@
 use Prim.Native.Nat.{ℕ}
 use mathlib.Core.{Path.{_≡_}, List.{List, [], _∷_, map}}
 use lib.ListN.{length}
-use Rattle.case.specs.{declared.Form.{Form, the-variants.{Present, Former}}, Parts.{formOf}}
 use Rattle.tables.specs.Parts.{partsOf}
+use Rattle.case.specs.{declared.Form.{Form, the-variants.{Present, Former}}, Parts.{formOf}}
 use Rattle.carried_values.specs.Values.{other, carried}
 
 -- where the values of a form stand among those of the other; the frequency stands nowhere among document 01's own, past the last of them

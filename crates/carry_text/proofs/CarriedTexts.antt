@@ -4,12 +4,12 @@ use mathlib.Core.{Path.{_≡_, refl, sym, _∙_}, List.{List, _++_}}
 use native.Mathlib.Omega.{arith}
 use lib.ListN.{length, drop}
 use borrow.Author.Tests.{le-ltb}
+use Rattle.writing.specs.Put.{Put}
 use Rattle.case.specs.{declared.Form.{Form}, Parts.{formOf}}
 use Rattle.judgement.specs.{declared.Judgement.{Judgement, the-variants.{Lines, Refused}}, Limits.{mostBytes}, Sheet.{judgement}}
-use Rattle.writing.specs.Put.{Put}
+use Rattle.carried_values.specs.{Values.{other, casesIn}, Changes.{changes}}
 use Rattle.conversion.specs.{declared.Carried.{Carried}, Answer.{carriedText, roomAnswer, refusedOr, answer, bufferAfter, Answered}}
 use Rattle.conversion.proofs.RoundTrip.{carried-short}
-use Rattle.carried_values.specs.{Values.{other, casesIn}, Changes.{changes}}
 use Rattle.conversion.specs.declared.Carried.the-variants as carried
 use Rattle.fields.{specs.Refusal.{refusedText, unlessRefused}, proofs.Refusals.{answer-fits}}
 use Rattle.carry_text.specs.Carried.{carryText}

@@ -8,14 +8,14 @@ use Rattle.text.{specs.Text.{same}, proofs.Clash.{clash}}
 use Rattle.case.specs.declared.Form.{Form, the-variants.{Present, Former}}
 use Rattle.case.specs.{Columns.{columns, formerColumns, name-count, former-name-count, nameIndex, named}, Parts.{formOf}}
 use Rattle.case.proofs.Tests.{_then_}
+use Rattle.header.{specs.Header.{noColumns, wrongName}, proofs.NamesStand.{names-stand}}
 use Rattle.judgement.specs.{declared.Judgement.{Judgement}, Refusal.{nameRefused}}
 use Rattle.judgement.{specs.Sheet.{names, valueLines, namesJudgement, judgementWithin, judgement}, proofs.Accepted.{accepted}}
 use Rattle.judgement.specs.declared.Judgement.the-variants as judged
-use Rattle.header.{specs.Header.{noColumns, wrongName}, proofs.NamesStand.{names-stand}}
-use Rattle.conversion.specs.declared.Carried.{the-variants.{Bytes, Refused}, Carried}
-use Rattle.conversion.specs.Answer.{carriedText, roomAnswer, refusedOr, answer, bufferAfter, Answered}
 use Rattle.carried_values.specs.{Values.{other, presentValues, formerValues, carried as carriedValues, casesIn}, Changes.{lineChange}}
 use Rattle.carried_values.specs.Changes.{changesFrom, changes}
+use Rattle.conversion.specs.declared.Carried.{the-variants.{Bytes, Refused}, Carried}
+use Rattle.conversion.specs.Answer.{carriedText, roomAnswer, refusedOr, answer, bufferAfter, Answered}
 use Rattle.conversion.proofs.RoundTrip as trip
 use Rattle.claims.specs.Words.{Breaks}
 use Rattle.claims.specs.Carried.{AcceptedIn, lineIn, Into, Returns, Held, times, counts, hertz, Goes, NewSheet, Written, CarryOutcome}

@@ -7,15 +7,15 @@ use Rattle.case.specs.{declared.Form.{Form}, Columns.{Column, columns}, Parts.{
 use Rattle.judgement.specs.declared.Judgement.the-variants as judged
 use Rattle.judgement.proofs.Numbers as judgements
 use Rattle.judgement.specs.Sheet.{judgement}
+use Rattle.carried_values.specs.Values.{other}
+use Rattle.conversion.specs.declared.Carried.{Carried}
+use Rattle.conversion.specs.declared.Carried.the-variants as carried
 use Rattle.sheet.specs.declared.Answer.{Answer}
 use Rattle.sheet.specs.declared.Answer.the-variants as answer
 use Rattle.stations.specs.declared.Summed.{Summed}
 use Rattle.stations.specs.declared.Summed.the-variants as summed
 use Rattle.release.specs.declared.Released.{Released}
 use Rattle.release.specs.declared.Released.the-variants as released
-use Rattle.conversion.specs.declared.Carried.{Carried}
-use Rattle.carried_values.specs.Values.{other}
-use Rattle.conversion.specs.declared.Carried.the-variants as carried
 use Rattle.c_tell.specs.{Answer.{signedAnswer}, Place.{placeAfter}, Told.{Told}}
 use Rattle.c_counts.specs.Counts.{stationCount, pairCount, byteCount}
 use Rattle.c_questions.specs.Operations.{SummaryTold, ReleaseTold, CarryTold}

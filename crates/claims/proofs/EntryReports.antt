@@ -4,18 +4,18 @@ use mathlib.Core.{Path.{_≡_, refl, ap, _∙_}, Bool.{Bool, true, false, cond},
 use native.Mathlib.Omega.{arith}
 use lib.{Dec.{ltb}, IntN.{ℤ}, ListN.{length, getD, drop}}
 use borrow.Author.Tests.{ltb-true, ltb-false}
-use Rattle.case.specs.{declared.Case.{Case}, Case.{caseOf}, Columns.{columns}}
-use Rattle.judgement.{specs.{declared.Judgement.{Judgement}, Sheet.{judgement}}, proofs.Accepted.{accepted}}
-use Rattle.judgement.specs.declared.Judgement.the-variants as judged
-use Rattle.sheet.specs.{declared.Answer.{Answer}, Answer.{cases}}
-use Rattle.sheet.specs.declared.Answer.the-variants as answer
 use Rattle.readings.specs.declared.Sounding.{Sounding}
 use Rattle.readings.specs.declared.Sounding.the-variants as sounding
 use Rattle.staged.specs.declared.SplitAnswer.{SplitAnswer}
 use Rattle.staged.specs.declared.SplitAnswer.the-variants as split
 use Rattle.staged.specs.Answer as staged
+use Rattle.case.specs.{declared.Case.{Case}, Case.{caseOf}, Columns.{columns}}
+use Rattle.judgement.{specs.{declared.Judgement.{Judgement}, Sheet.{judgement}}, proofs.Accepted.{accepted}}
+use Rattle.judgement.specs.declared.Judgement.the-variants as judged
 use Rattle.yards.specs.declared.FewestLines.{FewestLines}
 use Rattle.yards.specs.declared.FewestLines.the-variants as yards
+use Rattle.sheet.specs.{declared.Answer.{Answer}, Answer.{cases}}
+use Rattle.sheet.specs.declared.Answer.the-variants as answer
 use Rattle.c_tell.specs.Told.{Told}
 use Rattle.c_reply.specs.Reply.{Reply, Numbers, Refused, replyAnswer, numbersAfter, Replied, soilReply, splitReply, fewestReply}
 use Rattle.c_questions.specs.{Reports.{SoilTold, SplitTold}, OneLine.{CasesFewest, FewestBy, SheetFewest, FewestTold}}

@@ -5,9 +5,8 @@ use native.Mathlib.{Omega.{arith}, Decide.{decLe}}
 use lib.{Dec.{leb, eqb, le→leb, lt→ltb, lit≤}, IntN.{ℤ, pos, natAbs}, ListN.{length, getD, drop}, Seq.{getD-drop}}
 use lib.Signed.{_≤ℤ_, _<ℤ_, leZ-yes, ltZ-yes}
 use borrow.Author.Tests.{leb-true, leb-false, eqb-true, eqb-false}
-use Rattle.text.proofs.Clash.{clash}
-use Rattle.interval.specs.{declared.Interval.{Interval}, Operations.{natural}}
 use Rattle.whole.{specs.Whole.{ceilDiv}, proofs.Rounding.{ceilDiv-above, ceilDiv-by}}
+use Rattle.interval.specs.{declared.Interval.{Interval}, Operations.{natural}}
 use Rattle.exact.specs.{Exact.{AtOrBelow}, Reported.{ten}}
 use Rattle.readings.specs.declared.{outside.{Range.{Range}, Found.{Found, the-variants.{At, Nothing}}}, Sounding.{Sounding}}
 use Rattle.readings.specs.{declared.Sounding.the-variants.{Soil, Refused}, Reading.{Reading, pairsOf}}
@@ -17,6 +16,7 @@ use Rattle.readings.specs.{Resistivity.{apparent, least, greatest}, Report.{μ�
 use Rattle.readings.{specs.Answer.{RightAnswer, Answered}, proofs.Pairs.{pair-count, pairAt, pairs-at}}
 use Rattle.readings.proofs.Extent.{least-below, greatest-above, least-some, greatest-some}
 use Rattle.readings.proofs.Spans as spans
+use Rattle.text.proofs.Clash.{clash}
 use Rattle.numbers.proofs.Readings.{reading-numbers}
 use Rattle.claims.specs.Measured.{WrongCount, DistanceInside, ResistanceInside, FirstPair, SoilReport, SoilOutcome, count, distance}
 use Rattle.claims.specs.Measured.{resistance, soil}

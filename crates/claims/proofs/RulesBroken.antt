@@ -9,11 +9,11 @@ use Rattle.case.specs.{Case.{caseOf}, Columns.{columns, name-count, nameIndex, 
 use Rattle.header.{specs.{Parts.{nameAt}, Names.{StandsAt}}, proofs.HeaderAccepted.{header-accepted}}
 use Rattle.header.proofs.NamesStand.{names-stand, name-stands, wrong-name}
 use Rattle.line.specs.Line.{wrongForm}
+use Rattle.line_finding.specs.{declared.LineFinding.{LineFinding}, Findings.{repeats}}
+use Rattle.line_finding.proofs.LineFound as line
 use Rattle.judgement.specs.{declared.Judgement.the-variants.{Lines, Refused}, Limits.{today}, Refusal.{lineJudgement}}
 use Rattle.judgement.{specs.Sheet.{names, valueLines, judgement}, proofs.{Whole.{text-wrong}, RangeBroken.{range-broken}}}
 use Rattle.judgement.proofs.LinesInTurn.{before, RefusedAt, refused-at, SeenBefore, repeats-line}
-use Rattle.line_finding.specs.{declared.LineFinding.{LineFinding}, Findings.{repeats}}
-use Rattle.line_finding.proofs.LineFound as line
 use Rattle.judgement.proofs.Causes as cause
 use Rattle.claims.specs.{Words.{Breaks, caseAt}, Rules.{fieldsAt, OwnLine, OutOfRange, SurfaceAgrees, RodsAgree, Disagrees, Broken}}
 use Rattle.claims.specs.Rules as rules

@@ -8,11 +8,11 @@ use Rattle.text.{specs.Text.{same}, proofs.Clash.{clash}}
 use Rattle.case.specs.{Columns.{columns, name-count, nameIndex, named}, Bounds.{Bounds}}
 use Rattle.header.proofs.NamesStand.{names-stand, stands-once, name-known-at}
 use Rattle.line.specs.Line.{lineCase}
+use Rattle.line_finding.specs.Findings.{sameKey}
+use Rattle.line_finding.proofs.LineFound as line
 use Rattle.judgement.specs.{declared.Judgement.the-variants.{Lines}, Limits.{today}, Sheet.{names, valueLines}, Accepted.{Accepted}}
 use Rattle.judgement.proofs.{Whole.{text-right}, LinesInTurn.{sound-at, none-before}}
-use Rattle.line_finding.specs.Findings.{sameKey}
 use Rattle.judgement.proofs.Accepted as judged
-use Rattle.line_finding.proofs.LineFound as line
 use Rattle.sheet.{specs.Examples.{sample-judged, sample-cases}, proofs.Accepted.{sound-bounds}}
 use Rattle.claims.specs.{Words.{BreaksNone, caseAt}, Rules.{fieldsAt, OwnLine, SameKey, RulesKept, SampleSheet}}
 use Rattle.claims.proofs.OwnLines.{columnsIn, valuesAt, right-fields, case-is, own-line}

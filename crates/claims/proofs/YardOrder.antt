@@ -4,9 +4,9 @@ use mathlib.Core.{Path.{_≡_, refl, sym, ap, _∙_}, Bool.{Bool, true, false, c
 use native.Mathlib.{Nat.{div-add-mod', mul-div-cancel, mul-mod-left}, Decide.{decLt}, Omega.{arith}}
 use lib.{ListN.{length, getD, length-append, List·getD-append}, Seq.{getD-append-add}}
 use borrow.Author.Tests.{eqb-true, eq-eqb, ne-eqb, le-leb}
+use Rattle.whole.specs.Count.{one}
 use Rattle.text.specs.Text.{same}
 use Rattle.case.specs.{declared.Case.{Case}, Bounds.{Between}, Columns.{columns, inRange, nameIndex}, Parts.{rangeAt}, Check.{countFrom}}
-use Rattle.station_sums.specs.Summary.{one}
 use Rattle.yards.specs.Yards.{spacing, spaceRange, fits, yard, rodCounts, yardsOf, yardsFrom, yards}
 use Rattle.yards.proofs.Trying.{lines-next, lines-end}
 use Rattle.claims.specs.Yards.{withYard, Fits, YardTried, fitting}

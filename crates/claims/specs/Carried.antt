@@ -3,11 +3,11 @@ use Prim.Native.{Nat.{ℕ, _+_, _≤_, _<_}, String.{String}}
 use mathlib.Core.{Path.{_≡_}, List.{List, [], _∷_, map}}
 use lib.ListN.{length, getD, take, drop}
 use Rattle.case.specs.{declared.Form.{Form, the-variants.{Present, Former}}, Columns.{columns, named}, Parts.{formOf}}
-use Rattle.formulas.proofs.Tables.{Every}
 use Rattle.judgement.specs.declared.Judgement.the-variants as judged
 use Rattle.judgement.specs.Sheet.{names, judgement}
-use Rattle.conversion.specs.{declared.Carried.{the-variants.{Bytes, Refused}, Carried}, Answer.{carriedText}}
 use Rattle.carried_values.specs.Values.{other, casesIn}
+use Rattle.conversion.specs.{declared.Carried.{the-variants.{Bytes, Refused}, Carried}, Answer.{carriedText}}
+use Rattle.formulas.proofs.Tables.{Every}
 
 -- a sheet passes all checks of a form with so many value lines, or is refused by them
 abbrev pub AcceptedIn : Form → List ℕ → ℕ → Type 0

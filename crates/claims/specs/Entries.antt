@@ -3,27 +3,27 @@
 use Prim.Native.Nat.{ℕ, _*_, _≤_, _<_}
 use mathlib.Core.{Path.{_≡_}, Logic.{_↔_}, List.{List, [], _∷_, _++_}}
 use lib.{IntN.{ℤ, pos, negℤ}, ListN.{length, drop}, Signed.{_≤ℤ_}}
-use Rattle.tables.specs.Parts.{partAt}
 use Rattle.exact.specs.Exact.{exactly, _·x_, AtOrBelow}
-use Rattle.case.specs.declared.{Case.{Case}, Form.{Form}}
-use Rattle.formulas.specs.{Mesh.{mesh}, Step.{step}, Tolerable.{tolerableTouch, tolerableStep}}
-use Rattle.row.specs.{declared.Row.{Row}, Row.{numbers}}
-use Rattle.decision.specs.declared.Verdict.the-variants.{Safe}
-use Rattle.margin.specs.declared.Compared.the-variants as compared
-use Rattle.margin.specs.{Margin.{marginsOf}, Meaning.{share}}
-use Rattle.working.specs.{declared.Quantities.{Quantities}, Numbers.{workingNumbers}}
-use Rattle.working.specs.declared.Worked.the-variants as worked
-use Rattle.headroom.specs.declared.Room.the-variants as room
-use Rattle.stations.specs.declared.Summed.the-variants as summed
-use Rattle.release.specs.declared.Released.the-variants as released
-use Rattle.conversion.specs.declared.Carried.the-variants as carried
 use Rattle.readings.specs.declared.Report.{Report}
 use Rattle.readings.specs.declared.Sounding.the-variants as sounding
 use Rattle.staged.specs.declared.SplitAnswer.the-variants as split
+use Rattle.tables.specs.Parts.{partAt}
+use Rattle.case.specs.declared.{Case.{Case}, Form.{Form}}
+use Rattle.conversion.specs.declared.Carried.the-variants as carried
+use Rattle.formulas.specs.{Mesh.{mesh}, Step.{step}, Tolerable.{tolerableTouch, tolerableStep}}
+use Rattle.decision.specs.declared.Verdict.the-variants.{Safe}
+use Rattle.row.specs.{declared.Row.{Row}, Row.{numbers}}
+use Rattle.working.specs.{declared.Quantities.{Quantities}, Numbers.{workingNumbers}}
+use Rattle.working.specs.declared.Worked.the-variants as worked
+use Rattle.margin.specs.declared.Compared.the-variants as compared
+use Rattle.margin.specs.{Margin.{marginsOf}, Meaning.{share}}
 use Rattle.yards.specs.declared.FewestLines.the-variants as yards
+use Rattle.headroom.specs.declared.Room.the-variants as room
+use Rattle.stations.specs.declared.Summed.the-variants as summed
+use Rattle.release.specs.declared.Released.the-variants as released
+use Rattle.c_reply.specs.Reply.{soilNumbers}
 use Rattle.hocsimbur.specs.{declared.RowAnswer.{RowAnswer}, Asked.{RowAnswered, AnsweredWith}}
 use Rattle.hocsimbur.specs.declared.RowAnswer.the-variants as answered
-use Rattle.c_reply.specs.Reply.{soilNumbers}
 use Rattle.claims.specs.{Words.{BreaksNone, Breaks, TooShort, caseAt}, Measured.{SoilOutcome, SplitOutcome}, Yards.{FewestOutcome}}
 use Rattle.claims.specs.{Workings.{WorkingOutcome}, Later.{HeadroomOutcome}, Summary.{SummaryOutcome}, Releases.{ReleaseOutcome}}
 use Rattle.claims.specs.Carried.{CarryOutcome}

@@ -2,16 +2,16 @@
 use Prim.Native.Nat.{ℕ, _+_, _*_, _≤_, _<_}
 use mathlib.Core.{Path.{_≡_}, Bool.{true}, List.{List}, Logic.{_⊎_, _↔_}}
 use lib.{IntN.{ℤ, pos, natAbs}, ListN.{length, drop}}
-use Rattle.case.specs.{Bounds.{Between}, Fault.{withFault}}
 use Rattle.tables.specs.Parts.{partAt}
-use Rattle.sheet.specs.Answer.{cases}
-use Rattle.row.specs.declared.Row.{Row}
+use Rattle.case.specs.{Bounds.{Between}, Fault.{withFault}}
 use Rattle.decision.specs.declared.Verdict.the-variants.{Safe}
-use Rattle.hocsimbur.specs.{declared.RowAnswer.{RowAnswer}, Asked.{RowAnswered, AnsweredWith}}
-use Rattle.hocsimbur.specs.declared.RowAnswer.the-variants as answered
+use Rattle.row.specs.declared.Row.{Row}
+use Rattle.sheet.specs.Answer.{cases}
+use Rattle.tally.specs.Lines.{licensed}
 use Rattle.release.specs.{declared.Released.{Released, the-variants.{Pairs, Refused}}, Pair.{stationNumbers}}
 use Rattle.release.specs.Meaning.{numberAt, stationAt, seasonsAt, LineOf, SeasonLine, OneYard, NothingFound}
-use Rattle.tally.specs.Lines.{licensed}
+use Rattle.hocsimbur.specs.{declared.RowAnswer.{RowAnswer}, Asked.{RowAnswered, AnsweredWith}}
+use Rattle.hocsimbur.specs.declared.RowAnswer.the-variants as answered
 use Rattle.claims.specs.{Words.{BreaksNone, Breaks, caseAt, TrulySafe}, Later.{FaultInside}}
 
 -- ---- the licence: "pairs of a station and its seasons"

@@ -1,9 +1,9 @@
 -- Request (k) of document 02: the fewest lines for a given side, over sides, counts and spacings.
 use Prim.Native.Nat.{ℕ, zero, suc, _+_, _*_, _-_, _≤_, _<_}
 use mathlib.Core.{Path.{_≡_}, Logic.{_⊎_}}
+use Rattle.whole.specs.Count.{one}
 use Rattle.case.specs.{declared.Case.{Case}, Bounds.{Between}}
 use Rattle.decision.specs.declared.Verdict.the-variants.{Safe}
-use Rattle.station_sums.specs.Summary.{one}
 use Rattle.yards.specs.{declared.FewestLines.{FewestLines, the-variants.{Found, None, Refused}}, Yards.{fits}}
 use Rattle.hocsimbur.specs.{declared.RowAnswer.{RowAnswer}, Asked.{RowAnswered, AnsweredWith}}
 use Rattle.claims.specs.{Words.{TrulySafe}, Rules.{RodsAgree}, Record.{RecordRefused, RecordSound}}

@@ -4,8 +4,8 @@ use mathlib.Core.List.{List, [], _∷_}
 use native.Mathlib.Omega.{arith}
 use Rattle.interval.{specs.{Operations.{natural}, Span.{Span}}, proofs.{Span.{span-natural}, Rules.{Rule, _≼_, Kept}}}
 use Rattle.case.specs.Bounds.{Between}
-use Rattle.conductors.specs.Weights.{roots, rootOf}
 use Rattle.effective_number.proofs.Rules.{at-count}
+use Rattle.conductors.specs.Weights.{roots, rootOf}
 
 -- r is the n-th root of 4n² in 10^−9, rounded down
 pub record LinesRoot (n r : ℕ) : Type 0 where

@@ -3,11 +3,11 @@ use Prim.Native.Nat.{ℕ, _+_, _-_, _*_, _^_, _≤_, _<_}
 use mathlib.Core.{Path.{_≡_, _∙_}, Bool.{false}, List.{[], _∷_}}
 use native.Mathlib.{Omega.{arith}, Nat.{mul-le-mul-left, le-trans, le-of-mul-le-mul-right}}
 use lib.{Pow.{pow-pos}, Dec.{eqb, lit≤, lit<}}
+use Rattle.whole.proofs.Rounding.{floorDiv-falls}
 use Rattle.interval.specs.{declared.Interval.{Interval}, Operations.{natural}, Span.{Span}}
 use Rattle.interval.proofs.Natural.{point-natural, natural-difference, natural-scaled, natural-product, natural-quotient}
 use Rattle.interval.proofs.{Span.{floor≤ceil, span-natural, span-wider}, Negated.{span-less}, Rules.{_≼_, Kept, lits}}
 use Rattle.interval.proofs.NumeralSpans.{numeral-point, numeral-product, numeral-quotient, numeral-wider}
-use Rattle.whole.proofs.Rounding.{floorDiv-falls}
 use Rattle.enclosure.specs.Pi.{πBelow, πAbove, πEnds}
 use Rattle.logarithm.{specs.Ends.{lnPair}, proofs.KnownHalvings.{up-by, ln-up}}
 use Rattle.exponential.{specs.Ends.{billion, most, halvingsOf, expPair}, proofs.{Sizes.{halvings-parts}, Span.{exp-span}}}

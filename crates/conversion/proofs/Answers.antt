@@ -4,13 +4,13 @@ use mathlib.Core.{Path.{_≡_, refl, sym, _∙_}, Bool.{Bool, true, false, cond}
 use lib.{Dec.{leb}, ListN.{length, drop}}
 use borrow.Author.Tests.{lt-ltb, le-ltb, leb-true, leb-false}
 use Rattle.text.proofs.Clash.{clash}
+use Rattle.writing.specs.{Put.{WrittenFirst}, declared.Written.{Written, the-variants.{Short, Count}}}
 use Rattle.case.specs.{declared.Form.{Form}, Parts.{formOf}}
 use Rattle.judgement.specs.{declared.Judgement.{Judgement}, Sheet.{judgement}}
 use Rattle.judgement.specs.declared.Judgement.the-variants as judged
-use Rattle.writing.specs.{Put.{WrittenFirst}, declared.Written.{Written, the-variants.{Short, Count}}}
+use Rattle.carried_values.specs.{Values.{other, casesIn}, Changes.{changes}}
 use Rattle.conversion.specs.declared.Carried.the-variants.{Bytes, Refused}
 use Rattle.conversion.specs.Answer.{carriedText, roomAnswer, refusedOr, answer, bufferAfter, Answered}
-use Rattle.carried_values.specs.{Values.{other, casesIn}, Changes.{changes}}
 
 module _ (form : Form) (s before : List ℕ) {j : Judgement} (judged-is : j ≡ judgement (formOf (other form)) s) where
   pub answered-source : {k l c : ℕ} → j ≡ judged.Refused k l c → Answered form s before before (Refused k l c)

@@ -5,19 +5,19 @@ use native.Mathlib.{Nat.{mul-le-mul}, Omega.{arith}}
 use lib.{Dec.{leb}, ListN.{length, getD, length-append, length-map}, Seq.{getD-append-add}}
 use borrow.Author.Tests.{eq-eqb, ne-eqb, le-leb, lt-leb, le-ltb, leb-true}
 use Rattle.text.specs.Text.{linesOf, fieldsOf, same}
+use Rattle.writing.specs.{Decimal.{decimal}, Text.{moreFields, parted, ended, textOf, valueLine, sheetText, lacks, allLack, allValues}}
+use Rattle.writing.proofs.{Decimal.{decimal-is-value}, ReadBack.{both}, Sheet.{Names, sheet-lines, line-fields, line-numbers, sheet-back}}
+use Rattle.writing.proofs.Lengths.{sheet-most}
 use Rattle.case.specs.declared.Form.{Form as CodeForm, the-variants.{Present, Former}}
 use Rattle.case.specs.{Columns.{columns, formerColumns, nameCount, nameIndex}, Check.{countFrom}, Parts.{formOf}}
 use Rattle.case.proofs.{Findings.{form-most}, Values.{entries-from}}
 use Rattle.header.specs.Header.{noColumns, fresh, wrongName, columnsFrom, columnsOf}
 use Rattle.line.specs.Line.{wrongForm, lineValues}
+use Rattle.line_finding.specs.Findings.{orFinding, repeats, lineFinding}
+use Rattle.line_finding.specs.declared.LineFinding.the-variants as line
 use Rattle.judgement.specs.{declared.Judgement.{the-variants.{Lines}, Judgement}, Limits.{today, mostBytes, mostLines}}
 use Rattle.judgement.specs.Refusal.{lineJudgement}
 use Rattle.judgement.specs.Sheet.{names, valueLines, badText, linesJudgement, valuesJudgement, namesJudgement, judgementWithin, judgement}
-use Rattle.line_finding.specs.Findings.{orFinding, repeats, lineFinding}
-use Rattle.line_finding.specs.declared.LineFinding.the-variants as line
-use Rattle.writing.specs.{Decimal.{decimal}, Text.{moreFields, parted, ended, textOf, valueLine, sheetText, lacks, allLack, allValues}}
-use Rattle.writing.proofs.{Decimal.{decimal-is-value}, ReadBack.{both}, Sheet.{Names, sheet-lines, line-fields, line-numbers, sheet-back}}
-use Rattle.writing.proofs.Lengths.{sheet-most}
 use Rattle.carried_values.{specs.Values.{casesIn}, proofs.Soundness.{Sound, sound-small, values-sound}}
 use Rattle.carried_values.proofs.SoundCases.{SoundCases, all-lines}
 use Rattle.conversion.specs.Sheet.{sheetOf}

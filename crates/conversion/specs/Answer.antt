@@ -5,8 +5,8 @@ use lib.{Dec.{ltb}, ListN.{length, drop}}
 use Rattle.case.specs.{declared.Form.{Form}, Parts.{formOf}}
 use Rattle.judgement.specs.{declared.Judgement.{Judgement}, Sheet.{judgement}}
 use Rattle.judgement.specs.declared.Judgement.the-variants as judged
-use Rattle.conversion.specs.{declared.Carried.{Carried, the-variants.{Bytes, Refused}}, Sheet.{sheetOf}}
 use Rattle.carried_values.specs.{Values.{other, carried, casesIn}, Changes.{changes}}
+use Rattle.conversion.specs.{declared.Carried.{Carried, the-variants.{Bytes, Refused}}, Sheet.{sheetOf}}
 
 -- ---- the answer, for a buffer of this length
 

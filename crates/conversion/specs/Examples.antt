@@ -2,12 +2,12 @@
 use Prim.Native.Nat.{ℕ}
 use mathlib.Core.{Path.{_≡_, refl}, List.{List, _++_}}
 use Rattle.text.specs.{Text.{bytes, onFirst, linesOf, fieldsOf, same}, Value.{numberFrom, valueOf}}
+use Rattle.writing.specs.Decimal.{digitsIn, digitCount, lastDigits, decimal}
+use Rattle.writing.specs.Text.{moreFields, parted, ended, textOf, valueLine, sheetText}
 use Rattle.case.specs.{declared.Form.the-variants.{Present}, Columns.{columns, formerColumns, nameIndex, named}, Parts.{formOf}}
 use Rattle.header.specs.Header.{noColumns, columnsFrom, columnsOf}
 use Rattle.line.specs.Line.{lineValues}
 use Rattle.judgement.specs.Sheet.{names, valueLines}
-use Rattle.writing.specs.Decimal.{digitsIn, digitCount, lastDigits, decimal}
-use Rattle.writing.specs.Text.{moreFields, parted, ended, textOf, valueLine, sheetText}
 use Rattle.carried_values.specs.Values.{other, presentValues, formerValues, carried, casesIn}
 use Rattle.conversion.specs.{Sheet.{sheetOf}, Answer.{carriedText}}
 

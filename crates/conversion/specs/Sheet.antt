@@ -1,8 +1,8 @@
 -- A sheet of cases, each as its values in the order of a form.
 use Prim.Native.Nat.{ℕ}
 use mathlib.Core.List.{List, map}
-use Rattle.case.specs.Columns.{Form}
 use Rattle.writing.specs.Text.{parted, ended, sheetText}
+use Rattle.case.specs.Columns.{Form}
 
 -- the line of names of a form, with its byte 10
 unfoldable pub namesLine : Form → List ℕ

@@ -2,10 +2,10 @@
 use mathlib.Core.{Path.{_≡_, refl}, Bool.{Bool, true, false, cond, _&&_}, Logic.{_⊎_, inl, inr, ⊎-elim}}
 use lib.{Dec.{T}, Signed.{_≤ℤ_, leZ, ltZ, leZ-yes, ltZ-yes}}
 use mir.Facts.{and-yes, or-yes}
-use Rattle.text.proofs.Clash.{clash}
 use Rattle.interval.specs.declared.Interval.{Interval}
 use Rattle.exact.specs.{Exact.{Exact, Above, AtOrBelow}, Reported.{Scale}, Depth.{Consistent}}
 use Rattle.enclosure.{specs.Enclosure.{Encloses}, proofs.Verdicts.{encloses-at-or-below, encloses-above}}
+use Rattle.text.proofs.Clash.{clash}
 use Rattle.decision.specs.{declared.Verdict.the-variants.{Safe, Unsafe, Undecided}, Verdict.{safe, unsafe, verdict}}
 
 -- ---- the tests that led to a verdict

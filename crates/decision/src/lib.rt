@@ -1,26 +1,15 @@
 // The verdict from the ends.
 ghost use mathlib.Core.Path.{_≡_};
 ghost use lib.IntN.{pos};
-ghost use lib.Signed.{leZ, ltZ};
 ghost use Rattle.decision.specs.Verdict.{safe as safeEnds, unsafe as unsafeEnds, verdict, verdictNumber};
 use interval::Interval;
+use whole::at_most;
+use whole::below;
 
 pub enum Verdict {
     Safe,
     Unsafe,
     Undecided,
-}
-
-fn at_most(a: i64, b: i64) -> bool
-    ensures { λ r. ⌜ r ≡ leZ a b ⌝ }
-{
-    a <= b
-}
-
-fn below(a: i64, b: i64) -> bool
-    ensures { λ r. ⌜ r ≡ ltZ a b ⌝ }
-{
-    a < b
 }
 
 // Mesh and step voltage are not above what is tolerable.

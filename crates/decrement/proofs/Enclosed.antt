@@ -4,9 +4,9 @@ use Prim.Native.Nat.{ℕ, _+_, _*_, _/_, _^_, _≤_, _<_}
 use mathlib.Core.Path.{refl, ap}
 use native.Mathlib.Omega.{arith}
 use lib.{Dec.{lit≤}, IntN.{pos, natAbs}}
+use Rattle.whole.{specs.Whole.{ceilDiv}, proofs.Rounding.{floorDiv-below, ceilDiv-above}}
 use Rattle.interval.specs.{declared.Interval.{Interval}, Operations.{natural, outwardOf, scaledOf, productOf}, Span.{Span}}
 use Rattle.interval.proofs.{Natural.{natural-scaled, natural-outward}, Span.{span-divisor}}
-use Rattle.whole.{specs.Whole.{ceilDiv}, proofs.Rounding.{floorDiv-below, ceilDiv-above}}
 use Rattle.exact.specs.{Fraction.{Fraction, _≤f_, _<f_, _≈f_, whole, decimal, _·f_, inv, _÷f_}, Exact.{Exact, exactly, _·x_, _÷x_}, Pi.{π}}
 use Rattle.exact.specs.{Root.{root}, Depth.{workDepth, Proper, SameEnds}, Reported.{ten, over}}
 use Rattle.exact.proofs.{Order.{le-of-lt, refl≈, sym≈, trans≈, nonneg}, Powers.{square}}

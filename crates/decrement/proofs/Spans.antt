@@ -3,11 +3,11 @@ use Prim.Native.Nat.{ℕ, _+_, _-_, _*_, _/_, _^_, _≤_, _<_}
 use mathlib.Core.Path.{_≡_, sym, ap, _∙_}
 use native.Mathlib.{Omega.{arith}, Nat.{mul-le-mul, mul-le-mul-right, le-of-suc-le-suc, lt-of-mul-lt-mul-right}}
 use lib.{Dec.{lit≤, lit<}, IntN.{natAbs}}
+use Rattle.whole.{specs.Whole.{ceilDiv}, proofs.Rounding.{floorDiv-above, ceilDiv-below, ceilDiv-above, ceilDiv-by}}
 use Rattle.interval.specs.{declared.Interval.{Interval}, Operations.{natural, outwardOf, scaledOf}, Span.{Span, Relative}, Wide.{Wide}}
 use Rattle.interval.proofs.Natural.{point-natural, natural-difference, natural-scaled, natural-outward}
 use Rattle.interval.proofs.{Span.{span-wider, span-scaled, span-outward, span-quotient}, Negated.{span-difference}}
 use Rattle.interval.proofs.{Relatives.{relative-span}, WidePairs.{wide-fits}, Rules.{lits}, NumeralSpans.{numeral-point}}
-use Rattle.whole.{specs.Whole.{ceilDiv}, proofs.Rounding.{floorDiv-above, ceilDiv-below, ceilDiv-above, ceilDiv-by}}
 use Rattle.enclosure.{specs.Pi.{πBelow, πAbove, πEnds}, proofs.Constants.{π-span}}
 use Rattle.exponential.{specs.Ends.{billion, halvingsOf, endOf, expEnds, expPair}, proofs.{Sizes.{halvings-parts}, Span.{exp-span}}}
 use Rattle.case.specs.{declared.Case.{Case}, Bounds.{Between, Bounds}}

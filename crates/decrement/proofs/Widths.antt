@@ -4,9 +4,9 @@ use mathlib.Core.Path.{_≡_, refl}
 use native.Mathlib.{Omega.{arith}, Nat.{mul-le-mul, mul-le-mul-left, mul-le-mul-right, le-of-mul-le-mul-right, lt-of-not-le}}
 use native.Mathlib.Decide.{decLe}
 use lib.Dec.{lit≤, lit<}
+use Rattle.whole.proofs.Rounding.{floorDiv-above}
 use Rattle.interval.specs.{Root.{IsRoot}, Operations.{natural, productOf}, Span.{Span}}
 use Rattle.interval.proofs.{Span.{span-natural, span-sum, span-product}, Rules.{lits}, NumeralSpans.{numeral-point, numeral-wider}}
-use Rattle.whole.proofs.Rounding.{floorDiv-above}
 use Rattle.enclosure.{specs.SquareRoot.{squareRoot}, proofs.SquareRoot.{square-root}}
 use Rattle.exponential.specs.Ends.{billion, halvingsOf, argumentOf, nestedOf, seriesOf, inverseOf, squaredOf, endOf}
 use Rattle.exponential.proofs.Sizes.{halvings-reach, halvings-least, nested-size, series-least}

@@ -8,8 +8,8 @@ use Rattle.exact.proofs.Quantity.{quantity-product}
 use Rattle.enclosure.{specs.Enclosure.{Encloses}, proofs.{Basics.{encloses-same}, Sums.{encloses-times}, Products.{encloses-product}}}
 use Rattle.case.specs.{declared.Case.{Case}, Bounds.{Bounds}}
 use Rattle.formulas.{specs.{Lengths.{ρ, Ki}, Current.{IG}, Width.{μA}}, proofs.Quantities.{quantity-ρ, quantity-Ki, quantity-IG}}
-use Rattle.current.proofs.GridCurrent.{current-encloses}
 use Rattle.effective_number.proofs.NumberEnclosed.{Ki-encloses}
+use Rattle.current.proofs.GridCurrent.{current-encloses}
 use Rattle.drive.specs.Ends.{soilCurrent, driveEnds}
 
 module _ {c : Case} (b : Bounds c) where

@@ -3,8 +3,8 @@ use Prim.Native.Nat.{ℕ, _*_, _≤_}
 use lib.Dec.{lit<}
 use Rattle.interval.proofs.Below.{Below, below-scaled, below-product}
 use Rattle.case.specs.{declared.Case.{Case}, Bounds.{Bounds}, Eased.{eased}}
-use Rattle.current.proofs.NoWorse.{current-below}
 use Rattle.effective_number.proofs.{NumberSpans.{Ki-span}, NumberEnclosed.{counts}}
+use Rattle.current.proofs.NoWorse.{current-below}
 use Rattle.drive.specs.Ends.{soilCurrent, driveEnds}
 
 module _ {c : Case} (b : Bounds c) (fault split shock body : ℕ) (enters : fault * split ≤ c .fault * c .split) where

@@ -8,10 +8,10 @@ use Rattle.interval.{specs.{Operations.{natural}, Span.{Span}, Wide.{Wide}}, pr
 use Rattle.interval.proofs.{Span.{floor≤ceil, span-natural, span-wider, span-scaled}, Relatives.{relative-ends, relative-span}}
 use Rattle.interval.proofs.WidePairs.{wide-fits}
 use Rattle.case.specs.{declared.Case.{Case}, Bounds.{Bounds}}
-use Rattle.current.{specs.Ends.{currentEnds}, proofs.GridCurrent.{current-span, current-relative}}
-use Rattle.lengths.specs.Lengths.{sideOf, conductorLength}
 use Rattle.effective_number.{specs.{Counts.{spacings}, Number.{KiEnds}}, proofs.Table.{nLow, nHigh, number-known}}
 use Rattle.effective_number.proofs.{NumberSpans.{Ki-is, Ki-span}, NumberEnclosed.{counts}}
+use Rattle.lengths.specs.Lengths.{sideOf, conductorLength}
+use Rattle.current.{specs.Ends.{currentEnds}, proofs.GridCurrent.{current-span, current-relative}}
 use Rattle.drive.specs.Ends.{numberOf, soilCurrent, driveEnds}
 
 -- Ki times ρ·IG, rounded to A and B: k x and l y, with Ki's ends k to l at most 1/31,000,000 apart and the current's at most 1/2,000,000

@@ -2,8 +2,8 @@
 use Prim.Native.Nat.{_^_}
 use Rattle.interval.specs.{declared.Interval.{Interval}, Operations.{scaledOf, productOf}}
 use Rattle.case.specs.declared.Case.{Case}
-use Rattle.current.specs.Ends.{currentEnds}
 use Rattle.effective_number.specs.Number.{nEnds, KiEnds}
+use Rattle.current.specs.Ends.{currentEnds}
 
 -- n of a case, in 10^−7
 abbrev pub numberOf : Case → Interval

@@ -1,8 +1,8 @@
 -- What keeps the code of nb within 64 bits: the ratio Lp/(4·√area) and its root.
 use Prim.Native.Nat.{ℕ, zero, suc, _*_, _^_, _≤_, _<_}
 use native.Mathlib.{Omega.{arith}, Nat.{mul-le-mul, div-le-self}}
-use Rattle.interval.specs.Root.{IsRoot}
 use Rattle.whole.specs.Wide.{WideFits}
+use Rattle.interval.specs.Root.{IsRoot}
 use Rattle.case.specs.Bounds.{Between}
 use Rattle.effective_number.specs.{Counts.{Counts, halfPerimeter}, Number.{ratioLow, ratioHigh, meshRoot}}
 use Rattle.effective_number.proofs.{Table.{roots-known}, NumberSpans.{half-bounds, mesh-root-is}}

@@ -2,8 +2,8 @@
 use Prim.Native.Nat.{ℕ, _+_, _*_, _/_, _^_}
 use mathlib.Core.Bool.{cond}
 use lib.{Dec.{eqb}, IntN.{pos}}
-use Rattle.interval.specs.{declared.Interval.{Interval}, Operations.{natural, point, sumOf, scaledOf, outwardOf}}
 use Rattle.whole.specs.Whole.{ceilDiv}
+use Rattle.interval.specs.{declared.Interval.{Interval}, Operations.{natural, point, sumOf, scaledOf, outwardOf}}
 use Rattle.enclosure.specs.SquareRoot.{squareRoot}
 use Rattle.effective_number.specs.Counts.{spacings, halfPerimeter, meshes}
 

@@ -2,8 +2,8 @@
 use Prim.Native.Nat.{ℕ, _+_, _-_, _*_, _^_, _≤_}
 use mathlib.Core.Path.{refl}
 use native.Mathlib.Omega.{arith}
-use Rattle.interval.specs.{Operations.{natural}, Span.{Span}}
 use Rattle.whole.proofs.Signed.{le-halves}
+use Rattle.interval.specs.{Operations.{natural}, Span.{Span}}
 use Rattle.exact.{specs.{Exact.{exactly}, Reported.{ten}}, proofs.{Order.{refl≤}, Consistency.{consistent-exactly, consistent-minus}}}
 use Rattle.exact.proofs.Exponential.{consistent-exp}
 use Rattle.enclosure.{specs.Enclosure.{Encloses}, proofs.Basics.{encloses-exactly, encloses-ordered}}

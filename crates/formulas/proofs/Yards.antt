@@ -4,8 +4,8 @@ use mathlib.Core.{Path.{_≡_, refl, ap}, Bool.{Bool, _&&_}, List.{[], _∷_}}
 use native.Mathlib.{Omega.{arith}, Nat.{zero-lt-suc}}
 use lib.{IntN.{pos}, Dec.{T, leb, leb→le, lit≤}}
 use mir.Facts.{and-yes}
-use Rattle.interval.{specs.Operations.{natural}, proofs.Rules.{_≼_, Kept, lits}}
 use Rattle.whole.proofs.Choice.{pos≤}
+use Rattle.interval.{specs.Operations.{natural}, proofs.Rules.{_≼_, Kept, lits}}
 use Rattle.exact.specs.{Fraction.{Fraction, whole, decimal, _−f_, top}, Ends.{Ends, _÷e_}, Exact.{Exact, exactly, _÷x_, Holds}, Root.{root}}
 use Rattle.exact.{specs.{Reported.{Scale, ten, over, reported, Reports}, Depth.{Consistent}}, proofs.Order.{refl≤}}
 use Rattle.exact.proofs.{Holding.{holds-wider, holds-exactly, holds-quotient}, Roots.{holds-root}, Consistency.{consistent-exactly}}

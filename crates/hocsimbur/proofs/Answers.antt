@@ -2,20 +2,20 @@
 use Prim.Native.Nat.{ℕ}
 use lib.IntN.{natAbs}
 use mathlib.Core.Path.{_≡_, refl, sym, _∙_}
-use Rattle.text.proofs.Clash.{clash}
 use Rattle.interval.specs.declared.Interval.{Interval}
 use Rattle.interval.specs.declared.Pair.the-variants as pair
 use Rattle.exact.specs.{Fraction.{Fraction}, Ends.{Ends}, Exact.{Exact}, Reported.{Scale, Reports}, Answered.{RightPair}}
+use Rattle.text.proofs.Clash.{clash}
 use Rattle.case.specs.{declared.{Case.{Case}, Judged.{Judged, the-variants.{Sound, Refused}}}, Check.{recordJudged, recordAnswer}}
 use Rattle.case.{specs.Bounds.{Bounds}, proofs.{Bounds.{record-bounds}, BoundsSound.{bounds-sound}}}
 use Rattle.formulas.specs.{Decrement.{Df}, Resistance.{resistance}, Width.{μΩ, billionths, factorWidth, resistanceWidth}}
 use Rattle.formulas.proofs.Size.{duty-pos, size-not-below, size-smallest}
+use Rattle.tolerable.specs.{declared.TouchAndStep.{TouchAndStep}, Ends.{touchEnds, stepEnds, touchAndStep}}
+use Rattle.decision.specs.declared.Verdict.{Verdict}
 use Rattle.decrement.proofs.Right.{factor-reports}
 use Rattle.current.proofs.GridCurrent.{upper-bounds}
-use Rattle.tolerable.specs.{declared.TouchAndStep.{TouchAndStep}, Ends.{touchEnds, stepEnds, touchAndStep}}
 use Rattle.row.specs.{declared.Row.{Row}, Ends.{caseVerdict, rowOf}}
 use Rattle.row.proofs.Right.{tolerable-touch-reports, tolerable-step-reports, resistance-reports, row-verdict, right-row}
-use Rattle.decision.specs.declared.Verdict.{Verdict}
 use Rattle.hocsimbur.specs.declared.Number.the-variants as number
 use Rattle.hocsimbur.specs.declared.Tolerable.the-variants as tolerable
 use Rattle.hocsimbur.specs.declared.RowAnswer.{RowAnswer}

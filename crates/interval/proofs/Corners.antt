@@ -1,7 +1,7 @@
 -- The corners are in order with each of the four products of ends.
 use lib.{IntN.{ℤ, _*ℤ_}, Signed.{_≤ℤ_}}
-use Rattle.interval.specs.{Operations.{cornersOf}, declared.Interval.{Interval}}
 use Rattle.whole.proofs.Choice.{≤ℤ-trans, min-left, min-right, max-left, max-right}
+use Rattle.interval.specs.{Operations.{cornersOf}, declared.Interval.{Interval}}
 
 -- a property of each product: lower and lower, lower and upper, upper and lower, upper and upper
 pub record Corners (P : ℤ → Type 0) (a b : Interval) : Type 0 where

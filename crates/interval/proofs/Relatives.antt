@@ -5,9 +5,9 @@ use native.Mathlib.Omega.{arith}
 use native.Mathlib.Nat.{mul-le-mul, mul-le-mul-left, mul-le-mul-right, le-trans, le-of-mul-le-mul-right, lt-of-mul-lt-mul-right}
 use native.Mathlib.{Nat.{le-of-suc-le-suc}, Decide.{decLe}}
 use lib.IntN.{pos, natAbs}
+use Rattle.whole.{specs.Whole.{ceilDiv}, proofs.Rounding.{floorDiv-above, ceilDiv-below}}
 use Rattle.interval.specs.{declared.Interval.{Interval}, Operations.{natural, point, sumOf, productOf, quotientOf}}
 use Rattle.interval.specs.Span.{Span, Relative}
-use Rattle.whole.{specs.Whole.{ceilDiv}, proofs.Rounding.{floorDiv-above, ceilDiv-below}}
 use Rattle.interval.proofs.{Rules.{_≼_, Kept}, Natural.{point-natural, natural-sum, natural-product, natural-quotient}}
 
 -- the width, by ends that are known

@@ -5,9 +5,9 @@ use native.Mathlib.{Omega.{arith}, Nat.{mul-le-mul, le-trans, le-of-eq}}
 use lib.{IntN.{ℤ, pos, negsuc, natAbs, _*ℤ_}, Dec.{T}, Signed.{_≤ℤ_, nonNeg, yes-nonNeg}}
 use Rattle.whole.{specs.{Signed.{plus, minus}, Whole.{minZ, maxZ}}, proofs.Signed.{size-floor, le-halves, halves-le, size-is}}
 use Rattle.whole.proofs.{Choice.{min-cases, max-cases}, Rounding.{size-ceil, size-floor-by, size-ceil-by}}
+use Rattle.whole.proofs.Signed as signed
 use Rattle.interval.specs.Operations.{natural, point, size, sumOf, differenceOf, timesOf, cornersOf, outwardOf, scaledOf, hullOf}
 use Rattle.interval.specs.{Operations.{productOf}, declared.Interval.{Interval}}
-use Rattle.whole.proofs.Signed as signed
 
 pub size-lower : (a : Interval) → natAbs (a .lower) ≤ size a
 unfolding size

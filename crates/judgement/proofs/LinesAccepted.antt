@@ -6,10 +6,10 @@ use lib.{ListN.{length, getD}, Dec.{eqb}}
 use borrow.Author.Tests.{eqb-true}
 use Rattle.text.{specs.Text.{fieldsOf}, proofs.Clash.{clash}}
 use Rattle.case.specs.Columns.{Form}
-use Rattle.judgement.specs.{declared.Judgement.{the-variants.{Lines}, Judgement}, Sheet.{linesJudgement}, Accepted.{SoundLine}}
+use Rattle.line.specs.Line.{wrongForm, lineValues}
 use Rattle.line_finding.specs.{declared.LineFinding.{LineFinding, the-variants.{Sound, Form as WrongForm}}, Findings.{lineFinding}}
 use Rattle.line_finding.proofs.LineChecked.{sound-case}
-use Rattle.line.specs.Line.{wrongForm, lineValues}
+use Rattle.judgement.specs.{declared.Judgement.{the-variants.{Lines}, Judgement}, Sheet.{linesJudgement}, Accepted.{SoundLine}}
 use Rattle.judgement.proofs.LineJudged.{sound-line}
 
 sound-form : (b : Bool) (c : ℕ) (f : LineFinding) → cond b f (WrongForm c) ≡ Sound → (b ≡ true) × (f ≡ Sound)

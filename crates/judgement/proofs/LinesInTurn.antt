@@ -6,11 +6,11 @@ use lib.ListN.{length, getD}
 use Rattle.text.{specs.Text.{fieldsOf}, proofs.Clash.{clash}}
 use Rattle.case.specs.Columns.{Form}
 use Rattle.line.specs.Line.{lineValues}
-use Rattle.judgement.specs.{declared.Judgement.{the-variants.{Lines, Refused}, Judgement}, Refusal.{lineJudgement}}
-use Rattle.judgement.specs.Sheet.{linesJudgement}
 use Rattle.line_finding.specs.declared.LineFinding.{LineFinding}
 use Rattle.line_finding.specs.declared.LineFinding.the-variants.{Sound, Form as WrongForm, OutOfRange, Disagreement, Repeated}
 use Rattle.line_finding.specs.Findings.{sameKey, repeats, lineFinding}
+use Rattle.judgement.specs.{declared.Judgement.{the-variants.{Lines, Refused}, Judgement}, Refusal.{lineJudgement}}
+use Rattle.judgement.specs.Sheet.{linesJudgement}
 use Rattle.judgement.proofs.LineJudged.{sound-line}
 
 module _ (form : Form) (at : List ℕ) where

@@ -9,10 +9,10 @@ use Rattle.text.proofs.LineTurns.{line-turn, line-shorter, next-of}
 use Rattle.tables.{specs.Parts.{partAt}, proofs.{Writing.{part-kept}, Parts.{part-entry}}}
 use Rattle.case.specs.Columns.{Form, named}
 use Rattle.line.specs.Line.{lineValues}
-use Rattle.judgement.specs.{declared.Judgement.{the-variants.{Lines, Refused}, Judgement}, Refusal.{lineJudgement}}
-use Rattle.judgement.specs.{Limits.{mostLines}, Sheet.{linesJudgement}, Read.{LineStored, LinesRead}}
 use Rattle.line_finding.specs.{declared.LineFinding.{LineFinding}, Findings.{lineFinding}, Parts.{packed, keysOf}}
 use Rattle.line_finding.proofs.Keys.{Keyed, kept, finding-kept, keys-more}
+use Rattle.judgement.specs.{declared.Judgement.{the-variants.{Lines, Refused}, Judgement}, Refusal.{lineJudgement}}
+use Rattle.judgement.specs.{Limits.{mostLines}, Sheet.{linesJudgement}, Read.{LineStored, LinesRead}}
 use Rattle.judgement.proofs.LineJudged.{refused-line, sound-line}
 
 pub record Passing (form : Form) (s at keys rest : List ℕ) (n : ℕ) (sound : Judgement) (before store : List ℕ) : Type 0 where

@@ -1,7 +1,7 @@
 -- Refusals 1 to 7: number, line and column. Document 01, 'The result table'.
 use Prim.Native.Nat.{ℕ, _+_}
-use Rattle.judgement.specs.{declared.Judgement.{the-variants.{Refused}, Judgement}, Limits.{Limits}}
 use Rattle.line_finding.specs.declared.LineFinding.{LineFinding, the-variants.{Sound, Form, OutOfRange, Disagreement, Repeated}}
+use Rattle.judgement.specs.{declared.Judgement.{the-variants.{Refused}, Judgement}, Limits.{Limits}}
 
 -- "sheet empty, over 16,384 bytes, or last byte not 10", as changed by request (h) of document 02: over 65,536 bytes
 unfoldable pub textRefused : Judgement

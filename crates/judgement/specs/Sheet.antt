@@ -7,9 +7,9 @@ use Rattle.text.specs.Text.{linesOf, fieldsOf}
 use Rattle.case.specs.Columns.{Form}
 use Rattle.header.specs.Header.{noColumns, wrongName, columnsOf}
 use Rattle.line.specs.Line.{lineValues}
+use Rattle.line_finding.specs.Findings.{lineFinding}
 use Rattle.judgement.specs.{declared.Judgement.{Judgement, the-variants.{Lines}}, Limits.{Limits, today}}
 use Rattle.judgement.specs.Refusal.{textRefused, nameRefused, noLineRefused, manyLinesRefused, lineJudgement}
-use Rattle.line_finding.specs.Findings.{lineFinding}
 
 -- "Its first line holds names, and each later line holds values in that order."
 unfoldable pub names : List ℕ → List (List ℕ)

@@ -3,8 +3,8 @@ use Prim.Native.Nat.{ℕ, _+_, _*_, _≤_, _<_}
 use mathlib.Core.{Path.{_≡_, ap}, Bool.{Bool, true, false, not, cond}}
 use native.Mathlib.Omega.{arith}
 use lib.Dec.{T, ltb, ltb→lt, nltb→le}
-use Rattle.interval.specs.{declared.Interval.{Interval}, Operations.{natural, size, minusOf, Ordered, Narrow}}
 use Rattle.whole.proofs.Signed.{neg-plus, neg-minus, size-neg, le-halves, halves-le}
+use Rattle.interval.specs.{declared.Interval.{Interval}, Operations.{natural, size, minusOf, Ordered, Narrow}}
 use Rattle.exact.specs.{Fraction.{_<f_, _≈f_, whole, _·f_, inv, _÷f_}, Exact.{Holds}, Logarithm.{lnOf}, Reported.{ten, reported}}
 use Rattle.exact.{specs.Depth.{workDepth, Within}, proofs.{Quotients.{inv-pos}, Inclusion.{within-trans, within-same}}}
 use Rattle.exact.proofs.{Logarithm.{ln-value, within-ln-down, consistent-ln-of}, Holding.{holds-depth}}

@@ -3,8 +3,8 @@ use Prim.Native.Nat.{ℕ, _+_, _*_, _≤_, _<_}
 use mathlib.Core.Path.{_≡_, sym, ap, _∙_}
 use native.Mathlib.{Omega.{arith}, Nat.{mul-le-mul-right, le-trans}}
 use lib.{Dec.{lit≤, lit<}, IntN.{pos}}
-use Rattle.interval.{specs.{Operations.{natural, minusOf}, Span.{Span}}, proofs.Span.{span-natural}}
 use Rattle.whole.proofs.Choice.{le-pos}
+use Rattle.interval.{specs.{Operations.{natural, minusOf}, Span.{Span}}, proofs.Span.{span-natural}}
 use Rattle.exact.specs.{Fraction.{_<f_, _≈f_, whole, inv, _·f_, _÷f_}, Exact.{Exact, exactly, _÷x_}, Logarithm.{ln}}
 use Rattle.exact.specs.{Depth.{Consistent, Proper, Positive, PositiveAt}, Reported.{Scale, ten, over, reported}}
 use Rattle.exact.proofs.{Order.{refl≤, refl≈, sym≈, trans≈, whole-pos, nonneg}, Products.{whole-mul}, Divisors.{cong÷, expand}}

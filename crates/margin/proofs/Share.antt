@@ -3,8 +3,8 @@ use Prim.Native.Nat.{ℕ, _*_, _<_}
 use mathlib.Core.Path.{_≡_, refl, ap}
 use native.Mathlib.Omega.{arith}
 use lib.IntN.{pos, _*ℤ_}
-use Rattle.interval.specs.{declared.Interval.{Interval}, Operations.{scaledOf}}
 use Rattle.whole.{specs.Whole.{ceilDiv}, proofs.Rounding.{ceilDiv-above}}
+use Rattle.interval.specs.{declared.Interval.{Interval}, Operations.{scaledOf}}
 use Rattle.exact.specs.{Fraction.{_≤f_, _≈f_}, Exact.{Exact, exactly, _·x_, AtOrBelow}, Depth.{Consistent}, Reported.{ten, over, reported}}
 use Rattle.exact.proofs.{Consistency.{consistent-exactly, consistent-product}, Verdict.{at-or-below}}
 use Rattle.enclosure.{specs.Enclosure.{Encloses}, proofs.{Basics.{holds}, Multiples.{encloses-multiple}}}

@@ -9,8 +9,8 @@ use Rattle.interval.{specs.{Operations.{natural}, Span.{Span, Relative}}, proof
 use Rattle.interval.proofs.Relatives.{relative-span, relative-point, relative-sum, relative-product, relative-quotient}
 use Rattle.case.specs.{declared.Case.{Case}, Bounds.{Bounds}}
 use Rattle.formulas.proofs.Conductors.{by-place}
-use Rattle.drive.proofs.Spans.{low, high, drive-is, drive-order, drive-near, drive-by-length}
 use Rattle.lengths.{specs.Lengths.{conductorLength, rodLength, totalLength}, proofs.Lengths.{conductor-bounds}}
+use Rattle.drive.proofs.Spans.{low, high, drive-is, drive-order, drive-near, drive-by-length}
 use Rattle.mesh.specs.Ends.{rodWeight, weighedLength, meshLength, drivenEnds}
 use Rattle.mesh.proofs.LengthSpans.{diagonal-span, weight-span, mesh-length-span, mesh-length-low}
 

@@ -6,15 +6,15 @@ use lib.Dec.{lit≤, lit<}
 use Rattle.interval.specs.{declared.Interval.{Interval}, Operations.{size, sumOf, minusOf, scaledOf, productOf, quotientOf}, Span.{Span}}
 use Rattle.interval.proofs.{Span.{span-scaled, span-size}, Negated.{product-negated, sum-negated, span-difference, size-negated}}
 use Rattle.interval.proofs.{Rules.{lits}, NumeralSpans.{numeral-point, numeral-product, numeral-quotient, numeral-wider}}
+use Rattle.enclosure.{specs.Pi.{πEnds}, proofs.{RootSpan.{root-span}, Constants.{π-span}}}
+use Rattle.logarithm.specs.Ends.{lnPair}
 use Rattle.case.specs.{declared.Case.{Case}, Bounds.{Bounds}}
 use Rattle.formulas.proofs.Conductors.{by-place}
+use Rattle.effective_number.proofs.NumberEnclosed.{counts}
+use Rattle.conductors.{specs.Weights.{eight, oddEnds, spreadEnds}, proofs.WeightWidths.{spread-span, inner-span}}
+use Rattle.drive.specs.Ends.{numberOf}
 use Rattle.mesh.specs.Factor.{argumentLog, depthFactor, perimeterRods, innerFactor, innerTerm, geometricFactor}
 use Rattle.mesh.proofs.Logarithms.{argument-span}
-use Rattle.logarithm.specs.Ends.{lnPair}
-use Rattle.conductors.{specs.Weights.{eight, oddEnds, spreadEnds}, proofs.WeightWidths.{spread-span, inner-span}}
-use Rattle.effective_number.proofs.NumberEnclosed.{counts}
-use Rattle.drive.specs.Ends.{numberOf}
-use Rattle.enclosure.{specs.Pi.{πEnds}, proofs.{RootSpan.{root-span}, Constants.{π-span}}}
 
 -- 2π
 pub turn-span : Span (scaledOf πEnds 2) 6283185306 6283185308 2

@@ -3,8 +3,8 @@ use Prim.Native.Nat.{ℕ, _+_, _≤_}
 use mathlib.Core.Path.{_≡_, _∙_}
 use native.Mathlib.{Omega.{arith}, Nat.{le-trans}}
 use lib.{Dec.{lit≤, lit<}, IntN.{pos}, Signed.{_≤ℤ_}}
-use Rattle.interval.specs.{Operations.{natural}, Span.{Span}}
 use Rattle.whole.proofs.Choice.{le-pos}
+use Rattle.interval.specs.{Operations.{natural}, Span.{Span}}
 use Rattle.logarithm.specs.Series.{squareOf, powerOf, termOf, termsOf}
 use Rattle.logarithm.specs.Ends.{Inside, halvingsOf, argumentOf, doublings, nearOf, endOf, upEnds, lnEnds}
 use Rattle.logarithm.proofs.{KnownHalvings.{up-by, ln-up}, Growth.{ln-grows}, LnEnds.{up-tight}}

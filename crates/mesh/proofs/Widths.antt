@@ -3,15 +3,15 @@ use Prim.Native.Nat.{ℕ, _+_, _-_, _*_, _≤_, _<_}
 use mathlib.Core.Path.{_≡_, ap}
 use native.Mathlib.{Omega.{arith}, Nat.{mul-le-mul-left}}
 use lib.{Dec.{lit≤, lit<}, IntN.{pos}}
-use Rattle.interval.{specs.Operations.{natural}, proofs.Natural.{natural-product}}
 use Rattle.whole.proofs.Rounding.{floorDiv-above, ceilDiv-below}
+use Rattle.interval.{specs.Operations.{natural}, proofs.Natural.{natural-product}}
 use Rattle.exact.specs.{Fraction.{_≤f_, decimal, _+f_, neg, _−f_, _·f_, inv, _÷f_}, Reported.{ten, over, reported, AtMost}}
 use Rattle.exact.proofs.{Order.{trans≤, refl≈, sym≈}, Quotients.{clamped}, Divisors.{cong÷}}
 use Rattle.case.specs.{declared.Case.{Case}, Bounds.{Bounds}}
 use Rattle.formulas.{specs.{Lengths.{LT}, Width.{mV, μA, meshWidth}}, proofs.Positive.{decimal-pos, decimal-nonneg}}
+use Rattle.lengths.{specs.Lengths.{totalLength}, proofs.Lengths.{total-bounds, total-is}}
 use Rattle.current.specs.Ends.{currentEnds}
 use Rattle.drive.proofs.{Spans.{low}, Reference.{reference-width}}
-use Rattle.lengths.{specs.Lengths.{totalLength}, proofs.Lengths.{total-bounds, total-is}}
 use Rattle.mesh.specs.Ends.{meshEnds}
 use Rattle.mesh.proofs.{FactorSpans.{factor-span}, DrivenWidths.{driven-ends}}
 

@@ -4,8 +4,8 @@ use native.Mathlib.{Omega.{arith}, Decide.{decLe}}
 use native.Mathlib.Nat.{mul-le-mul-left, min-le-left, min-le-right, min-eq-left, min-eq-right, le-max-left, le-max-right, max-eq-left}
 use native.Mathlib.Nat.{max-eq-right}
 use lib.IntN.{pos}
-use Rattle.interval.specs.{declared.Interval.{Interval}, Operations.{natural}}
 use Rattle.whole.proofs.Choice.{pos≤}
+use Rattle.interval.specs.{declared.Interval.{Interval}, Operations.{natural}}
 use Rattle.exact.specs.{Fraction.{_≤f_, minf, maxf}, Exact.{Exact}, Depth.{workDepth, Consistent}, Reported.{Scale, ten, over, reported}}
 use Rattle.exact.proofs.{Order.{trans≤, min-cases, max-cases, min-left, min-right, max-left, max-right}, Reported.{over≤}}
 use Rattle.enclosure.specs.Enclosure.{Encloses}

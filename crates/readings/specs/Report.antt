@@ -3,8 +3,8 @@
 use Prim.Native.Nat.{ℕ}
 use mathlib.Core.{Path.{_≡_}, List.{List}}
 use lib.IntN.{natAbs}
-use Rattle.interval.specs.declared.Interval.{Interval}
 use Rattle.whole.specs.Whole.{ceilDiv}
+use Rattle.interval.specs.declared.Interval.{Interval}
 use Rattle.exact.specs.{Fraction.{Fraction, decimal, _+f_, _·f_}, Ends.{Ends}, Reported.{Scale, ten, Reports}}
 use Rattle.readings.specs.{declared.Report.{Report}, Reading.{Reading}}
 use Rattle.readings.specs.Resistivity as Resistivity

@@ -9,8 +9,8 @@ use Rattle.case.specs.{declared.Case.{Case}, Case.{caseOf}, Bounds.{Bounds}, Fa
 use Rattle.decision.specs.{declared.Verdict.{the-variants.{Safe, Unsafe, Undecided}, Verdict}, Verdict.{verdictNumber}}
 use Rattle.row.{specs.Ends.{rowOf}, proofs.Right.{right-row}}
 use Rattle.yards.specs.Yards.{isSafe}
-use Rattle.sheet.specs.Answer.{cases}
 use Rattle.headroom.specs.Headroom.{InRange}
+use Rattle.sheet.specs.Answer.{cases}
 use Rattle.tally.specs.Lines.{linesOf, countOf, missing, answeredUnsafe, answeredUndecided, sameYard, otherYard, tooSmall, firstLine}
 use Rattle.tally.specs.{Fault.{everySafe, commonFault, stationFault}, Tally.{EveryBounds}}
 use Rattle.tally.proofs.Faults.{left, right, test-safe, safe-test, UpTo, common-up-to}

@@ -1,12 +1,12 @@
 -- The licence's answer, the lines of a station and the seasons without a line computed.
 use Prim.Native.Nat.{ℕ}
 use mathlib.Core.{Path.{_≡_, refl}, List.{List, [], _∷_, map}}
+use Rattle.whole.specs.Count.{one}
 use Rattle.case.specs.{declared.Case.{Case}, Case.{caseOf}}
+use Rattle.tally.specs.{Lines.{licensed, linesOf, countOf, hasLine, without, missing, sameYard, otherYard, firstLine}, Tally.{released}}
 use Rattle.release.specs.declared.Released.{Released, the-variants.{Pairs, Refused}}
 use Rattle.release.specs.Licence.{pairsOf, badCount, among, wrongStation, wrongSeasons, firstWrong}
 use Rattle.release.specs.Answer.{roomAnswer, afterPairs, licenceAnswer}
-use Rattle.tally.specs.Lines.{licensed, linesOf, one, countOf, hasLine, without, missing, sameYard, otherYard, firstLine}
-use Rattle.tally.specs.Tally.{released}
 
 -- a licence, the length of the table, and the answer
 record Example : Type 0 where

@@ -7,7 +7,7 @@ ghost use Rattle.case.specs.Columns.{nameCount};
 ghost use Rattle.judgement.specs.Limits.{mostLines};
 ghost use Rattle.table_rows.specs.Rows.{StoredBounds, storedCases};
 ghost use Rattle.release.specs.Licence.{pairsOf};
-ghost use Rattle.tally.specs.Lines.{one};
+ghost use Rattle.whole.specs.Count.{one};
 ghost use Rattle.release.specs.Pair.{pairLength, releaseOf, stationNumbers, eight};
 ghost use Rattle.tally.specs.Tally.{Small};
 ghost use Rattle.release.specs.Answer.{Filled};

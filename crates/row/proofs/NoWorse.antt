@@ -2,22 +2,22 @@
 -- stay, those of the tolerable voltages rise or stay, so a safe yard stays safe.
 use Prim.Native.Nat.{ℕ, _*_, _≤_}
 use mathlib.Core.Path.{_≡_, refl, ap, _∙_}
-use Rattle.interval.{specs.declared.Interval.{Interval}, proofs.Below.{Below, below-upper, below-lower}}
 use Rattle.whole.proofs.Choice.{≤ℤ-trans}
+use Rattle.interval.{specs.declared.Interval.{Interval}, proofs.Below.{Below, below-upper, below-lower}}
 use Rattle.case.specs.{declared.Case.{Case}, Bounds.{Bounds}, Key.{underKey}, Eased.{eased}}
-use Rattle.decrement.specs.Ends.{exponentEnds, ratioEnds, restEnds, squareEnds, factorEnds}
-use Rattle.current.specs.Ends.{currentEnds}
-use Rattle.lengths.specs.Lengths.{conductorLength, rodLength, totalLength}
-use Rattle.drive.specs.Ends.{soilCurrent, driveEnds}
 use Rattle.tolerable.specs.Ends.{layered, layerEnds, bodyFactor, timeRoot, topEnds, tolerableEnds, touchEnds, stepEnds}
 use Rattle.tolerable.proofs.NoWorse.{tolerable-touch-rises, tolerable-step-rises}
-use Rattle.mesh.specs.Factor.{argumentTop, argumentBottom, argumentLog, depthFactor, innerFactor, innerTerm, geometricFactor}
-use Rattle.mesh.{specs.Ends.{diagonalEnds, rodWeight, weighedLength, meshLength, meshEnds}, proofs.NoWorse.{mesh-below}}
-use Rattle.mesh.specs.Ends as Mesh
+use Rattle.lengths.specs.Lengths.{conductorLength, rodLength, totalLength}
+use Rattle.decision.{specs.{declared.Verdict.the-variants.{Safe}, Verdict.{verdict}}, proofs.Verdicts.{safe-ends, ends-safe}}
+use Rattle.decrement.specs.Ends.{exponentEnds, ratioEnds, restEnds, squareEnds, factorEnds}
+use Rattle.current.specs.Ends.{currentEnds}
+use Rattle.drive.specs.Ends.{soilCurrent, driveEnds}
 use Rattle.step.specs.Ends as Step
 use Rattle.step.specs.Ends.{powerOfTwo, shareEnds, reach, spacingSum, spacingFactor, stepLength, stepVoltageEnds}
 use Rattle.step.proofs.NoWorse.{step-below}
-use Rattle.decision.{specs.{declared.Verdict.the-variants.{Safe}, Verdict.{verdict}}, proofs.Verdicts.{safe-ends, ends-safe}}
+use Rattle.mesh.specs.Factor.{argumentTop, argumentBottom, argumentLog, depthFactor, innerFactor, innerTerm, geometricFactor}
+use Rattle.mesh.{specs.Ends.{diagonalEnds, rodWeight, weighedLength, meshLength, meshEnds}, proofs.NoWorse.{mesh-below}}
+use Rattle.mesh.specs.Ends as Mesh
 use Rattle.row.specs.{Ends.{caseVerdict}, NoWorse.{NoWorse}}
 
 -- of four pairs that are safe, mesh and step may fall, and what is tolerable may rise

@@ -10,19 +10,19 @@ use Rattle.formulas.specs.Tolerable as Tolerable
 use Rattle.formulas.specs.Mesh as Mesh
 use Rattle.formulas.specs.Resistance as R
 use Rattle.formulas.specs.Step as Step
-use Rattle.decrement.proofs.Right.{factor-reports}
-use Rattle.current.proofs.GridCurrent.{current-reports}
 use Rattle.tolerable.specs.Ends.{touchEnds, stepEnds}
 use Rattle.tolerable.proofs.Enclosed as T
 use Rattle.tolerable.proofs.Widths as TW
-use Rattle.mesh.{specs.Ends.{meshEnds}, proofs.{Enclosed.{mesh-encloses}, Widths.{mesh-narrow}}}
+use Rattle.decision.proofs.Verdicts.{Enclosed, safe-true, unsafe-true}
+use Rattle.decrement.proofs.Right.{factor-reports}
+use Rattle.current.proofs.GridCurrent.{current-reports}
+use Rattle.resistance.{specs.Ends.{resistanceEnds}, proofs.{Enclosed.{resistance-encloses}, Widths.{resistance-narrow}}}
+use Rattle.resistance.proofs.Rise.{rise-encloses, rise-narrow}
 use Rattle.step.specs.Ends.{stepVoltageEnds}
 use Rattle.step.proofs.Enclosed as S
 use Rattle.step.proofs.Widths as SW
-use Rattle.resistance.{specs.Ends.{resistanceEnds}, proofs.{Enclosed.{resistance-encloses}, Widths.{resistance-narrow}}}
-use Rattle.resistance.proofs.Rise.{rise-encloses, rise-narrow}
+use Rattle.mesh.{specs.Ends.{meshEnds}, proofs.{Enclosed.{mesh-encloses}, Widths.{mesh-narrow}}}
 use Rattle.row.specs.{Row.{RightRow, verdictOf}, Ends.{caseVerdict, rowOf}}
-use Rattle.decision.proofs.Verdicts.{Enclosed, safe-true, unsafe-true}
 
 pub row-verdict : (c : Case) → rowOf c .verdict ≡ caseVerdict c
 unfolding rowOf

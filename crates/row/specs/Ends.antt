@@ -2,14 +2,14 @@
 use lib.IntN.{pos}
 use Rattle.case.specs.declared.Case.{Case}
 use Rattle.formulas.specs.Size as Size
+use Rattle.tolerable.specs.Ends.{touchEnds, stepEnds}
+use Rattle.decision.specs.{declared.Verdict.{Verdict}, Verdict.{verdict}}
 use Rattle.decrement.specs.Ends.{factorEnds}
 use Rattle.current.specs.Ends.{currentEnds, upperFactor}
-use Rattle.tolerable.specs.Ends.{touchEnds, stepEnds}
-use Rattle.mesh.specs.Ends.{meshEnds}
-use Rattle.step.specs.Ends.{stepVoltageEnds}
 use Rattle.resistance.specs.Ends.{resistanceEnds, riseEnds}
+use Rattle.step.specs.Ends.{stepVoltageEnds}
+use Rattle.mesh.specs.Ends.{meshEnds}
 use Rattle.row.specs.declared.Row.{Row}
-use Rattle.decision.specs.{declared.Verdict.{Verdict}, Verdict.{verdict}}
 
 -- the verdict of a case
 unfoldable pub caseVerdict : Case → Verdict

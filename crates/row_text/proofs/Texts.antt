@@ -6,13 +6,13 @@ use lib.{IntN.{ℤ, pos}, ListN.{length}}
 use borrow.Author.Tests.{ne-eqb}
 use Rattle.text.specs.Text.{bytes}
 use Rattle.writing.specs.{Decimal.{signed}, Text.{moreFields, parted, ended, textOf}}
-use Rattle.row.specs.{declared.Row.{Row}, Row.{numbers}}
 use Rattle.decision.specs.{declared.Verdict.{the-variants.{Safe, Unsafe, Undecided}, Verdict}, Verdict.{verdictNumber}}
+use Rattle.row.specs.{declared.Row.{Row}, Row.{numbers}}
 use Rattle.margin.specs.Margin.{marginsOf}
+use Rattle.fields.specs.{Listed.{listed}, Fields.{wordOf, field, fieldsFrom}}
 use Rattle.row_text.specs.{declared.Shown.{Shown}, Verdict.{word, verdictNames, verdictFields}, Rows.{rowNames, rowFields}}
 use Rattle.row_text.specs.{Margins.{marginNames, twoMargins, marginFields}, Shown.{marginNumbers, shownFields, shownLine, linesAfter}}
 use Rattle.row_text.specs.declared.Shown.the-variants as shown
-use Rattle.fields.specs.{Listed.{listed}, Fields.{wordOf, field, fieldsFrom}}
 
 -- ---- a text of names and fields
 

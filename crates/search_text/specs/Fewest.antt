@@ -8,9 +8,9 @@ use Rattle.text.specs.{declared.Field.{Field, the-variants.{Wrong, Value}}, Tex
 use Rattle.case.specs.{declared.Case.{Case}, Columns.{columns, nameCount}}
 use Rattle.header.specs.Header.{noColumns, wrongName, columnsOf}
 use Rattle.line.specs.Line.{wrongForm, lineCase}
+use Rattle.line_finding.specs.declared.LineFinding.the-variants.{Sound, Form}
 use Rattle.judgement.specs.{declared.Judgement.{the-variants.{Lines}, Judgement}, Limits.{Limits, mostBytes}}
 use Rattle.judgement.specs.Refusal.{textRefused, nameRefused, noLineRefused, manyLinesRefused, lineJudgement}
-use Rattle.line_finding.specs.declared.LineFinding.the-variants.{Sound, Form}
 use Rattle.yards.specs.{declared.FewestLines.{FewestLines, the-variants.{Found, None, Refused}}, Fewest.{answer}}
 use Rattle.fields.specs.Refusal.{numbered, refusedText, unlessRefused}
 

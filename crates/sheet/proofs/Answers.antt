@@ -3,13 +3,13 @@ use Prim.Native.Nat.{ℕ, _*_, _≤_, _<_}
 use mathlib.Core.{Path.{_≡_, refl}, List.{List}}
 use lib.{IntN.{ℤ}, ListN.{length}}
 use borrow.Author.Tests.{lt-ltb, le-ltb}
-use Rattle.row.specs.Row.{rowLength}
-use Rattle.sheet.specs.{declared.Answer.the-variants.{Rows, Refused}, Answer.{tableRefused, answerBy, cases, answer}}
-use Rattle.sheet.specs.Table.{TableAfter, Answered}
-use Rattle.table_rows.specs.Rows.{Filled}
 use Rattle.case.specs.Columns.{columns}
 use Rattle.judgement.specs.{declared.Judgement.{Judgement}, Sheet.{judgement}}
 use Rattle.judgement.specs.declared.Judgement.the-variants as judged
+use Rattle.row.specs.Row.{rowLength}
+use Rattle.table_rows.specs.Rows.{Filled}
+use Rattle.sheet.specs.{declared.Answer.the-variants.{Rows, Refused}, Answer.{tableRefused, answerBy, cases, answer}}
+use Rattle.sheet.specs.Table.{TableAfter, Answered}
 
 module _ {j : Judgement} (s : List ℕ) (t : List ℤ) (judged-is : j ≡ judgement columns s) where
   -- refused by its judgement

@@ -10,8 +10,8 @@ use Rattle.line.specs.Line.{lineCase}
 use Rattle.judgement.specs.Sheet.{names, valueLines}
 use Rattle.decision.specs.{declared.Verdict.{the-variants.{Safe, Unsafe, Undecided}, Verdict}, Verdict.{verdictNumber}}
 use Rattle.row.specs.{Row.{numbers}, Places.{verdictPlace}, Ends.{caseVerdict, rowOf}}
-use Rattle.sheet.specs.{declared.Answer.the-variants.{Rows}, Answer.{cases}, Table.{rowAt, TableAfter, Answered}}
 use Rattle.table_rows.specs.Rows.{Filled}
+use Rattle.sheet.specs.{declared.Answer.the-variants.{Rows}, Answer.{cases}, Table.{rowAt, TableAfter, Answered}}
 use Rattle.sheet.proofs.{Accepted.{accepted, sound-bounds}, StoredCases.{case-at}}
 
 -- the verdict in row i of a table, by its number

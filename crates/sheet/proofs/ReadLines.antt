@@ -6,8 +6,8 @@ use lib.ListN.{length}
 use Rattle.case.specs.{declared.Form.the-variants.{Present}, Columns.{columns, nameCount}, Parts.{formOf}}
 use Rattle.judgement.specs.{declared.Judgement.{Judgement, the-variants.{Lines}}, Limits.{mostLines}, Sheet.{judgement}, Read.{Read}}
 use Rattle.judgement.proofs.Accepted.{accepted}
-use Rattle.sheet.specs.Answer.{cases}
 use Rattle.table_rows.specs.Rows.{storedCases, StoredBounds}
+use Rattle.sheet.specs.Answer.{cases}
 use Rattle.sheet.proofs.StoredCases.{stored-cases, stored-bounds}
 
 -- n value lines of a sheet stand in a store

@@ -10,8 +10,8 @@ use Rattle.header.specs.Header.{columnsOf}
 use Rattle.line.specs.Line.{lineValues, lineCase}
 use Rattle.judgement.{specs.{Sheet.{names, valueLines}, Read.{Stored}}, proofs.StoredLines.{stored-parts}}
 use Rattle.judgement.specs.Accepted as judged
-use Rattle.sheet.specs.Answer.{cases}
 use Rattle.table_rows.specs.Rows.{storedCases, StoredBounds}
+use Rattle.sheet.specs.Answer.{cases}
 use Rattle.sheet.proofs.Accepted.{sound-bounds}
 
 -- ---- the case of line i of a sheet

@@ -7,9 +7,9 @@ use Rattle.case.specs.{Columns.{columns, inRange, nameIndex, named}, Case.{case
 use Rattle.case.specs.Check.{leftOf, outOfRange, agree, disagreement, finding}
 use Rattle.header.specs.Header.{noColumns, fresh, wrongName, columnsFrom, columnsOf}
 use Rattle.line.specs.Line.{wrongForm, lineValues, lineCase}
+use Rattle.line_finding.specs.Findings.{orFinding, sameKey, repeats, lineFinding}
 use Rattle.judgement.specs.declared.Judgement.the-variants as judged
 use Rattle.judgement.specs.Refusal.{textRefused, nameRefused, noLineRefused, manyLinesRefused, lineJudgement}
-use Rattle.line_finding.specs.Findings.{orFinding, sameKey, repeats, lineFinding}
 use Rattle.judgement.specs.Sheet.{names, valueLines, badText, linesJudgement, valuesJudgement, namesJudgement, judgementWithin, judgement}
 use Rattle.sheet.specs.{declared.Answer.{Answer, the-variants.{Rows, Refused}}, Answer.{cases, tableRefused, answerBy, answer}}
 

@@ -8,11 +8,11 @@ use Rattle.case.specs.Columns.{columns}
 use Rattle.judgement.specs.declared.Judgement.the-variants as judged
 use Rattle.judgement.specs.{Limits.{mostLines}, Sheet.{judgement}}
 use Rattle.row.specs.{declared.Row.{Row}, Row.{numbers, rowLength, row-length}, Ends.{rowOf}}
-use Rattle.sheet.specs.{declared.Answer.{the-variants.{Rows, Refused}, Answer}, Answer.{cases}, Table.{TableAfter, Answered}}
 use Rattle.table_rows.specs.Rows.{Filled}
+use Rattle.sheet.specs.{declared.Answer.{the-variants.{Rows, Refused}, Answer}, Answer.{cases}, Table.{TableAfter, Answered}}
 use Rattle.stations.specs.Answer.{sheetRows}
-use Rattle.row_text.{specs.{declared.Shown.{Shown}, Shown.{linesAfter}, Room.{nameBytes, textRoom}}, proofs.Fits.{Width, lines-fit}}
 use Rattle.fields.{specs.Refusal.{refusedText, unlessRefused}, proofs.Refusals.{answer-fits}}
+use Rattle.row_text.{specs.{declared.Shown.{Shown}, Shown.{linesAfter}, Room.{nameBytes, textRoom}}, proofs.Fits.{Width, lines-fit}}
 use Rattle.sheet_text.specs.Shown.{shownText}
 use Rattle.sheet_text.proofs.{TableRows.{table-rows}, Judged.{rows-judged, refusal-judged, case-count, count-within}}
 

@@ -13,14 +13,14 @@ use Rattle.judgement.specs.declared.Judgement.the-variants as judged
 use Rattle.row.specs.{declared.Row.{Row}, Row.{rowLength}}
 use Rattle.sheet.specs.{declared.Answer.{Answer}, Answer.{answer}}
 use Rattle.sheet.specs.declared.Answer.the-variants as sheet
-use Rattle.stations.specs.declared.Summed.{Summed, the-variants.{Summary, Refused}}
 use Rattle.station_sums.specs.Summary.{among, byAppearance, stationsOf, stations, rowsOf, stationLength, stationNumbers, summaryOf, filled}
+use Rattle.stations.specs.declared.Summed.{Summed, the-variants.{Summary, Refused}}
 use Rattle.stations.specs.Answer.{sheetRows, answerAfter, summaryAnswer, Summarised, TablesAfter, SummaryAnswered}
 use Rattle.stations.proofs.Within.{summary-within}
-use Rattle.row_text.specs.declared.Shown.the-variants as shown
 use Rattle.fields.{specs.{Refusal.{refusedText, unlessRefused}, Listed.{listed}}, proofs.Refusals.{answer-fits}}
-use Rattle.sheet_text.specs.Texts.{summaryNames, summaryText}
+use Rattle.row_text.specs.declared.Shown.the-variants as shown
 use Rattle.row_text.{specs.{Shown.{linesAfter}, Room.{textRoom}}, proofs.{Fits.{Width, lines-fit}, Texts.{listed-same, numbers-fields}}}
+use Rattle.sheet_text.specs.Texts.{summaryNames, summaryText}
 use Rattle.sheet_text.proofs.{Judged.{told, answer-told}, SheetTexts.{rows-few}}
 
 -- ---- no more stations than rows

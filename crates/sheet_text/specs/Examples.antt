@@ -1,11 +1,11 @@
 -- The summary of the sample of document 01, worked by hand from its rows.
 use mathlib.Core.{Path.{_≡_, refl}, List.{[], _∷_, map}}
-use Rattle.text.specs.Text.{bytes}
+use Rattle.whole.specs.Count.{one}
 use Rattle.interval.specs.Operations.{natural}
+use Rattle.text.specs.Text.{bytes}
 use Rattle.writing.specs.{Decimal.{digitsIn, digitCount, lastDigits, decimal, signed}, Text.{moreFields, parted, ended, textOf}}
 use Rattle.decision.specs.{declared.Verdict.the-variants.{Safe, Unsafe, Undecided}, Verdict.{verdictNumber}}
-use Rattle.station_sums.specs.Summary.{sameZ, one, among, byAppearance, stations}
-use Rattle.station_sums.specs.Summary.{rowsOf, countOf, higher, highest, worstSeason, stationNumbers}
+use Rattle.station_sums.specs.Summary.{sameZ, among, byAppearance, stations, rowsOf, countOf, higher, highest, worstSeason, stationNumbers}
 use Rattle.station_sums.specs.Summary.{summaryOf}
 use Rattle.fields.specs.Listed.{listed}
 use Rattle.row_text.specs.Examples.{sampleRow}

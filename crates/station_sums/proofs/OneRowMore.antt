@@ -4,9 +4,10 @@ use mathlib.Core.{Path.{_≡_, refl, sym, ap, _∙_}, Bool.{Bool, true, false, c
 use native.Mathlib.Omega.{arith}
 use lib.{Dec.{eqb}, IntN.{ℤ}, ListN.{length, length-append}, Signed.{ltZ}}
 use borrow.Author.Tests.{ne-eqb}
-use Rattle.row.specs.declared.Row.{Row}
+use Rattle.whole.specs.Count.{one}
 use Rattle.decision.specs.{declared.Verdict.{the-variants.{Safe, Unsafe, Undecided}, Verdict}, Verdict.{verdictNumber}}
-use Rattle.station_sums.specs.{declared.Sums.{Sums}, Summary.{sameZ, one, rowsOf, countOf, higher, highest, worstSeason}}
+use Rattle.row.specs.declared.Row.{Row}
+use Rattle.station_sums.specs.{declared.Sums.{Sums}, Summary.{sameZ, rowsOf, countOf, higher, highest, worstSeason}}
 use Rattle.station_sums.specs.Sums.{entryOf, worst, addTo, worstMesh, sumsOf}
 
 -- sums are equal by their six numbers

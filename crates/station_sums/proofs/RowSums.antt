@@ -4,9 +4,9 @@ use mathlib.Core.{Path.{_≡_, refl, sym, ap, _∙_}, Bool.{Bool, true, false, c
 use native.Mathlib.{Numerals.{add-one}, Omega.{arith}}
 use lib.{Dec.{eqb}, IntN.{ℤ, pos}, ListN.{length, getD, set, length-set}, Seq.{getD-set-same, getD-set-other}}
 use borrow.Author.Tests.{eqb-true, eqb-false}
+use Rattle.whole.proofs.Count.{one-most}
 use Rattle.judgement.specs.Limits.{mostLines}
 use Rattle.station_sums.specs.{declared.{Entry.{Entry}, Sums.{Sums}}, Summary.{sameZ}, Sums.{addTo, none, entryAt, sumsAt, Small}}
-use Rattle.station_sums.proofs.Same.{one-most}
 
 -- ---- the counts are small
 

@@ -1,12 +1,12 @@
 -- Two signed numbers are the same where their bits are.
-use Prim.Native.Nat.{ℕ, _≤_}
+use Prim.Native.Nat.{ℕ}
 use mathlib.Core.{Path.{_≡_, refl, sym, ap, _∙_}, Bool.{Bool, true, false}}
 use native.Mathlib.Omega.{arith}
 use lib.{Dec.{eqb}, IntN.{ℤ, pos, negsuc}}
 use borrow.Author.Tests.{eqb-true, eq-eqb}
 use mir.{Syntax.{w64}, Val.{SFits, toZ, ofZ}, Facts.{toZ-ofZ}}
 use Rattle.text.proofs.Clash.{clash}
-use Rattle.station_sums.specs.Summary.{sameZ, one}
+use Rattle.station_sums.specs.Summary.{sameZ}
 
 pub same-refl : (a : ℤ) → sameZ a a ≡ true
 unfolding sameZ
@@ -33,11 +33,6 @@ same-bits {a} {b} f g =
     there e =
         let z : a ≡ b = sym (toZ-ofZ f) ∙ ap (toZ w64) e ∙ toZ-ofZ g in
         rw z (same-refl b)
-
-pub one-most : (b : Bool) → one b ≤ 1
-unfolding one
-one-most true = omega arith
-one-most false = omega arith
 
 pub same-comm : (a b : ℤ) → sameZ a b ≡ sameZ b a
 same-comm a b = agree (sameZ a b) (sameZ b a) (λ h. rw (same-eq a b h) (same-refl b)) (λ h. rw (same-eq b a h) (same-refl a))

@@ -3,8 +3,9 @@ use Prim.Native.Nat.{_+_}
 use mathlib.Core.{Path.{_≡_, refl, sym, ap, _∙_}, Bool.{Bool, true, false, cond, _||_}, List.{List, [], _∷_, _++_}}
 use native.Mathlib.Omega.{arith}
 use lib.IntN.{ℤ}
+use Rattle.whole.specs.Count.{one}
 use Rattle.row.specs.declared.Row.{Row}
-use Rattle.station_sums.specs.{Summary.{sameZ, one, among, byAppearance, stationsOf, stations}, Meaning.{times}}
+use Rattle.station_sums.specs.{Summary.{sameZ, among, byAppearance, stationsOf, stations}, Meaning.{times}}
 use Rattle.station_sums.proofs.Same.{same-eq, same-comm}
 
 -- ---- one number more at the end

@@ -3,9 +3,10 @@ use Prim.Native.Nat.{ℕ, zero, suc, _+_, _<_}
 use mathlib.Core.{Path.{_≡_, refl, ap, _∙_}, Bool.{Bool, true, false, cond, _||_}, List.{List, [], _∷_, map}}
 use native.Mathlib.Omega.{arith}
 use lib.{Dec.{eqb}, IntN.{ℤ, pos}, ListN.{length, getD}}
-use Rattle.row.specs.declared.Row.{Row}
+use Rattle.whole.specs.Count.{one}
 use Rattle.decision.specs.{declared.Verdict.{the-variants.{Safe, Unsafe, Undecided}, Verdict}, Verdict.{verdictNumber}}
-use Rattle.station_sums.specs.Summary.{sameZ, one, among, stationsOf, stations, rowsOf, countOf, stationNumbers, summaryOf}
+use Rattle.row.specs.declared.Row.{Row}
+use Rattle.station_sums.specs.Summary.{sameZ, among, stationsOf, stations, rowsOf, countOf, stationNumbers, summaryOf}
 use Rattle.station_sums.specs.Meaning.{times, total, CountsAddUp}
 use Rattle.station_sums.proofs.{Same.{same-refl}, StandsOnce.{stands-once}}
 

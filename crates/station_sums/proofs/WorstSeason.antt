@@ -3,10 +3,10 @@ use Prim.Native.Nat.{ℕ, zero, suc, _<_}
 use mathlib.Core.{Path.{_≡_, refl, sym, ap, _∙_}, Bool.{Bool, true, false, cond, _||_}, List.{List, [], _∷_, map}}
 use native.Mathlib.Omega.{arith}
 use lib.{IntN.{ℤ, pos}, ListN.{length, getD}, Signed.{ltZ, _≤ℤ_, _<ℤ_, ltZ-no, ≤ℤ-refl}}
+use Rattle.whole.{proofs.Signed.{le-halves, halves-le, lt-halves, halves-lt}, specs.Count.{one}}
 use Rattle.text.proofs.Clash.{clash}
-use Rattle.whole.proofs.Signed.{le-halves, halves-le, lt-halves, halves-lt}
 use Rattle.row.specs.declared.Row.{Row}
-use Rattle.station_sums.specs.Summary.{sameZ, one, among, stationsOf, rowsOf, higher, highest, worstSeason, stations, stationNumbers}
+use Rattle.station_sums.specs.Summary.{sameZ, among, stationsOf, rowsOf, higher, highest, worstSeason, stations, stationNumbers}
 use Rattle.station_sums.specs.{Summary.{summaryOf}, Meaning.{times, numberOf, HighestAt, WorstSeason}}
 use Rattle.station_sums.proofs.{Same.{same-refl}, StandsOnce.{stands-once}}
 

@@ -2,10 +2,11 @@
 use Prim.Native.Nat.{ℕ}
 use mathlib.Core.{Path.{_≡_, refl}, List.{[], _∷_}}
 use lib.IntN.{pos}
+use Rattle.whole.specs.Count.{one}
 use Rattle.interval.specs.Operations.{natural}
-use Rattle.row.specs.declared.Row.{Row}
 use Rattle.decision.specs.{declared.Verdict.{the-variants.{Safe, Unsafe, Undecided}, Verdict}, Verdict.{verdictNumber}}
-use Rattle.station_sums.specs.Summary.{sameZ, one, among, byAppearance, stations, rowsOf, countOf, higher, highest, worstSeason}
+use Rattle.row.specs.declared.Row.{Row}
+use Rattle.station_sums.specs.Summary.{sameZ, among, byAppearance, stations, rowsOf, countOf, higher, highest, worstSeason}
 use Rattle.station_sums.specs.Summary.{stationNumbers, summaryOf, filled}
 
 -- a row of which the summary reads these: station, season, verdict, lower and upper mesh end

@@ -2,8 +2,9 @@
 use Prim.Native.Nat.{ℕ, _+_, _<_}
 use mathlib.Core.{Path.{_≡_}, List.{List, [], _∷_}}
 use lib.{IntN.{ℤ, pos, natAbs}, ListN.{length, getD}, Signed.{_≤ℤ_, _<ℤ_}}
+use Rattle.whole.specs.Count.{one}
 use Rattle.row.specs.declared.Row.{Row}
-use Rattle.station_sums.specs.Summary.{sameZ, one}
+use Rattle.station_sums.specs.Summary.{sameZ}
 
 -- how often a number stands in a list
 unfoldable pub times : ℤ → List ℤ → ℕ

@@ -3,8 +3,9 @@
 use Prim.Native.Nat.{ℕ, _+_}
 use mathlib.Core.{Bool.{Bool, false, cond, _||_}, List.{List, [], _∷_, _++_, map}}
 use lib.{Dec.{eqb}, IntN.{ℤ, pos, negsuc}, ListN.{length, drop}, Signed.{ltZ}}
+use Rattle.whole.specs.Count.{one}
+use Rattle.decision.specs.{declared.Verdict.{Verdict, the-variants.{Safe, Unsafe, Undecided}}, Verdict.{verdictNumber}}
 use Rattle.row.specs.declared.Row.{Row}
-use Rattle.decision.specs.{declared.Verdict.{the-variants.{Safe, Unsafe, Undecided}, Verdict}, Verdict.{verdictNumber}}
 
 -- two signed numbers are equal
 unfoldable pub sameZ : ℤ → ℤ → Bool
@@ -12,9 +13,6 @@ sameZ (pos m) (pos n) = eqb m n
 sameZ (pos m) (negsuc n) = false
 sameZ (negsuc m) (pos n) = false
 sameZ (negsuc m) (negsuc n) = eqb m n
-
-unfoldable pub one : Bool → ℕ
-one b = cond b 1 0
 
 -- ---- "stations by first appearance"
 

@@ -1,6 +1,7 @@
 // One row added to the counts of its station.
 ghost use mathlib.Core.Path.{_≡_};
-ghost use Rattle.station_sums.specs.Summary.{one, sameZ};
+ghost use Rattle.whole.specs.Count.{one};
+ghost use Rattle.station_sums.specs.Summary.{sameZ};
 ghost use Rattle.station_sums.specs.Sums.{worst, addTo, Small};
 use crate::Entry;
 use crate::Sums;

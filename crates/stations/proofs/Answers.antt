@@ -4,21 +4,21 @@ use mathlib.Core.{Path.{_≡_, refl, sym, ap, _∙_}, List.{List, [], _++_}}
 use native.Mathlib.Omega.{arith}
 use lib.{IntN.{ℤ}, ListN.{length, getD, take, drop, length-append, length-drop, length-map}, Seq.{length-take-le, take-at, drop-at}}
 use borrow.Author.Tests.{lt-ltb, le-ltb}
-use Rattle.tables.proofs.Writing.{part-of-front}
 use Rattle.text.specs.Text.{fieldsOf}
+use Rattle.tables.proofs.Writing.{part-of-front}
 use Rattle.case.specs.{declared.Case.{Case}, Columns.{columns}}
 use Rattle.header.specs.Header.{columnsOf}
 use Rattle.line.specs.Line.{lineCase}
 use Rattle.judgement.specs.{Limits.{mostLines}, Sheet.{names, valueLines}}
 use Rattle.row.specs.Row.{rowLength}
+use Rattle.table_rows.specs.Rows.{Filled}
 use Rattle.sheet.{specs.{declared.Answer.{Answer}, Answer.{cases, answer}, Table.{rowAt, TableAfter, Answered}}, proofs.Accepted.{accepted}}
 use Rattle.sheet.proofs.AnyRoom.{refused-anywhere, count-most, short-there, rows-there}
-use Rattle.table_rows.specs.Rows.{Filled}
 use Rattle.sheet.specs.declared.Answer.the-variants as sheet
-use Rattle.stations.specs.declared.Summed.the-variants.{Summary, Refused}
 use Rattle.station_sums.specs.{Summary.{byAppearance, stations, stationLength, summaryOf, filled}, declared.Sums.{Sums}}
 use Rattle.station_sums.specs.Sums.{none, sumsAt, sixes}
 use Rattle.appearance.specs.Places.{stationColumn, Places}
+use Rattle.stations.specs.declared.Summed.the-variants.{Summary, Refused}
 use Rattle.stations.specs.Answer.{sheetRows, summaryRefused, answerAfter, summaryAnswer, TablesAfter, SummaryAnswered}
 use Rattle.stations.proofs.StationSums.{stations-found, summary-put}
 

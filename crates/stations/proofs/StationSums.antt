@@ -6,8 +6,8 @@ use lib.{Dec.{eqb}, IntN.{ℤ, pos}, ListN.{length, getD, take, drop, length-map
 use lib.Seq.{getD-take, getD-drop, drop-cons, take-suc, take-all}
 use borrow.Author.Tests.{eqb-true, eqb-false}
 use Rattle.case.specs.{declared.Case.{Case}, Case.{caseOf}}
-use Rattle.row.specs.{declared.Row.{Row}, Places.{seasonPlace, verdictPlace, meshUpperPlace}, Row.{rowLength, numbers}, Ends.{rowOf}}
 use Rattle.judgement.specs.Limits.{mostLines}
+use Rattle.row.specs.{declared.Row.{Row}, Places.{seasonPlace, verdictPlace, meshUpperPlace}, Row.{rowLength, numbers}, Ends.{rowOf}}
 use Rattle.table_rows.specs.Rows.{RowOf}
 use Rattle.sheet.specs.Table.{rowAt}
 use Rattle.station_sums.specs.declared.{Entry.{Entry}, Sums.{Sums}}

@@ -8,8 +8,8 @@ use Rattle.text.proofs.Clash.{clash}
 use Rattle.row.specs.declared.Row.{Row}
 use Rattle.sheet.specs.declared.Answer.{Answer}
 use Rattle.sheet.specs.declared.Answer.the-variants as sheet
-use Rattle.stations.specs.declared.Summed.{Summed, the-variants.{Summary, Refused}}
 use Rattle.station_sums.specs.Summary.{stations, rowsOf, stationLength, stationNumbers, summaryOf, filled}
+use Rattle.stations.specs.declared.Summed.{Summed, the-variants.{Summary, Refused}}
 use Rattle.stations.specs.Answer.{sheetRows, summaryRefused, answerAfter, summaryAnswer, Summarised, TablesAfter, SummaryAnswered}
 
 -- what counts of rows and stations say of the room

@@ -6,8 +6,8 @@ use lib.{Dec.{ltb}, IntN.{ℤ}, ListN.{length}}
 use Rattle.row.specs.{declared.Row.{Row}, Ends.{rowOf}}
 use Rattle.sheet.specs.{declared.Answer.{Answer}, Answer.{cases, answer}, Table.{Answered}}
 use Rattle.sheet.specs.declared.Answer.the-variants as sheet
-use Rattle.stations.specs.declared.Summed.{Summed, the-variants.{Summary, Refused}}
 use Rattle.station_sums.specs.Summary.{stations, stationLength, summaryOf, filled}
+use Rattle.stations.specs.declared.Summed.{Summed, the-variants.{Summary, Refused}}
 
 -- the rows of a sheet: those of the sheet's own question (`RowOf` in sheet/specs/Table.antt)
 abbrev pub sheetRows : List ℕ → List Row

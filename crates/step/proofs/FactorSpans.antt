@@ -8,8 +8,8 @@ use Rattle.interval.proofs.{Negated.{span-difference}, Rules.{lits}, NumeralSpa
 use Rattle.enclosure.proofs.Constants.{π-span}
 use Rattle.case.specs.{declared.Case.{Case}, Bounds.{Between, Bounds}}
 use Rattle.formulas.{specs.Lengths.{equalCounts}, proofs.Conductors.{by-place}}
-use Rattle.conductors.{specs.Weights.{halfPowerEnds}, proofs.WeightWidths.{half-span}}
 use Rattle.effective_number.proofs.NumberEnclosed.{counts}
+use Rattle.conductors.{specs.Weights.{halfPowerEnds}, proofs.WeightWidths.{half-span}}
 use Rattle.drive.specs.Ends.{numberOf}
 use Rattle.step.specs.Ends.{perMetre, powerOfTwo, shareEnds, reach, spacingSum, spacingFactor}
 

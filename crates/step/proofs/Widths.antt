@@ -2,8 +2,8 @@
 use Prim.Native.Nat.{ℕ, _+_, _*_, _^_, _≤_, _<_}
 use native.Mathlib.{Omega.{arith}, Nat.{mul-le-mul-left, mul-le-mul-right}}
 use lib.{Dec.{lit≤, lit<}, IntN.{pos}}
-use Rattle.interval.{specs.Operations.{natural}, proofs.Natural.{natural-product}}
 use Rattle.whole.proofs.{Choice.{pos≤}, Rounding.{floorDiv-above, ceilDiv-below}}
+use Rattle.interval.{specs.Operations.{natural}, proofs.Natural.{natural-product}}
 use Rattle.exact.specs.{Fraction.{_≤f_, decimal, _+f_, neg, _−f_, _·f_, _÷f_}, Reported.{ten, over, reported, AtMost}}
 use Rattle.exact.proofs.{Order.{trans≤, refl≈}, Divisors.{cong÷}, Reported.{quotient-low}}
 use Rattle.case.specs.{declared.Case.{Case}, Bounds.{Bounds}}

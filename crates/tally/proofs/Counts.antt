@@ -4,20 +4,16 @@ use mathlib.Core.{Path.{_≡_, refl, sym}, Bool.{Bool, true, false, not, _&&_}, 
 use native.Mathlib.{Nat.{mul-le-mul}, Omega.{arith}}
 use lib.{Dec.{ltb}, IntN.{ℤ, pos}, ListN.{length}, Signed.{ltZ}}
 use borrow.Author.Tests.{ltb-true, ltb-false, lt-ltb, le-ltb}
+use Rattle.whole.{specs.Count.{one}, proofs.Count.{one-most}}
 use Rattle.case.specs.{declared.Case.{Case}, Bounds.{Bounds}}
+use Rattle.judgement.specs.Limits.{mostLines}
 use Rattle.formulas.specs.Size as Size
 use Rattle.current.specs.Ends.{upperFactor}
 use Rattle.row.specs.Ends.{rowOf}
-use Rattle.judgement.specs.Limits.{mostLines}
 use Rattle.tally.specs.declared.Tally.{Tally}
-use Rattle.tally.specs.Lines.{licensed, one, countOf, hasLine, answeredUnsafe, answeredUndecided, otherYard, tooSmall}
+use Rattle.tally.specs.Lines.{licensed, countOf, hasLine, answeredUnsafe, answeredUndecided, otherYard, tooSmall}
 use Rattle.tally.specs.Tally.{EveryBounds, tallyOf, addLine, Small, lacks, missingBy}
 use Rattle.tally.proofs.Faults.{common-none, common-step}
-
-pub one-most : (b : Bool) → one b ≤ 1
-unfolding one
-one-most true = omega arith
-one-most false = omega arith
 
 -- what a test counts
 pub counts-most : {r : ℕ} (b : Bool) → r ≡ one b → r ≤ 1

@@ -4,10 +4,11 @@ use mathlib.Core.{Path.{_≡_, refl}, Bool.{Bool, true, false, cond, not, _&&_, 
 use native.Mathlib.Omega.{arith}
 use lib.{Dec.{eqb}, ListN.{length, getD}}
 use borrow.Author.Tests.{eqb-true, eq-eqb}
+use Rattle.whole.specs.Count.{one}
 use Rattle.text.proofs.Clash.{clash}
 use Rattle.case.specs.{declared.Case.{Case}, Case.{caseOf}, Bounds.{Bounds}, Fault.{withFault}}
 use Rattle.yards.specs.Yards.{isSafe}
-use Rattle.tally.specs.{Lines.{licensed, linesOf, one, countOf, hasLine, without, missing}, Fault.{everySafe}, Tally.{EveryBounds}}
+use Rattle.tally.specs.{Lines.{licensed, linesOf, countOf, hasLine, without, missing}, Fault.{everySafe}, Tally.{EveryBounds}}
 use Rattle.tally.proofs.Faults.{left, right}
 
 -- c stands in the list at a place

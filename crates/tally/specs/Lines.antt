@@ -2,6 +2,7 @@
 use Prim.Native.Nat.{ℕ, _+_, _*_, _-_, _/_, _%_, _^_}
 use mathlib.Core.{Bool.{Bool, false, cond, not, _&&_, _||_}, List.{List, [], _∷_}}
 use lib.{Dec.{ltb, eqb}, IntN.{natAbs}, ListN.{getD}}
+use Rattle.whole.specs.Count.{one}
 use Rattle.case.specs.{declared.Case.{Case}, Case.{caseOf}}
 use Rattle.decision.specs.Verdict.{verdictNumber}
 use Rattle.row.specs.Ends.{rowOf}
@@ -10,9 +11,6 @@ use Rattle.row.specs.Ends.{rowOf}
 unfoldable pub linesOf : ℕ → List Case → List Case
 linesOf station [] = []
 linesOf station (c ∷ cs) = cond (eqb (c .station) station) (c ∷ linesOf station cs) (linesOf station cs)
-
-unfoldable pub one : Bool → ℕ
-one b = cond b 1 0
 
 -- how many lines pass a test
 unfoldable pub countOf : (Case → Bool) → List Case → ℕ

@@ -2,9 +2,10 @@
 use Prim.Native.Nat.{ℕ, _+_, _<_, _^_, min}
 use mathlib.Core.{Bool.{Bool, cond, not, _&&_, _||_}, List.{List, [], _∷_}}
 use lib.{Dec.{eqb}, ListN.{length}}
+use Rattle.whole.specs.Count.{one}
 use Rattle.case.specs.{declared.Case.{Case}, Bounds.{Bounds}}
 use Rattle.tally.specs.declared.Tally.{Tally}
-use Rattle.tally.specs.Lines.{licensed, one, countOf, hasLine, answeredUnsafe, answeredUndecided, otherYard, tooSmall}
+use Rattle.tally.specs.Lines.{licensed, countOf, hasLine, answeredUnsafe, answeredUndecided, otherYard, tooSmall}
 use Rattle.tally.specs.Fault.{commonFault}
 
 -- the lines are within their bounds

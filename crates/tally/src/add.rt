@@ -3,12 +3,12 @@ ghost use mathlib.Core.Path.{_≡_};
 ghost use mathlib.Core.List.{[], _∷_};
 ghost use Prim.Native.Nat.{min};
 ghost use lib.Dec.{eqb};
-ghost use lib.Signed.{ltZ};
 ghost use mathlib.Core.Bool.{_||_};
 ghost use Rattle.case.specs.Bounds.{Bounds};
 ghost use Rattle.decision.specs.Verdict.{verdictNumber};
 ghost use Rattle.row.specs.Ends.{rowOf};
-ghost use Rattle.tally.specs.Lines.{one, sameYard, otherYard, tooSmall};
+ghost use Rattle.whole.specs.Count.{one};
+ghost use Rattle.tally.specs.Lines.{sameYard, otherYard, tooSmall};
 ghost use Rattle.tally.specs.Fault.{commonFault};
 ghost use Rattle.tally.specs.Tally.{addLine, Small};
 use crate::Tally;
@@ -17,6 +17,7 @@ use decision::Verdict;
 use headroom::Room;
 use headroom::headroom;
 use row::work_row;
+use whole::below;
 
 // 254² and 1000: 1000·dia² is in 64,516ths of a kcmil, dia in tenths of a mm.
 const KCMIL: u32 = 64516;
@@ -69,12 +70,6 @@ fn count_other(yard: Case, c: Case) -> u32
         return 0;
     }
     1
-}
-
-fn below(a: i64, b: i64) -> bool
-    ensures { λ r. ⌜ r ≡ ltZ a b ⌝ }
-{
-    a < b
 }
 
 // 1 where the conductor is too small for the size in kcmil: the quotient rounded down is below the size where 1000·dia² is below 64,516

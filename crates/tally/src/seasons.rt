@@ -3,7 +3,7 @@ ghost use mathlib.Core.Path.{_≡_};
 ghost use mathlib.Core.Bool.{not, cond, _&&_};
 ghost use Prim.Native.Nat.{_≤_, _/_, _%_};
 ghost use lib.Dec.{eqb};
-ghost use Rattle.tally.specs.Lines.{one};
+ghost use Rattle.whole.specs.Count.{one};
 ghost use Rattle.tally.specs.Tally.{Small, missingBy, released};
 use crate::Tally;
 

@@ -5,3 +5,4 @@ pub mod BelowZero
 pub mod Rounding
 pub mod Divisors
 pub mod WideProduct
+pub mod Count

@@ -1,9 +1,10 @@
-// Signed whole numbers: division rounded down and up, the lesser and the greater of two.
+// Signed whole numbers: division rounded down and up, the lesser and the greater of two, and which of two is below the other.
 pub mod wide;
 
 ghost use mathlib.Core.Path.{_≡_};
 ghost use Prim.Native.Nat.{_≤_, _<_, _^_};
 ghost use lib.IntN.{natAbs};
+ghost use lib.Signed.{leZ, ltZ};
 ghost use Rattle.whole.specs.Whole.{floorZ, ceilZ, minZ, maxZ};
 
 // a / d, rounded toward the lower end, also below 0.
@@ -57,4 +58,16 @@ pub fn most(a: i64, b: i64) -> i64
     ensures { λ r. ⌜ r ≡ maxZ a b ⌝ }
 {
     if a <= b { b } else { a }
+}
+
+pub fn at_most(a: i64, b: i64) -> bool
+    ensures { λ r. ⌜ r ≡ leZ a b ⌝ }
+{
+    a <= b
+}
+
+pub fn below(a: i64, b: i64) -> bool
+    ensures { λ r. ⌜ r ≡ ltZ a b ⌝ }
+{
+    a < b
 }

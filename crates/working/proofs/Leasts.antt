@@ -7,17 +7,17 @@ use Rattle.whole.{specs.Signed.{plus, minus}, proofs.{Signed.{size-is, sum-is},
 use Rattle.interval.{specs.{declared.Interval.{Interval}, Operations.{natural, point, sumOf}, Span.{Span}}, proofs.Sizes.{size-lower}}
 use Rattle.interval.proofs.{Span.{span-sum, span-divide, span-lower}, Rules.{lits}}
 use Rattle.interval.proofs.NumeralSpans.{numeral-point, numeral-quotient, numeral-wider}
+use Rattle.enclosure.proofs.Constants.{π-span}
 use Rattle.exponential.specs.Ends.{halvingsOf, argumentOf, nestedOf, seriesOf, inverseOf, squaredOf, endOf, expEnds, expPair}
 use Rattle.exponential.proofs.Sizes.{halvings-least, argument-size, nested-size, series-least}
-use Rattle.enclosure.proofs.Constants.{π-span}
 use Rattle.case.specs.{declared.Case.{Case}, Bounds.{Bounds}}
 use Rattle.formulas.proofs.Conductors.{by-place}
 use Rattle.effective_number.{specs.{Counts.{Counts}, Number.{nEnds}}, proofs.NumberEnclosed.{counts}}
 use Rattle.conductors.{specs.Weights.{innerEnds}, proofs.{LineRoots.{line-root-span}, WeightWidths.{exponent-span, inner-span}}}
-use Rattle.mesh.{specs.Factor.{argumentLog, innerTerm, innerFactor, perimeterRods, geometricFactor}, proofs.Logarithms.{argument-span}}
-use Rattle.mesh.proofs.FactorSpans as mesh
 use Rattle.step.specs.Ends.{perMetre, spacingSum, spacingFactor}
 use Rattle.step.proofs.FactorSpans as step
+use Rattle.mesh.{specs.Factor.{argumentLog, innerTerm, innerFactor, perimeterRods, geometricFactor}, proofs.Logarithms.{argument-span}}
+use Rattle.mesh.proofs.FactorSpans as mesh
 
 -- a span from a known lower end on
 span-from : {i : Interval} {l h w m k : ℕ} → i .lower ≡ pos k → m ≤ k → Span i l h w → Span i m h w

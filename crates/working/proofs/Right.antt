@@ -8,16 +8,16 @@ use Rattle.case.specs.{declared.{Case.{Case}, Judged.{Judged, the-variants.{Sou
 use Rattle.case.{specs.Bounds.{Bounds}, proofs.Bounds.{record-bounds}}
 use Rattle.formulas.proofs.{Conductors.{quantity-n, quantity-s}, Quantities.{quantity-Ki, quantity-Kh, quantity-Kii, quantity-LM}}
 use Rattle.formulas.proofs.Consistent.{quantity-rootTime, consistent-Km, consistent-Ks}
-use Rattle.lengths.{specs.Lengths.{conductorLength, rodLength, totalLength}, proofs.Lengths.{conductor-is, rod-is, total-is}}
 use Rattle.effective_number.proofs.{NumberSpans.{n-span, Ki-span}, NumberEnclosed.{counts, n-encloses, Ki-encloses}}
-use Rattle.drive.proofs.Enclosed.{drive-consistent}
 use Rattle.tolerable.proofs.{Spans.{time-span}, Enclosed.{time-encloses}}
+use Rattle.lengths.{specs.Lengths.{conductorLength, rodLength, totalLength}, proofs.Lengths.{conductor-is, rod-is, total-is}}
+use Rattle.drive.proofs.Enclosed.{drive-consistent}
 use Rattle.resistance.proofs.{Spans.{side-span}, Enclosed.{side-encloses}}
+use Rattle.step.{specs.Ends.{stepLength}, proofs.Enclosed.{length-is}}
+use Rattle.step.proofs.FactorEnclosed as SE
 use Rattle.mesh.{specs.Ends.{meshEnds}, proofs.FactorSpans.{depth-span}}
 use Rattle.mesh.proofs.Enclosed.{length-encloses, mesh-length-encloses, driven-encloses}
 use Rattle.mesh.proofs.FactorEnclosed as ME
-use Rattle.step.{specs.Ends.{stepLength}, proofs.Enclosed.{length-is}}
-use Rattle.step.proofs.FactorEnclosed as SE
 use Rattle.working.specs.{declared.Quantities.{Quantities}, Ends.{workingOf}}
 use Rattle.working.specs.Working.{millionth, hundredThousandth, drivenWidth, RightWorking, workingAnswer, RightWorked}
 use Rattle.working.specs.Working.{WorkingAnswered}

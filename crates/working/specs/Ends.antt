@@ -5,13 +5,13 @@ use mathlib.Core.Bool.{cond}
 use lib.{Dec.{eqb}, IntN.{pos}}
 use Rattle.interval.specs.{declared.Interval.{Interval}, Operations.{point, quotientOf}}
 use Rattle.case.specs.declared.Case.{Case}
-use Rattle.lengths.specs.Lengths.{conductorLength, rodLength, totalLength}
 use Rattle.effective_number.specs.Number.{KiEnds}
-use Rattle.drive.specs.Ends.{numberOf}
 use Rattle.tolerable.specs.Ends.{timeRoot}
+use Rattle.lengths.specs.Lengths.{conductorLength, rodLength, totalLength}
+use Rattle.drive.specs.Ends.{numberOf}
 use Rattle.resistance.specs.Ends.{sideEnds}
-use Rattle.mesh.specs.{Factor.{depthFactor, innerFactor, geometricFactor}, Ends.{meshLength, drivenEnds}}
 use Rattle.step.specs.Ends.{spacingFactor, stepLength}
+use Rattle.mesh.specs.{Factor.{depthFactor, innerFactor, geometricFactor}, Ends.{meshLength, drivenEnds}}
 use Rattle.working.specs.declared.Quantities.{Quantities}
 
 module _ (c : Case) where

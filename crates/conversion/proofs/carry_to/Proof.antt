@@ -5,13 +5,13 @@ use native.Mathlib.{Nat.{mul-le-mul-left, mul-le-mul-right}, Omega.{arith}}
 use borrow.Author.Needs.{needs}
 use lib.ListN.{length}
 use Rattle.tables.specs.Parts.{partsOf}
+use Rattle.writing.{specs.{Put.{WrittenFirst}, Text.{allLines}}, proofs.Whole.{written-size}}
 use Rattle.case.{specs.{declared.Form.{Form}, Columns.{nameCount}, Parts.{formOf}}, proofs.Findings.{form-most}}
 use Rattle.case.specs.Columns as Columns
+use Rattle.header.specs.Header.{columnsOf}
 use Rattle.judgement.specs.{declared.Judgement.the-variants.{Lines}, Limits.{mostLines}, Read.{Stored}}
 use Rattle.judgement.{specs.{Sheet.{names, valueLines, judgement}, Accepted.{Accepted}}, proofs.Accepted.{accepted}}
 use Rattle.judgement.proofs.StoredLines.{stored-parts}
-use Rattle.header.specs.Header.{columnsOf}
-use Rattle.writing.{specs.{Put.{WrittenFirst}, Text.{allLines}}, proofs.Whole.{written-size}}
 use Rattle.carried_values.specs.{Values.{other, carried, casesIn}, Changes.{changes}}
 use Rattle.carried_values.proofs.SoundCases.{accepted-cases, carried-cases, all-lines}
 use Rattle.conversion.specs.{Sheet.{sheetOf}, Answer.{carriedText}}

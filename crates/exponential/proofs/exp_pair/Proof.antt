@@ -1,8 +1,8 @@
 -- `exponential::exp_pair` takes the ends of a pair of exponents.
 use borrow.Author.Needs.{needs}
 use mir.Facts.{toZ-ofZ}
-use Rattle.interval.{specs.Span.{Span}, proofs.{Held.{Held}, SpanFits.{read-lower, read-upper}}}
 use Rattle.whole.proofs.Bits.{natural-cast}
+use Rattle.interval.{specs.Span.{Span}, proofs.{Held.{Held}, SpanFits.{read-lower, read-upper}}}
 use Rattle.exponential.specs.Ends.{most, expPair}
 use Rattle.exponential.proofs.exp_pair.Statement.{statement}
 use Rattle.exponential.proofs.exp_pair.Tie as tie

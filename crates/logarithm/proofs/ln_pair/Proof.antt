@@ -3,8 +3,8 @@ use Prim.Native.Nat.{_≤_}
 use mathlib.Core.Path.{sym, ap, _∙_}
 use native.Mathlib.{Omega.{arith}, Nat.{add-zero, le-trans}}
 use borrow.Author.Needs.{needs}
-use Rattle.interval.{specs.Span.{Span}, proofs.{Held.{Held}, SpanFits.{read-lower, read-upper}}}
 use Rattle.whole.proofs.Bits.{natural-cast}
+use Rattle.interval.{specs.Span.{Span}, proofs.{Held.{Held}, SpanFits.{read-lower, read-upper}}}
 use Rattle.logarithm.specs.Ends.{most, Inside, lnPair}
 use Rattle.logarithm.proofs.{EndBounds.{end-fits}, Pairs.{pair-is}, ln_pair.Statement.{statement}}
 use Rattle.logarithm.proofs.ln_pair.Tie as tie

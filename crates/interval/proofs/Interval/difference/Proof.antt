@@ -3,10 +3,10 @@ use Prim.Native.Nat.{_<_, _^_}
 use native.Mathlib.Nat.{lt-of-le-of-lt}
 use borrow.Author.Needs.{needs}
 use lib.IntN.{natAbs, _-ℤ_}
+use Rattle.whole.proofs.Bits.{result-fits, result-is}
 use Rattle.interval.specs.Operations.{size, differenceOf}
 use Rattle.interval.proofs.{Sizes.{size-difference, lower-below, upper-below}, Held.{Held}}
 use Rattle.interval.proofs.Interval.difference.Statement.{statement}
-use Rattle.whole.proofs.Bits.{result-fits, result-is}
 use Rattle.interval.proofs.Interval.difference.Tie as tie
 
 module _ (s : tie.Start) where

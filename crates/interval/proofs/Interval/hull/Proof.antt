@@ -1,9 +1,9 @@
 -- `Interval::hull` takes the lesser lower end and the greater upper one.
 use borrow.Author.Needs.{needs}
 use mir.Facts.{toZ-ofZ}
+use Rattle.whole.proofs.Bits.{back}
 use Rattle.interval.specs.Operations.{hullOf}
 use Rattle.interval.proofs.{Held.{Held}, Interval.hull.Statement.{statement}}
-use Rattle.whole.proofs.Bits.{back}
 use Rattle.interval.proofs.Interval.hull.Tie as tie
 
 held : (s : tie.Start) → Held (s .args .self) × Held (s .args .other)

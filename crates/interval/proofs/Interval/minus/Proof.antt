@@ -5,8 +5,8 @@ use native.Mathlib.Omega.{arith}
 use borrow.Author.Needs.{needs}
 use lib.{IntN.{ℤ, pos, negsuc, natAbs, negℤ, _-ℤ_, +ℤ-idl}, Signed.{mag}}
 use mir.{Facts.{toZ-ofZ}, Syntax.{w64}, Val.{SFits, toZ, ofZ}}
-use Rattle.interval.specs.Operations.{size, minusOf}
 use Rattle.whole.proofs.Signed.{size-neg}
+use Rattle.interval.specs.Operations.{size, minusOf}
 use Rattle.interval.proofs.Interval.minus.Statement.{statement}
 use Rattle.interval.proofs.Interval.minus.Tie as tie
 

@@ -1,9 +1,9 @@
 -- `Interval::outward` rounds the lower end down and the upper end up.
 use borrow.Author.Needs.{needs}
 use mir.Facts.{toZ-ofZ}
+use Rattle.whole.proofs.Bits.{back}
 use Rattle.interval.specs.Operations.{outwardOf}
 use Rattle.interval.proofs.{Sizes.{upper-below}, Held.{Held}, Interval.outward.Statement.{statement}}
-use Rattle.whole.proofs.Bits.{back}
 use Rattle.interval.proofs.Interval.outward.Tie as tie
 
 held : (s : tie.Start) → Held (s .args .self)

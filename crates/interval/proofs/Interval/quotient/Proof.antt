@@ -4,8 +4,8 @@ use native.Mathlib.Nat.{lt-of-le-of-lt}
 use borrow.Author.Needs.{needs}
 use lib.{IntN.{pos, natAbs}, Signed.{_≤ℤ_}}
 use mir.Facts.{toZ-ofZ, fits-natAbs}
-use Rattle.interval.specs.Operations.{size, outwardOf, hullOf, quotientOf}
 use Rattle.whole.proofs.{Choice.{≤ℤ-trans}, Bits.{back}}
+use Rattle.interval.specs.Operations.{size, outwardOf, hullOf, quotientOf}
 use Rattle.interval.proofs.{Sizes.{size-scaled, size-positive, size-rises, positive-natural, upper-below}, Held.{Held}}
 use Rattle.interval.proofs.Interval.quotient.Statement.{statement}
 use Rattle.interval.proofs.Interval.quotient.Tie as tie

@@ -4,9 +4,9 @@ use native.Mathlib.Nat.{lt-of-le-of-lt}
 use borrow.Author.Needs.{needs}
 use lib.IntN.{pos, natAbs, _*ℤ_}
 use mir.{Syntax.{w64}, Val.{SFits}}
+use Rattle.whole.proofs.Bits.{result-fits, result-is}
 use Rattle.interval.specs.Operations.{size, scaledOf}
 use Rattle.interval.proofs.{Sizes.{size-scaled, lower-below, upper-below}, Held.{Held}, Interval.scaled.Statement.{statement}}
-use Rattle.whole.proofs.Bits.{result-fits, result-is}
 use Rattle.interval.proofs.Interval.scaled.Tie as tie
 
 module _ (s : tie.Start) where

@@ -3,9 +3,9 @@ use Prim.Native.Nat.{_≤_, _<_, _^_}
 use native.Mathlib.Nat.{lt-of-le-of-lt, le-refl}
 use borrow.Author.Needs.{needs}
 use lib.IntN.{ℤ, natAbs, _*ℤ_}
+use Rattle.whole.proofs.Bits.{back, result-fits, result-is}
 use Rattle.interval.specs.Operations.{size, timesOf}
 use Rattle.interval.proofs.{Sizes.{size-lower, size-upper, size-factors}, Held.{Held}, Interval.times.Statement.{statement}}
-use Rattle.whole.proofs.Bits.{back, result-fits, result-is}
 use Rattle.interval.proofs.Interval.times.Tie as tie
 
 module _ (s : tie.Start) where

@@ -3,8 +3,8 @@ use mathlib.Core.Path.{_≡_, sym, ap, _∙_}
 use borrow.Author.Needs.{needs}
 use lib.IntN.{pos}
 use mir.Facts.{toZ-ofZ}
-use Rattle.interval.specs.{declared.Interval.{Interval}, Operations.{natural}, Wide.{Wide}}
 use Rattle.whole.{specs.Wide.{WideFits}, proofs.{Bits.{read, natural-cast}, WideProduct.{floor-size, ceil-size, wide-less}}}
+use Rattle.interval.specs.{declared.Interval.{Interval}, Operations.{natural}, Wide.{Wide}}
 use Rattle.interval.proofs.{Held.{Held}, WidePairs.{wide-is}, Interval.wide_product.Statement.{statement}}
 use Rattle.interval.proofs.Interval.wide_product.Tie as tie
 

@@ -6,8 +6,8 @@ use borrow.Author.Needs.{needs}
 use lib.ListN.{length}
 use Rattle.text.proofs.{FieldTurns.{part-length}, LineTurns.{line-shorter}}
 use Rattle.case.{specs.Parts.{formOf}, proofs.Findings.{rods-place}}
-use Rattle.judgement.specs.{declared.Judgement.the-variants.{Lines}, Limits.{mostLines}}
 use Rattle.line_finding.proofs.Keys.{form-keyed}
+use Rattle.judgement.specs.{declared.Judgement.the-variants.{Lines}, Limits.{mostLines}}
 use Rattle.judgement.proofs.LineJudged.{sound-line}
 use Rattle.judgement.proofs.Passing.{Passing, passing-start, passing-room, passing-store, stored-value, stored-first}
 use Rattle.judgement.proofs.{Passing.{passing-refused, passing-step, passing-end}, pass.check_lines.Statement.{statement}}

@@ -7,8 +7,8 @@ use borrow.Rule.Slice.PartMut.{putMid, mid-len}
 use lib.ListN.{length}
 use Rattle.tables.proofs.Writing.{put-written-as}
 use Rattle.case.specs.Parts.{formOf}
-use Rattle.judgement.specs.Read.{LineStored}
 use Rattle.line_finding.specs.Parts.{keysOf}
+use Rattle.judgement.specs.Read.{LineStored}
 use Rattle.judgement.proofs.pass.store_line.Statement.{statement}
 use Rattle.judgement.proofs.pass.store_line.Tie as tie
 

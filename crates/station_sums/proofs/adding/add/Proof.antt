@@ -2,7 +2,8 @@
 use lib.IntN.{pos}
 use mathlib.Core.Path.{sym, _∙_}
 use mir.{Syntax.{w64}, Val.{SFits}, Facts.{toZ-ofZ}}
-use Rattle.station_sums.proofs.{Same.{one-most}, adding.add.Statement.{statement}}
+use Rattle.whole.proofs.Count.{one-most}
+use Rattle.station_sums.proofs.adding.add.Statement.{statement}
 use native.Mathlib.Omega.{arith}
 use Rattle.station_sums.specs.{Summary.{sameZ}, Sums.{addTo}}
 use borrow.Author.Needs.{needs}

@@ -1,7 +1,8 @@
 -- `count_other` goes by the nine columns.
 use mathlib.Core.Path.{sym, _∙_}
 use borrow.Author.Needs.{needs}
-use Rattle.tally.specs.Lines.{one, otherYard}
+use Rattle.whole.specs.Count.{one}
+use Rattle.tally.specs.Lines.{otherYard}
 use Rattle.tally.proofs.add.count_other.Statement.{statement}
 use Rattle.tally.proofs.add.count_other.Tie as tie
 

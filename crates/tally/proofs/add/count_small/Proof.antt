@@ -4,7 +4,8 @@ use mathlib.Core.Path.{sym, _∙_, _≡_}
 use native.Mathlib.Omega.{arith}
 use borrow.Author.Needs.{needs}
 use mir.{Syntax.{w64}, Val.{SFits}, Facts.{toZ-ofZ, toZ-pos}}
-use Rattle.tally.specs.Lines.{one, tooSmall}
+use Rattle.whole.specs.Count.{one}
+use Rattle.tally.specs.Lines.{tooSmall}
 use Rattle.tally.proofs.{Counts.{square-most, small-is}, add.count_small.Statement.{statement}}
 use Rattle.tally.proofs.add.count_small.Tie as tie
 

@@ -1,6 +1,6 @@
 -- `lacking` tests the licence, then the lines.
 use borrow.Author.{Tests.{eq-eqb, ne-eqb}, Needs.{needs}}
-use Rattle.tally.specs.Lines.{one}
+use Rattle.whole.specs.Count.{one}
 use Rattle.tally.proofs.seasons.lacking.Statement.{statement}
 use Rattle.tally.proofs.seasons.lacking.Tie as tie
 
