@@ -28,7 +28,7 @@ within : (c : tie.In-loop Inv-loop μ-loop) → nameCount * c .before .loop .i +
 within c = omega (arith, start c .pre .1 .0, c .loop-test .taken)
 
 line-case-requires : tie.Need-line-case-requires Inv-loop μ-loop
-line-case-requires c κs = within c
+line-case-requires c κs = omega (arith, within c)
 
 -- part i is within the array
 room : (c : tie.In-loop Inv-loop μ-loop)
