@@ -11,7 +11,8 @@ use lines::answer_lines;
 
 // The answer of a question, told.
 fn tell_lines(question: Question, s: &[u8], numbers: &mut [i64], place: &mut [usize]) -> i64
-    ensures { λ r. ⌜ LinesTold question (now (s .entry)) (now (numbers .entry)) (now (numbers .exit)) (now (place .entry)) (now (place .exit)) r ⌝ }
+    ensures { λ r. ⌜ LinesTold question (now (s .entry)) (now (numbers .entry)) (now (numbers .exit)) (now (place .entry))
+        (now (place .exit)) r ⌝ }
 {
     let answer = answer_lines(question, s, numbers);
     tell(answer, place)
@@ -21,7 +22,8 @@ fn tell_lines(question: Question, s: &[u8], numbers: &mut [i64], place: &mut [us
 // step voltage, in tenths of a percent.
 #[no_mangle]
 pub extern "C" fn hocsimbur_margins(s: &[u8], numbers: &mut [i64], place: &mut [usize]) -> i64
-    ensures { λ r. ⌜ LinesTold Margins (now (s .entry)) (now (numbers .entry)) (now (numbers .exit)) (now (place .entry)) (now (place .exit)) r ⌝ }
+    ensures { λ r. ⌜ LinesTold Margins (now (s .entry)) (now (numbers .entry)) (now (numbers .exit)) (now (place .entry))
+        (now (place .exit)) r ⌝ }
 {
     tell_lines(Question::Margins, s, numbers, place)
 }
@@ -29,7 +31,8 @@ pub extern "C" fn hocsimbur_margins(s: &[u8], numbers: &mut [i64], place: &mut [
 // Thirty numbers a value line: the lower and the upper end of each quantity of its working.
 #[no_mangle]
 pub extern "C" fn hocsimbur_working(s: &[u8], numbers: &mut [i64], place: &mut [usize]) -> i64
-    ensures { λ r. ⌜ LinesTold Working (now (s .entry)) (now (numbers .entry)) (now (numbers .exit)) (now (place .entry)) (now (place .exit)) r ⌝ }
+    ensures { λ r. ⌜ LinesTold Working (now (s .entry)) (now (numbers .entry)) (now (numbers .exit)) (now (place .entry))
+        (now (place .exit)) r ⌝ }
 {
     tell_lines(Question::Working, s, numbers, place)
 }
@@ -37,7 +40,8 @@ pub extern "C" fn hocsimbur_working(s: &[u8], numbers: &mut [i64], place: &mut [
 // One number a value line: the greatest fault current in amperes at which it, all else equal, is answered safe, or 0.
 #[no_mangle]
 pub extern "C" fn hocsimbur_headroom(s: &[u8], numbers: &mut [i64], place: &mut [usize]) -> i64
-    ensures { λ r. ⌜ LinesTold Headroom (now (s .entry)) (now (numbers .entry)) (now (numbers .exit)) (now (place .entry)) (now (place .exit)) r ⌝ }
+    ensures { λ r. ⌜ LinesTold Headroom (now (s .entry)) (now (numbers .entry)) (now (numbers .exit)) (now (place .entry))
+        (now (place .exit)) r ⌝ }
 {
     tell_lines(Question::Headroom, s, numbers, place)
 }

@@ -27,7 +27,8 @@ pub extern "C" fn hocsimbur_summary(
     beside: &mut [i64],
     place: &mut [usize],
 ) -> i64
-    ensures { λ r. ⌜ SummaryTold (now (s .entry)) (now (rows .entry)) (now (rows .exit)) (now (beside .entry)) (now (beside .exit)) (now (place .entry)) (now (place .exit)) r ⌝ }
+    ensures { λ r. ⌜ SummaryTold (now (s .entry)) (now (rows .entry)) (now (rows .exit)) (now (beside .entry)) (now (beside .exit))
+        (now (place .entry)) (now (place .exit)) r ⌝ }
 {
     let answer = station_count(stations::summary(s, rows, beside));
     tell(answer, place)
@@ -41,7 +42,8 @@ pub extern "C" fn hocsimbur_release<'a>(
     table: &mut [i64],
     place: &mut [usize],
 ) -> i64
-    ensures { λ r. ⌜ ReleaseTold (now (s .entry)) (now (licence .entry)) (now (table .entry)) (now (table .exit)) (now (place .entry)) (now (place .exit)) r ⌝ }
+    ensures { λ r. ⌜ ReleaseTold (now (s .entry)) (now (licence .entry)) (now (table .entry)) (now (table .exit)) (now (place .entry))
+        (now (place .exit)) r ⌝ }
 {
     let answer = pair_count(release::release(s, licence, table));
     tell(answer, place)
@@ -50,7 +52,8 @@ pub extern "C" fn hocsimbur_release<'a>(
 // The count of bytes of a sheet of document 01's own names that is carried over to today's.
 #[no_mangle]
 pub extern "C" fn hocsimbur_carry(s: &[u8], buffer: &mut [u8], place: &mut [usize]) -> i64
-    ensures { λ r. ⌜ CarryTold Present (now (s .entry)) (now (buffer .entry)) (now (buffer .exit)) (now (place .entry)) (now (place .exit)) r ⌝ }
+    ensures { λ r. ⌜ CarryTold Present (now (s .entry)) (now (buffer .entry)) (now (buffer .exit)) (now (place .entry))
+        (now (place .exit)) r ⌝ }
 {
     let answer = byte_count(conversion::carry(s, buffer));
     tell(answer, place)
@@ -59,7 +62,8 @@ pub extern "C" fn hocsimbur_carry(s: &[u8], buffer: &mut [u8], place: &mut [usiz
 // The count of bytes of a sheet of today's names that is carried back to document 01's own.
 #[no_mangle]
 pub extern "C" fn hocsimbur_carry_back(s: &[u8], buffer: &mut [u8], place: &mut [usize]) -> i64
-    ensures { λ r. ⌜ CarryTold Former (now (s .entry)) (now (buffer .entry)) (now (buffer .exit)) (now (place .entry)) (now (place .exit)) r ⌝ }
+    ensures { λ r. ⌜ CarryTold Former (now (s .entry)) (now (buffer .entry)) (now (buffer .exit)) (now (place .entry)) (now (place .exit))
+        r ⌝ }
 {
     let answer = byte_count(conversion::carry_back(s, buffer));
     tell(answer, place)
@@ -68,7 +72,8 @@ pub extern "C" fn hocsimbur_carry_back(s: &[u8], buffer: &mut [u8], place: &mut 
 // The seven numbers of a soil report, from readings of a distance and a resistance in turn.
 #[no_mangle]
 pub extern "C" fn hocsimbur_soil(readings: &[u32], numbers: &mut [i64], place: &mut [usize]) -> i64
-    ensures { λ r. ⌜ SoilTold (now (readings .entry)) (now (numbers .entry)) (now (numbers .exit)) (now (place .entry)) (now (place .exit)) r ⌝ }
+    ensures { λ r. ⌜ SoilTold (now (readings .entry)) (now (numbers .entry)) (now (numbers .exit)) (now (place .entry))
+        (now (place .exit)) r ⌝ }
 {
     let answer = put_soil(readings::soil(readings), numbers);
     tell(answer, place)
@@ -77,7 +82,8 @@ pub extern "C" fn hocsimbur_soil(readings: &[u32], numbers: &mut [i64], place: &
 // The grid current's two parts and the split, from the numbers of a staged test.
 #[no_mangle]
 pub extern "C" fn hocsimbur_split(parts: &[i64], numbers: &mut [i64], place: &mut [usize]) -> i64
-    ensures { λ r. ⌜ SplitTold (now (parts .entry)) (now (numbers .entry)) (now (numbers .exit)) (now (place .entry)) (now (place .exit)) r ⌝ }
+    ensures { λ r. ⌜ SplitTold (now (parts .entry)) (now (numbers .entry)) (now (numbers .exit)) (now (place .entry)) (now (place .exit))
+        r ⌝ }
 {
     let answer = put_split(staged::split(parts), numbers);
     tell(answer, place)
@@ -100,7 +106,8 @@ pub extern "C" fn hocsimbur_fewest(
     numbers: &mut [i64],
     place: &mut [usize],
 ) -> i64
-    ensures { λ r. ⌜ FewestTold (now (s .entry)) side (now (numbers .entry)) (now (numbers .exit)) (now (place .entry)) (now (place .exit)) r ⌝ }
+    ensures { λ r. ⌜ FewestTold (now (s .entry)) side (now (numbers .entry)) (now (numbers .exit)) (now (place .entry))
+        (now (place .exit)) r ⌝ }
 {
     let answer = put_fewest(search_sheet(s, side), numbers);
     tell(answer, place)

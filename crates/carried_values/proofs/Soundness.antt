@@ -139,8 +139,8 @@ carried-sound Present v s =
     record {
       count = refl;
       ranges =
-          picked-in-range formerColumns v at (take 21 columns) (drop 21 columns) (take 21 (placesIn Present)) (drop 21 (carried Present v)) refl
-          (tt, tt);
+          picked-in-range formerColumns v at (take 21 columns) (drop 21 columns) (take 21 (placesIn Present))
+          (drop 21 (carried Present v)) refl (tt, tt);
       agrees = s .agrees;
     }
 carried-sound Former v s =

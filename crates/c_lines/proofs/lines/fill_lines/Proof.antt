@@ -22,7 +22,9 @@ stored : (n : tie.After-n) → StoredLines (start (read-of n) .args .s .now) (n 
 stored n = stored-lines (read-of n .read .ensures) (start (read-of n) .pre) (n .n .given .1)
 
 mul-if1 : tie.Need-mul-if1
-mul-if1 c = record { fits = numbers-few (start (read-of (c .before .before)) .args .question) (c .width .ensures) (stored (c .before .before) .most) }
+mul-if1 c =
+    let n = c .before .before in
+    record { fits = numbers-few (start (read-of n) .args .question) (c .width .ensures) (stored n .most) }
 
 returns : tie.Need-returns
 returns c =

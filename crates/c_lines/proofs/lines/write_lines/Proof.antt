@@ -35,7 +35,8 @@ room : (c : tie.In-loop Inv-loop μ-loop)
     → c .before .before .width .result * c .before .loop .i + c .before .before .width .result ≤ length (c .before .loop .numbers)
 room c =
     let l = c .before in
-    part-within (start c .args .question) (l .before .width .ensures) (omega (arith, start c .pre .1 .1, l .loop .inv .0 .size)) (c .loop-test .taken)
+    part-within (start c .args .question) (l .before .width .ensures) (omega (arith, start c .pre .1 .1, l .loop .inv .0 .size))
+    (c .loop-test .taken)
 
 mul-from : tie.Need-mul-from Inv-loop μ-loop
 mul-from c = omega (arith, room (c .before))
@@ -80,5 +81,6 @@ returns c =
 
 pub write-lines-spec : {M : Type 1} → statement M
 write-lines-spec =
-    tie.close (tie.spec Inv-loop μ-loop (λ c κs. search needs) loop-holds line-case-requires mul-from add-to mul-put-line (λ c. search needs) (λ c. search needs) part-put-line-end
-    put-line-requires (λ c. search needs) (λ c. search needs) loop-again same-length returns)
+    tie.close (tie.spec Inv-loop μ-loop (λ c κs. search needs) loop-holds line-case-requires mul-from add-to mul-put-line
+    (λ c. search needs) (λ c. search needs) part-put-line-end put-line-requires (λ c. search needs) (λ c. search needs) loop-again
+    same-length returns)

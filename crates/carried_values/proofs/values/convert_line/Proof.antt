@@ -10,7 +10,8 @@ use Rattle.carried_values.proofs.{Converting.{carried-count}, values.co
 use Rattle.carried_values.proofs.values.convert_line.Tie as tie
 
 abbrev Inv-loop : tie.InvT-loop
-Inv-loop form v row₀ k₀ row k = (take k row ≡ take k (carried form v)) × ((length row ≡ length (carried form v)) × (k ≤ length (carried form v)))
+Inv-loop form v row₀ k₀ row k =
+    (take k row ≡ take k (carried form v)) × ((length row ≡ length (carried form v)) × (k ≤ length (carried form v)))
 
 abbrev μ-loop : tie.MeasureT-loop
 μ-loop form v row₀ k₀ row k = length (carried form v) - k

@@ -39,4 +39,5 @@ returns-2 c = rw (c .enum-told2 .given .1)
 
 pub source-spec : {M : Type 1} → statement M
 source-spec =
-    tie.close (tie.spec (λ c. search needs) mul-result array-read-result (λ c. search needs) mul-result-2 array-read-result-2 returns returns-2)
+    tie.close (tie.spec (λ c. search needs) mul-result array-read-result (λ c. search needs) mul-result-2 array-read-result-2 returns
+    returns-2)
