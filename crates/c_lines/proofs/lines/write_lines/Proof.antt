@@ -1,12 +1,12 @@
 -- `write_lines` puts line after line.
 use Prim.Native.Nat.{_+_, _*_, _-_, _≤_}
-use mathlib.Core.Path.{_∙_}
+use mathlib.Core.Path.{_≡_, _∙_}
 use native.Mathlib.Omega.{arith}
 use borrow.Author.Needs.{needs}
 use borrow.Rule.Slice.PartMut.{mid-len}
 use lib.ListN.{length}
-use Rattle.tables.proofs.Filling.{filled-start, filled-end}
-use Rattle.case.specs.Columns.{nameCount}
+use Rattle.tables.{specs.Parts.{partAt}, proofs.Filling.{filled-start, filled-end}}
+use Rattle.case.specs.{Columns.{nameCount}, Case.{caseOf}}
 use Rattle.table_rows.{specs.Rows.{storedCases}, proofs.StoredCases.{cases-count, stored-case}}
 use Rattle.c_lines.proofs.{Arrays.{FilledTo, part-within, line-filled}, lines.write_lines.Statement.{statement}}
 use Rattle.c_lines.proofs.lines.write_lines.Tie as tie
@@ -29,6 +29,11 @@ within c = omega (arith, start c .pre .1 .0, c .loop-test .taken)
 
 line-case-requires : tie.Need-line-case-requires Inv-loop μ-loop
 line-case-requires c κs = omega (arith, within c)
+
+-- the case of line i
+case-is : (c : tie.After-line-case Inv-loop μ-loop)
+    → c .line-case .result ≡ caseOf (partAt nameCount (start (c .before) .args .values .now) (c .before .before .loop .i))
+case-is c = c .line-case .ensures
 
 -- part i is within the array
 room : (c : tie.In-loop Inv-loop μ-loop)
@@ -54,7 +59,7 @@ put-line-requires : tie.Need-put-line-requires Inv-loop μ-loop
 put-line-requires c κs =
     let i = c .before .before in
     let l = i .before in (
-      rw (c .before .line-case .ensures) (start i .pre .0 (l .loop .i) (i .loop-test .taken)),
+      rw (case-is (c .before)) (start i .pre .0 (l .loop .i) (i .loop-test .taken)),
       mid-len _ _ (l .loop .numbers) (part-put-line-end (c .before)) ∙ omega arith ∙ l .before .width .ensures,
     )
 
@@ -66,7 +71,7 @@ loop-again c =
     let s = start i in (
       line-filled (s .args .question) (l .before .width .ensures) (storedCases (s .args .values .now) (s .args .n))
           (c .before .put-line .last .1 .1 .0) (l .loop .inv .0) (room i)
-          (rw (stored-case (s .args .values .now) (s .args .n) (l .loop .i) (i .loop-test .taken), ← k .line-case .ensures)
+          (rw (stored-case (s .args .values .now) (s .args .n) (l .loop .i) (i .loop-test .taken), ← case-is k)
           (c .before .put-line .ensures)),
       search needs,
     )
