@@ -11,7 +11,7 @@ use Rattle.case.specs.{Case.{values}, Check.{agree, disagreement}}
 abbrev pub Agree : ℕ → ℕ → Type 0
 Agree a b = ((a ≡ 0) × (b ≡ 0)) ⊎ ((1 ≤ a) × (1 ≤ b))
 
-agreed : (a b : ℕ) → agree a b ≡ true → Agree a b
+pub agreed : (a b : ℕ) → agree a b ≡ true → Agree a b
 unfolding agree
 agreed zero zero h = inl (refl, refl)
 agreed zero (suc b) h = absurd (false≢true (sym (eqb·suc-zero b) ∙ h))

@@ -1,10 +1,10 @@
 -- Where no column is at fault, every value is in its range.
 use Prim.Native.Nat.{ℕ, zero, suc, _≤_, _<_}
-use mathlib.Core.{Path.{_≡_, refl}, Bool.{Bool, true, false, cond}, List.{List, [], _∷_}}
+use mathlib.Core.{Path.{_≡_, sym, _∙_}, Bool.{Bool, true, false, cond}, Logic.{_⊎_, inl, inr}, List.{List, [], _∷_}}
 use native.Mathlib.Omega.{arith}
-use lib.{ListN.{length, getD}, Dec.{T, leb, eqb}}
-use Rattle.text.proofs.Clash.{clash}
+use lib.{ListN.{length, getD}, Dec.{T}}
 use Rattle.case.specs.{Columns.{Form, inRange}, Check.{leftOf, outOfRange}, Parts.{rangeAt}}
+use Rattle.case.proofs.LeftOf.{left-one}
 
 -- every value of the list passes the test of its column
 abbrev pub InRange : Form → List ℕ → Type 0
@@ -18,16 +18,11 @@ Some [] = Unit {0}
 Some (c ∷ at) = (1 ≤ c) × Some at
 
 left-some : (c d : ℕ) → 1 ≤ c → leftOf c d ≡ 0 → ⊥
-unfolding leftOf
-left-some c d h = go (eqb d 0) refl (leb c d)
+left-some c d h e = go (left-one c d)
   where
-    go : (b : Bool) → eqb d 0 ≡ b → (l : Bool) → cond b c (cond l c d) ≡ 0 → ⊥
-    go true e l k = omega arith
-    go false e true k = omega arith
-    go false e false k = false-zero (rw k at e)
-      where
-        false-zero : eqb 0 0 ≡ false → ⊥
-        false-zero h = clash cc
+    go : ((leftOf c d ≡ c) ⊎ ((leftOf c d ≡ d) × (d ≡ 0 → ⊥))) → ⊥
+    go (inl p) = omega arith
+    go (inr p) = p .1 (sym (p .0) ∙ e)
 
 pub in-range : (ks : Form) (at v : List ℕ) → length at ≡ length ks → Some at → outOfRange ks at v ≡ 0 → InRange ks v
 unfolding outOfRange

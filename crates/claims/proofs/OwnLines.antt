@@ -8,7 +8,7 @@ use Rattle.case.specs.{Case.{caseOf}, Columns.{columns, name-count}}
 use Rattle.header.{specs.{Header.{columnsOf}, Parts.{nameAt}, Names.{fieldAt}}, proofs.HeaderAccepted.{header-accepted}}
 use Rattle.header.proofs.NamesStand.{Named, names-stand, name-stands}
 use Rattle.line.specs.Line.{wrongForm, lineValues, lineCase}
-use Rattle.judgement.{specs.{Sheet.{names, valueLines}, Wrong.{RightValues, WrongValues}}, proofs.ValueFields.{right-values, wrong-values}}
+use Rattle.judgement.{specs.{Sheet.{names, valueLines}, Wrong.{RightValues}}, proofs.ValueFields.{right-values}}
 use Rattle.judgement.proofs.Causes.{wrongColumn}
 use Rattle.sheet.{specs.Answer.{cases}, proofs.StoredCases.{case-at}}
 use Rattle.claims.specs.{Words.{caseAt}, Rules.{fieldsAt, Under, OwnLine}}
@@ -24,16 +24,9 @@ pub value-at : (at : List ℕ) (fields : List (List ℕ)) (k : ℕ) → k < leng
 unfolding lineValues valueOf numberFrom
 value-at at fields k h = map-at (λ c. getD (map valueOf fields) (c - 1) 0) at k h ∙ List·getD-map valueOf fields (getD at k 0 - 1) []
 
--- fields that are right, or wrong, by the count of the form's names
+-- fields that are right by the count of the form's names
 pub right-fields : (fields : List (List ℕ)) → wrongForm (length columns) 1 fields ≡ 0 → RightValues 22 fields
 right-fields fields e = rw name-count at (right-values (length columns) fields e)
-
-pub wrong-fields : (fields : List (List ℕ)) → (wrongForm (length columns) 1 fields ≡ 0 → ⊥)
-    → WrongValues 22 fields (wrongForm (length columns) 1 fields)
-wrong-fields fields e = counted (wrong-values (length columns) fields e)
-  where
-    counted : {c : ℕ} → WrongValues (length columns) fields c → WrongValues 22 fields c
-    counted w = rw name-count at w
 
 -- the columns of the names in the first line, and the values of value line i in the order of the names
 abbrev pub columnsIn : List ℕ → List ℕ

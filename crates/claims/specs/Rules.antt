@@ -1,13 +1,13 @@
--- The rules of a sheet in document 01's words, of its text: what holds of a sheet that breaks none, and what each refusal says. Columns
--- count from 1; value lines count from 0, so that value line i is line i + 2 of the sheet.
-use Prim.Native.{Nat.{ℕ, _+_, _-_, _≤_, _<_}, String.{String}}
-use mathlib.Core.{Path.{_≡_}, Bool.{false}, Logic.{_⊎_}, List.{List, [], _∷_}}
+-- The rules of a sheet in document 01's words, of its text: what holds of a sheet that breaks none. What each refusal says is in
+-- Order.antt. Columns count from 1; value lines count from 0, so that value line i is line i + 2 of the sheet.
+use Prim.Native.{Nat.{ℕ, _-_, _≤_, _<_}, String.{String}}
+use mathlib.Core.{Path.{_≡_}, Logic.{_⊎_}, List.{List, [], _∷_}}
 use lib.ListN.{length, getD}
 use Rattle.text.specs.{Text.{bytes, fieldsOf}, Value.{valueOf}}
-use Rattle.case.specs.{declared.Case.{Case}, Case.{caseOf}, Columns.{columns, inRange}, Parts.{rangeAt}, Bounds.{Bounds}}
-use Rattle.header.specs.{Parts.{nameAt}, Names.{fieldAt, StandsAt, StandsOnce, KnownName, WrongName}}
+use Rattle.case.specs.{declared.Case.{Case}, Case.{caseOf}, Columns.{columns}, Bounds.{Bounds}}
+use Rattle.header.specs.{Parts.{nameAt}, Names.{fieldAt, StandsAt, StandsOnce, KnownName}}
 use Rattle.judgement.specs.declared.Judgement.the-variants as judged
-use Rattle.judgement.specs.{Limits.{earlier}, Sheet.{names, valueLines, judgementWithin}, Wrong.{RightValues, WrongValues}}
+use Rattle.judgement.specs.{Limits.{earlier}, Sheet.{names, valueLines, judgementWithin}, Wrong.{RightValues}}
 use Rattle.sheet.specs.Examples.{sample}
 use Rattle.claims.specs.Words.{BreaksNone, caseAt}
 
@@ -91,18 +91,7 @@ pub record SampleSheet : Type 0 where
   pub wet : caseAt sample 1
       ≡ caseOf (7 ∷ 2 ∷ 100 ∷ 2500 ∷ 102 ∷ 500 ∷ 500 ∷ 500 ∷ 70 ∷ 3180 ∷ 600 ∷ 10 ∷ 11 ∷ 11 ∷ 7000 ∷ 500 ∷ 100 ∷ 0 ∷ 0 ∷ 0 ∷ 1 ∷ 60 ∷ [])
 
--- ---- a sheet that is refused
-
--- "sheet empty, over 16,384 bytes, or last byte not 10"; request (h): "the sheet to 65,536 bytes"
-abbrev pub WrongText : List ℕ → Type 0
-WrongText s = (length s ≡ 0) ⊎ ((65536 < length s) ⊎ (getD s (length s - 1) 0 ≡ 10 → ⊥))
-
--- "value out of its range": that of the name that stands in the column, with its index in the table of names
-pub record OutOfRange (s : List ℕ) (i column : ℕ) : Type 0 where
-  pub index : ℕ
-  pub known : index < 22
-  pub named : StandsAt (names s) (nameAt columns index) column
-  pub outside : inRange (rangeAt columns index) (valueOf (fieldAt (fieldsAt s i) column)) ≡ false
+-- ---- values of a case that must agree
 
 -- "layer and thick are both 0 (bare soil) or both not 0."
 abbrev pub SurfaceAgrees : Case → Type 0
@@ -111,36 +100,6 @@ SurfaceAgrees c = ((c .layer ≡ 0) × (c .thick ≡ 0)) ⊎ ((1 ≤ c .layer) �
 -- "rods, rodlen and place are all 0 or all not 0."
 abbrev pub RodsAgree : Case → Type 0
 RodsAgree c = ((c .rods ≡ 0) × (c .rodlen ≡ 0) × (c .place ≡ 0)) ⊎ ((1 ≤ c .rods) × (1 ≤ c .rodlen) × (1 ≤ c .place))
-
--- "layer and thick disagree (column of layer); rods, rodlen, place disagree (column of rods)"
-pub data Disagrees (s : List ℕ) (i column : ℕ) : Type 0 where
-  layer : ¬ SurfaceAgrees (caseAt s i) → StandsAt (names s) (bytes "layer") column → Disagrees s i column
-  rods : ¬ RodsAgree (caseAt s i) → StandsAt (names s) (bytes "rods") column → Disagrees s i column
-
--- "station and season both equal those of an earlier line"
-pub record Repeats (s : List ℕ) (i : ℕ) : Type 0 where
-  pub line : ℕ
-  pub earlier : line < i
-  pub own-line : OwnLine s line (caseAt s line)
-  pub same : SameKey (caseAt s i) (caseAt s line)
-
--- each row of the table "returned (number, line, column)" with its "condition"
-pub data Broken (s : List ℕ) : ℕ → ℕ → ℕ → Type 0 where
-  -- "1, 0, 0"
-  text : WrongText s → Broken s 1 0 0
-  -- "2, 1, column"
-  name : {column : ℕ} → WrongName columns (names s) column → Broken s 2 1 column
-  -- "3, line, column"
-  value : {column : ℕ} (i : ℕ) → i < length (valueLines s) → WrongValues 22 (fieldsAt s i) column → Broken s 3 (i + 2) column
-  -- "4, line, 0": "no value line (line 2), or more than 64 (line 66)"; request (h): "Refusal 4 for too many lines now names line 258"
-  no-line : length (valueLines s) ≡ 0 → Broken s 4 2 0
-  many-lines : 256 < length (valueLines s) → Broken s 4 258 0
-  -- "5, line, column"
-  range : {column : ℕ} (i : ℕ) → OwnLine s i (caseAt s i) → OutOfRange s i column → Broken s 5 (i + 2) column
-  -- "6, line, column"
-  agreement : {column : ℕ} (i : ℕ) → OwnLine s i (caseAt s i) → Disagrees s i column → Broken s 6 (i + 2) column
-  -- "7, line, 0"
-  repeated : (i : ℕ) → OwnLine s i (caseAt s i) → Repeats s i → Broken s 7 (i + 2) 0
 
 -- ---- request (h): the "programs sold earlier for the same columns"
 

@@ -6,7 +6,7 @@ use lib.{ListN.{length, getD, set}, Dec.{leb}}
 use borrow.Author.Tests.{leb-true, leb-false}
 use Rattle.case.specs.Columns.{Form, nameIndex}
 use Rattle.header.specs.{Header.{noColumns, wrongName, columnsFrom, columnsOf}, Parts.{nameAt}}
-use Rattle.header.specs.Names.{fieldAt, StandsAt, StandsOnce, KnownName, WrongName, unknown, again, missing}
+use Rattle.header.specs.Names.{fieldAt, StandsAt, StandsOnce, KnownName, WrongName, unknown, again, missing, Leftmost, None}
 use Rattle.header.proofs.{HeaderReading.{header-placed}, NameIndices.{index-name, name-known}}
 use Rattle.header.proofs.NamesRead.{NamedAt, named-start, field-here, named-step, Next, new, strange, known, next}
 
@@ -92,15 +92,39 @@ name-known-at {form} {all} n i h m =
     let k = n .known i h m in
     record { index = nameIndex form (fieldAt all i); within = k; is = index-name form (fieldAt all i) k }
 
+-- so no column is wrong
+pub no-wrong-name : {form : Form} {all : List (List ℕ)} {at : List ℕ} → Named form all at → None (WrongName form all)
+no-wrong-name n c (unknown l m u) = u (name-known-at n c l (omega (arith, n .count)))
+no-wrong-name {form} {all} {at} n c (again m left l t) =
+    let p = n .column c (omega arith) (omega (arith, n .count)) in
+    let q = n .column left (t .first) (omega (arith, n .count)) in
+    omega (arith, p, q, ap (λ (x : List ℕ). getD at (nameIndex form x) 0) (t .is))
+no-wrong-name n c (missing l e) = omega (arith, n .count)
+
 -- ---- a line of names with a wrong column
 
+-- no column further left is wrong
+left-right : {form : Form} {all fs : List (List ℕ)} {at : List ℕ} {c : ℕ} → NamedAt form all at fs c
+    → (left : ℕ) → left < c → ¬ WrongName form all left
+left-right {form} {all} {at = at} a left h (unknown l m u) =
+    let k : nameIndex form (fieldAt all left) < length form =
+    omega (arith, a .header .count, some-within at (nameIndex form (fieldAt all left)) (omega (arith, a .column left l h))) in
+    u (record { index = nameIndex form (fieldAt all left); within = k; is = index-name form (fieldAt all left) k })
+left-right {form} {at = at} a left h (again m other l t) =
+    let p = a .column left (omega (arith, t .first)) h in
+    let q = a .column other (t .first) (omega arith) in
+    omega (arith, p, q, ap (λ (n : List ℕ). getD at (nameIndex form n) 0) (t .is))
+left-right a left h (missing l e) = omega (arith, a .size)
+
 wrong-from : (form : Form) (all fs : List (List ℕ)) (at : List ℕ) (c : ℕ) → NamedAt form all at fs c → (wrongName form c at fs ≡ 0 → ⊥)
-    → WrongName form all (wrongName form c at fs)
+    → Leftmost (WrongName form all) (wrongName form c at fs)
 unfolding wrongName
 wrong-from form all [] at c a e = go (leb c (length form)) refl e
   where
-    go : (b : Bool) → leb c (length form) ≡ b → (cond b c 0 ≡ 0 → ⊥) → WrongName form all (cond b c 0)
-    go true f z = let l = leb-true c (length form) f in missing (omega (arith, a .size)) (omega (arith, a .size))
+    go : (b : Bool) → leb c (length form) ≡ b → (cond b c 0 ≡ 0 → ⊥) → Leftmost (WrongName form all) (cond b c 0)
+    go true f z =
+        let l = leb-true c (length form) f in
+        record { here = missing (omega (arith, a .size)) (omega (arith, a .size)); first = left-right a }
     go false f z = absurd (z refl)
 wrong-from form all (t ∷ fs) at c a e =
     go (next form at t (wrongName form (suc c) (set at (nameIndex form t) c) fs) c) e
@@ -111,21 +135,24 @@ wrong-from form all (t ∷ fs) at c a e =
 
     go : {w : ℕ} → Next form at t (wrongName form (suc c) (set at (nameIndex form t) c) fs) c w → (w ≡ 0 → ⊥)
         → (NamedAt form all (set at (nameIndex form t) c) fs (c + 1) → (wrongName form (suc c) (set at (nameIndex form t) c) fs ≡ 0 → ⊥)
-        → WrongName form all (wrongName form (suc c) (set at (nameIndex form t) c) fs)) → WrongName form all w
+        → Leftmost (WrongName form all) (wrongName form (suc c) (set at (nameIndex form t) c) fs)) → Leftmost (WrongName form all) w
     go (new p q r) z then = then (named-step a p q r) z
-    go (strange l) z then = unknown (a .header .first) (omega (arith, a .size)) (λ n. omega (arith, here n))
+    go (strange l) z then =
+        record { here = unknown (a .header .first) (omega (arith, a .size)) (λ n. omega (arith, here n)); first = left-right a }
     go (known l m) z then =
         let left = getD at (nameIndex form t) 0 in
         let some : 1 ≤ left = omega (arith, m) in
         let q = a .stands (nameIndex form t) some in
         let u : left < c = a .header .under (nameIndex form t) in
-        again (omega (arith, a .size)) left u
-        (record {
+        let stands : StandsAt all (fieldAt all c) left
+        = record {
           first = some;
           last = omega (arith, a .size);
           is = index-name form (fieldAt all left) (omega arith) ∙ ap (nameAt form) q ∙ sym (index-name form t l) ∙ sym (field-here a);
-        })
+        } in
+        record { here = again (omega (arith, a .size)) left u stands; first = left-right a }
 
+-- the leftmost wrong column
 pub wrong-name : (form : Form) (all : List (List ℕ)) → (wrongName form 1 (noColumns form) all ≡ 0 → ⊥)
-    → WrongName form all (wrongName form 1 (noColumns form) all)
+    → Leftmost (WrongName form all) (wrongName form 1 (noColumns form) all)
 wrong-name form all e = wrong-from form all all (noColumns form) 1 (named-start form all) e

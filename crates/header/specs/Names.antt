@@ -32,3 +32,12 @@ pub data WrongName (form : Form) (fields : List (List ℕ)) (column : ℕ) : Typ
   unknown : 1 ≤ column → column ≤ length fields → (KnownName form (fieldAt fields column) → ⊥) → WrongName form fields column
   again : column ≤ length fields → (left : ℕ) → left < column → StandsAt fields (fieldAt fields column) left → WrongName form fields column
   missing : length fields < length form → column ≡ length fields + 1 → WrongName form fields column
+
+-- "Within one number the leftmost column comes first": this column is wrong, and none further left
+pub record Leftmost (Wrong : ℕ → Type 0) (column : ℕ) : Type 0 where
+  pub here : Wrong column
+  pub first : (left : ℕ) → left < column → ¬ Wrong left
+
+-- no column is wrong
+abbrev pub None : (ℕ → Type 0) → Type 0
+None Wrong = (column : ℕ) → ¬ Wrong column

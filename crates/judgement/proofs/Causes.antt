@@ -21,9 +21,10 @@ module _ (form : Form) (s : List ℕ) where
   -- "The order is 1, 2, 4; then line by line"
   pub data Cause (limits : Limits) : Judgement → Type 0 where
     text : badText limits s ≡ true → Cause limits (Refused 1 0 0)
-    name : (wrongColumn ≡ 0 → ⊥) → Cause limits (Refused 2 1 wrongColumn)
-    no-line : length (valueLines s) ≡ 0 → Cause limits (Refused 4 2 0)
-    many-lines : limits .lines < length (valueLines s) → Cause limits (Refused 4 (limits .lines + 2) 0)
+    name : badText limits s ≡ false → (wrongColumn ≡ 0 → ⊥) → Cause limits (Refused 2 1 wrongColumn)
+    no-line : badText limits s ≡ false → wrongColumn ≡ 0 → length (valueLines s) ≡ 0 → Cause limits (Refused 4 2 0)
+    many-lines : badText limits s ≡ false → wrongColumn ≡ 0 → limits .lines < length (valueLines s)
+        → Cause limits (Refused 4 (limits .lines + 2) 0)
     lines : {j : Judgement} → badText limits s ≡ false → wrongColumn ≡ 0 → (length (valueLines s) ≡ 0 → ⊥)
         → length (valueLines s) ≤ limits .lines → linesJudged ≡ j → Cause limits j
 
@@ -39,7 +40,7 @@ module _ (form : Form) (s : List ℕ) where
           (cond a (Refused 1 0 0)
           (cond b (cond c (Refused 4 2 0) (cond d (Refused 4 (limits .lines + 2) 0) linesJudged)) (Refused 2 1 wrongColumn)))
       by-tests true p b q c r d t = text p
-      by-tests false p false q c r d t = name (eqb-false wrongColumn 0 q)
-      by-tests false p true q true r d t = no-line (eqb-true _ 0 r)
-      by-tests false p true q false r true t = many-lines (ltb-true _ _ t)
+      by-tests false p false q c r d t = name p (eqb-false wrongColumn 0 q)
+      by-tests false p true q true r d t = no-line p (eqb-true wrongColumn 0 q) (eqb-true _ 0 r)
+      by-tests false p true q false r true t = many-lines p (eqb-true wrongColumn 0 q) (ltb-true _ _ t)
       by-tests false p true q false r false t = lines p (eqb-true wrongColumn 0 q) (eqb-false _ 0 r) (ltb-false _ _ t) refl

@@ -4,8 +4,8 @@ use mathlib.Core.{Path.{_≡_, refl, sym, ap, _∙_}, Bool.{Bool, true, false, c
 use native.Mathlib.{Numerals.{add-one}, Decide.{ℕ-discrete}, Omega.{arith}}
 use lib.{ListN.{length, getD, drop}, Seq.{getD-drop, drop-drop}, Dec.{leb}}
 use borrow.Author.Tests.{leb-true, leb-false}
-use Rattle.text.specs.Value.{isValue}
-use Rattle.header.specs.Names.{fieldAt}
+use Rattle.text.{specs.Value.{isValue}, proofs.Clash.{clash}}
+use Rattle.header.specs.Names.{fieldAt, Leftmost, None}
 use Rattle.line.specs.Line.{wrongForm}
 use Rattle.judgement.specs.Wrong.{RightValues, WrongValues, wrong-form, too-few, too-many}
 
@@ -79,23 +79,40 @@ right-from n all (t ∷ fs) c a e =
 pub right-values : (n : ℕ) (all : List (List ℕ)) → wrongForm n 1 all ≡ 0 → RightValues n all
 right-values n all e = right-from n all all 1 (values-start n all) e
 
+-- where each is a value, no column is wrong
+pub no-wrong-value : {n : ℕ} {all : List (List ℕ)} → RightValues n all → None (WrongValues n all)
+no-wrong-value r c (wrong-form l m o e) = let z : _≡_ {A = Bool} true false = sym (r .each c l m) ∙ e in clash cc
+no-wrong-value r c (too-few l e) = omega (arith, r .all)
+no-wrong-value r c (too-many l e) = omega (arith, r .all)
+
+-- no column further left is wrong
+left-right : {n c : ℕ} {all fs : List (List ℕ)} → ValuesLeft n all fs c → (left : ℕ) → left < c → ¬ WrongValues n all left
+left-right a left h (wrong-form l m o e) = let z : _≡_ {A = Bool} true false = sym (a .values left l h) ∙ e in clash cc
+left-right a left h (too-few l e) = omega (arith, a .size)
+left-right a left h (too-many l e) = omega (arith, a .most)
+
 wrong-from : (n : ℕ) (all fs : List (List ℕ)) (c : ℕ) → ValuesLeft n all fs c → (wrongForm n c fs ≡ 0 → ⊥)
-    → WrongValues n all (wrongForm n c fs)
+    → Leftmost (WrongValues n all) (wrongForm n c fs)
 unfolding wrongForm
 wrong-from n all [] c a e = go (leb c n) refl e
   where
-    go : (b : Bool) → leb c n ≡ b → (cond b c 0 ≡ 0 → ⊥) → WrongValues n all (cond b c 0)
-    go true f z = let l = leb-true c n f in too-few (omega (arith, a .size)) (omega (arith, a .size))
+    go : (b : Bool) → leb c n ≡ b → (cond b c 0 ≡ 0 → ⊥) → Leftmost (WrongValues n all) (cond b c 0)
+    go true f z =
+        let l = leb-true c n f in
+        record { here = too-few (omega (arith, a .size)) (omega (arith, a .size)); first = left-right a }
     go false f z = absurd (z refl)
 wrong-from n all (t ∷ fs) c a e =
     go (next n t (wrongForm n (suc c) fs) c) e (λ b z. wrong-from n all fs (suc c) (rw (add-one c) at b) z)
   where
     go : {w : ℕ} → Next n t (wrongForm n (suc c) fs) c w → (w ≡ 0 → ⊥)
-        → (ValuesLeft n all fs (c + 1) → (wrongForm n (suc c) fs ≡ 0 → ⊥) → WrongValues n all (wrongForm n (suc c) fs))
-        → WrongValues n all w
+        → (ValuesLeft n all fs (c + 1) → (wrongForm n (suc c) fs ≡ 0 → ⊥) → Leftmost (WrongValues n all) (wrongForm n (suc c) fs))
+        → Leftmost (WrongValues n all) w
     go (value h f) z then = then (values-step a h f) z
-    go (surplus h) z then = too-many (omega (arith, a .size, a .most)) (omega (arith, a .most))
-    go (no-value h f) z then = wrong-form (a .first) h (omega (arith, a .size)) (rw (field-here a) f)
+    go (surplus h) z then =
+        record { here = too-many (omega (arith, a .size, a .most)) (omega (arith, a .most)); first = left-right a }
+    go (no-value h f) z then =
+        record { here = wrong-form (a .first) h (omega (arith, a .size)) (rw (field-here a) f); first = left-right a }
 
-pub wrong-values : (n : ℕ) (all : List (List ℕ)) → (wrongForm n 1 all ≡ 0 → ⊥) → WrongValues n all (wrongForm n 1 all)
+-- the leftmost wrong column
+pub wrong-values : (n : ℕ) (all : List (List ℕ)) → (wrongForm n 1 all ≡ 0 → ⊥) → Leftmost (WrongValues n all) (wrongForm n 1 all)
 wrong-values n all e = wrong-from n all all 1 (values-start n all) e

@@ -21,10 +21,11 @@ module _ (form : Form) where
 module _ (form : Form) (at : List ℕ) where
   -- 5 and 6 of some values
   data ValuesFound (v : List ℕ) : Finding → Type 0 where
-    sound : ValuesFound v found.Sound
+    sound : outOfRange form at v ≡ 0 → layerAgrees form v ≡ true → rodsAgree form v ≡ true → ValuesFound v found.Sound
     range : (outOfRange form at v ≡ 0 → ⊥) → ValuesFound v (found.OutOfRange (outOfRange form at v))
-    layer : layerAgrees form v ≡ false → ValuesFound v (found.Disagreement (named form at "layer"))
-    rods : rodsAgree form v ≡ false → ValuesFound v (found.Disagreement (named form at "rods"))
+    layer : outOfRange form at v ≡ 0 → layerAgrees form v ≡ false → ValuesFound v (found.Disagreement (named form at "layer"))
+    rods : outOfRange form at v ≡ 0 → layerAgrees form v ≡ true → rodsAgree form v ≡ false
+        → ValuesFound v (found.Disagreement (named form at "rods"))
 
   values-found : (v : List ℕ) → ValuesFound v (finding form at v)
   unfolding finding disagreement
@@ -36,9 +37,9 @@ module _ (form : Form) (at : List ℕ) where
           (cond a (cond b (cond c found.Sound (found.Disagreement (named form at "rods"))) (found.Disagreement (named form at "layer")))
           (found.OutOfRange (outOfRange form at v)))
       go false p b q c r = range (eqb-false _ 0 p)
-      go true p false q c r = layer q
-      go true p true q false r = rods r
-      go true p true q true r = sound
+      go true p false q c r = layer (eqb-true _ 0 p) q
+      go true p true q false r = rods (eqb-true _ 0 p) q r
+      go true p true q true r = sound (eqb-true _ 0 p) q r
 
   -- 3, 5, 6 and 7 of a line
   module _ (earlier fields : List (List ℕ)) where
@@ -50,27 +51,37 @@ module _ (form : Form) (at : List ℕ) where
     abbrev RightForm : Type 0
     RightForm = wrongForm (length form) 1 fields ≡ 0
 
+    -- and every value is in its range, and those that must agree do
+    pub record Agreed : Type 0 where
+      pub right-form : RightForm
+      pub none-outside : outOfRange form at v ≡ 0
+      pub layer : layerAgrees form v ≡ true
+      pub rods : rodsAgree form v ≡ true
+
+    -- each finding where none before it in "3, 5, 6, 7" is made
     pub data LineFound : LineFinding → Type 0 where
-      all-sound : RightForm → repeats form v earlier ≡ false → LineFound Sound
+      all-sound : Agreed → repeats form v earlier ≡ false → LineFound Sound
       wrong-form : (wrongForm (length form) 1 fields ≡ 0 → ⊥) → LineFound (WrongForm (wrongForm (length form) 1 fields))
       out-of-range : RightForm → (outOfRange form at v ≡ 0 → ⊥) → LineFound (OutOfRange (outOfRange form at v))
-      layer-differs : RightForm → layerAgrees form v ≡ false → LineFound (Disagreement (named form at "layer"))
-      rods-differ : RightForm → rodsAgree form v ≡ false → LineFound (Disagreement (named form at "rods"))
-      repeated : RightForm → repeats form v earlier ≡ true → LineFound Repeated
+      layer-differs : RightForm → outOfRange form at v ≡ 0 → layerAgrees form v ≡ false
+          → LineFound (Disagreement (named form at "layer"))
+      rods-differ : RightForm → outOfRange form at v ≡ 0 → layerAgrees form v ≡ true → rodsAgree form v ≡ false
+          → LineFound (Disagreement (named form at "rods"))
+      repeated : Agreed → repeats form v earlier ≡ true → LineFound Repeated
 
     pub line-found : LineFound (lineFinding form at earlier fields)
     unfolding lineFinding orFinding
     line-found = go (eqb (wrongForm (length form) 1 fields) 0) refl
       where
-        last : RightForm → (b : Bool) → repeats form v earlier ≡ b → LineFound (cond b Repeated Sound)
+        last : Agreed → (b : Bool) → repeats form v earlier ≡ b → LineFound (cond b Repeated Sound)
         last r true e = repeated r e
         last r false e = all-sound r e
 
         then : RightForm → {f : Finding} → ValuesFound v f → LineFound (orFinding f (cond (repeats form v earlier) Repeated Sound))
-        then r sound = last r (repeats form v earlier) refl
+        then r (sound o l d) = last (record { right-form = r; none-outside = o; layer = l; rods = d }) (repeats form v earlier) refl
         then r (range e) = out-of-range r e
-        then r (layer e) = layer-differs r e
-        then r (rods e) = rods-differ r e
+        then r (layer o e) = layer-differs r o e
+        then r (rods o l e) = rods-differ r o l e
 
         go : (b : Bool) → eqb (wrongForm (length form) 1 fields) 0 ≡ b
             → LineFound
@@ -79,9 +90,9 @@ module _ (form : Form) (at : List ℕ) where
         go true e = then (eqb-true _ 0 e) (values-found v)
         go false e = wrong-form (eqb-false _ 0 e)
 
-    -- a sound line is of the right form and repeats no key
-    pub sound-says : lineFinding form at earlier fields ≡ Sound → RightForm × (repeats form v earlier ≡ false)
+    -- a sound line repeats no key
+    pub sound-says : lineFinding form at earlier fields ≡ Sound → Agreed × (repeats form v earlier ≡ false)
     sound-says e = go (rw e at line-found)
       where
-        go : LineFound Sound → RightForm × (repeats form v earlier ≡ false)
+        go : LineFound Sound → Agreed × (repeats form v earlier ≡ false)
         go (all-sound r q) = (r, q)
