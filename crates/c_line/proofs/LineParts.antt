@@ -1,5 +1,5 @@
 -- What the three questions put in a part of their own, of a case within its bounds.
-use Prim.Native.Nat.{ℕ, zero, suc, _≤_}
+use Prim.Native.Nat.{ℕ, _≤_}
 use mathlib.Core.{Path.{_≡_, refl, sym, ap, _∙_}, List.{List, [], _∷_, _++_, append-nil}}
 use native.Mathlib.Omega.{arith}
 use lib.{IntN.{ℤ}, ListN.{length, drop, set}, Seq.{drop-length}}
@@ -13,11 +13,8 @@ use Rattle.working.specs.Working.{workingAnswer, RightWorked, WorkingAnswered}
 use Rattle.working.specs.declared.Worked.the-variants as worked
 use Rattle.margin.{specs.{declared.Compared.{Compared}, Margin.{marginsOf}, Meaning.{Right}}, proofs.Right.{right-margins}}
 use Rattle.margin.specs.declared.Compared.the-variants as compared
-use Rattle.headroom.specs.declared.Room.{Room}
-use Rattle.headroom.specs.declared.Room.the-variants as room
-use Rattle.headroom.specs.Headroom as headroom
 use Rattle.c_line.specs.declared.Question.{Question, the-variants.{Margins, Working, Headroom}}
-use Rattle.c_line.specs.Line.{widthOf, MarginsLine, WorkingLine, RightFault, LineOf}
+use Rattle.c_line.specs.Line.{widthOf, MarginsLine, WorkingLine, LineOf}
 
 -- as many numbers as a part has take the place of all of it
 pub put-whole : (zs part : List ℤ) → length part ≡ length zs → zs ++ drop (length zs) part ≡ zs
@@ -57,24 +54,6 @@ module _ {c : Case} (b : Bounds c) where
   working-line {r} {w} a e p =
       let z : w ≡ workingOf c = let q = sym e ∙ a .answer ∙ is-worked in cc in
       record { is = p ∙ ap workingNumbers z; right = rw (← z) (rw e at (a .right)) }
-
-  -- its headroom, which is above 0, or 0 for none
-  some-fault : (F : ℕ) → 1 ≤ F → headroom.Headroom c F → RightFault c F
-  unfolding RightFault
-  some-fault zero l h = absurd (omega arith)
-  some-fault (suc k) l h = h
-
-  pub up-to-fault : {r : Room} {F : ℕ} → headroom.HeadroomAnswered c r → r ≡ room.UpTo F → RightFault c F
-  unfolding headroom.RightRoom
-  up-to-fault {r} {F} a e = let h : headroom.Headroom c F = rw e at (a .right) in some-fault F (omega (arith, h .in-range .low)) h
-
-  pub no-fault : {r : Room} → headroom.HeadroomAnswered c r → r ≡ room.None → RightFault c 0
-  unfolding headroom.RightRoom RightFault
-  no-fault a e = rw e at (a .right)
-
-  pub headroom-some : {r : Room} {number line column : ℕ} → headroom.HeadroomAnswered c r → r ≡ room.Refused number line column → ⊥
-  unfolding headroom.checked
-  headroom-some a e = let z = sym (bounds-sound b) ∙ a .checks ∙ ap headroom.checked e in clash cc
 
 -- ---- what is asked
 

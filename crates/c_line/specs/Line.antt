@@ -1,5 +1,5 @@
 -- The numbers of one value line, by what is asked: margins, working, headroom.
-use Prim.Native.Nat.{ℕ, zero, suc}
+use Prim.Native.Nat.{ℕ}
 use mathlib.Core.{Path.{_≡_}, List.{List, [], _∷_}}
 use lib.IntN.{ℤ, pos}
 use Rattle.case.specs.declared.Case.{Case}
@@ -29,14 +29,10 @@ pub record WorkingLine (c : Case) (part : List ℤ) : Type 0 where
   pub right : RightWorking c (workingOf c)
 
 -- the greatest fault current at which the case, all else equal, is answered safe, or 0 where none is
-unfoldable pub RightFault : Case → ℕ → Type 0
-RightFault c zero = room.NoHeadroom c
-RightFault c (suc k) = room.Headroom c (suc k)
-
 pub record HeadroomLine (c : Case) (part : List ℤ) : Type 0 where
   pub fault : ℕ
   pub is : part ≡ pos fault ∷ []
-  pub right : RightFault c fault
+  pub right : room.RightFault c fault
 
 -- some numbers are those of a case
 unfoldable pub LineOf : Question → Case → List ℤ → Type 0

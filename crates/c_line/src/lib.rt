@@ -2,11 +2,10 @@
 ghost use mathlib.Core.Path.{_≡_};
 ghost use lib.ListN.{length};
 ghost use Rattle.case.specs.Bounds.{Bounds};
-ghost use Rattle.c_line.specs.Line.{widthOf, MarginsLine, WorkingLine, RightFault, HeadroomLine, LineOf};
+ghost use Rattle.c_line.specs.Line.{widthOf, MarginsLine, WorkingLine, HeadroomLine, LineOf};
 use c_reply::put_first;
 use case::Case;
-use headroom::Room;
-use headroom::headroom;
+use headroom::greatest_fault;
 use margin::Compared;
 use margin::margins;
 use row::ROW_LENGTH;
@@ -73,19 +72,7 @@ fn put_working(c: Case, part: &mut [i64])
     }
 }
 
-// The greatest fault current at which a case within its bounds is answered safe, or 0.
-fn greatest_fault(c: Case) -> u32
-    requires { ⌜ Bounds c ⌝ }
-    ensures { λ r. ⌜ RightFault c r ⌝ }
-{
-    match headroom(c) {
-        Room::UpTo(fault) => fault,
-        Room::None => 0,
-        // a case within its bounds is not refused
-        Room::Refused(_, _, _) => 0,
-    }
-}
-
+// The headroom of the case, or 0 for none.
 fn put_headroom(c: Case, part: &mut [i64])
     requires { ⌜ Bounds c ⌝ }
     requires { ⌜ length (now part) ≡ 1 ⌝ }

@@ -92,10 +92,10 @@ unfolding RightWorked
 working-says c part b l = rw (l .is) (entries.working (working-outcome (record { answer = sym (is-worked b); right = l .right })))
 
 headroom-says : (c : Case) (part : List ℤ) → Bounds c → line.HeadroomLine c part → entries.HeadroomNumber c part
-unfolding line.RightFault headroom.RightRoom headroom.checked
+unfolding headroom.RightFault headroom.RightRoom headroom.checked
 headroom-says c part b l = rw (l .is) (go (l .fault) (l .right))
   where
-    go : (fault : ℕ) → line.RightFault c fault → entries.HeadroomNumber c (pos fault ∷ [])
+    go : (fault : ℕ) → headroom.RightFault c fault → entries.HeadroomNumber c (pos fault ∷ [])
     go zero h = entries.none (headroom-outcome (record { checks = bounds-sound b; right = h }))
     go (suc k) h = entries.up-to (headroom-outcome (record { checks = bounds-sound b; right = h }))
 

@@ -10,7 +10,7 @@ use Rattle.row.specs.Ends.{rowOf}
 use Rattle.judgement.specs.{declared.Judgement.{Judgement}, Sheet.{judgement}}
 use Rattle.judgement.specs.declared.Judgement.the-variants as judged
 use Rattle.sheet.specs.Answer.{cases}
-use Rattle.headroom.proofs.Halving.{fault-bounds}
+use Rattle.headroom.proofs.Bracket.{fault-bounds}
 use Rattle.hocsimbur.specs.declared.RowAnswer.the-variants as answered
 use Rattle.hocsimbur.proofs.Answers.{row-told, row-sound, bounds-answered}
 use Rattle.release.specs.declared.{licence.Wrong.{Wrong, the-variants.{At, Nothing}}, Released.{Released, the-variants.{Pairs, Refused}}}

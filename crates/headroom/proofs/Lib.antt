@@ -1,2 +1,2 @@
-pub mod Halving
-pub mod Rows
+pub mod Bracket
+pub mod Turns

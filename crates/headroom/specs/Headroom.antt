@@ -1,6 +1,6 @@
 -- The headroom of a case, beyond documents 01 and 02: "after the checks of one case (5, 6), the greatest fault current in 100..80000 at
 -- which the case, all else equal, is answered safe, or none".
-use Prim.Native.Nat.{ℕ, _≤_}
+use Prim.Native.Nat.{ℕ, zero, suc, _≤_}
 use mathlib.Core.Path.{_≡_}
 use Rattle.case.specs.{declared.{Case.{Case}, Judged.{Judged}}, Check.{recordJudged}, Bounds.{Between}, Fault.{withFault}}
 use Rattle.case.specs.declared.Judged.the-variants as judged
@@ -31,6 +31,15 @@ pub record Headroom (c : Case) (F : ℕ) : Type 0 where
 pub record NoHeadroom (c : Case) : Type 0 where
   pub answered : AnsweredWithin c
   pub none-safe : (f : ℕ) → InRange f → ¬ SafeWith c f
+
+-- the greatest fault current as a number, with 0 for none
+unfoldable pub RightFault : Case → ℕ → Type 0
+RightFault c zero = NoHeadroom c
+RightFault c (suc k) = Headroom c (suc k)
+
+unfoldable pub roomOf : ℕ → Room
+roomOf zero = None
+roomOf (suc k) = UpTo (suc k)
 
 -- of a refusal nothing is asked here
 unfoldable pub RightRoom : Case → Room → Type 0

@@ -1,3 +1,4 @@
+pub mod SameParts
 pub mod Right
 pub mod NoWorse
 pub mod StaysSafe

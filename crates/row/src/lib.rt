@@ -1,9 +1,12 @@
 // The row of a case.
+mod parts;
 mod put;
 mod work;
 
 use decision::Verdict;
 use interval::Interval;
+pub use parts::driven_parts;
+pub use parts::fixed_parts;
 pub use put::put_row;
 pub use put::row_numbers;
 pub use work::work_row;
@@ -49,4 +52,30 @@ pub struct Row {
     pub resistance: Interval,
     // millivolts
     pub rise: Interval,
+}
+
+// What the verdict of a case needs that its fault current does not change.
+pub struct Fixed {
+    // Df, billionths
+    pub factor: Interval,
+    // millivolts
+    pub tolerable_touch: Interval,
+    pub tolerable_step: Interval,
+    // n, 10^-7
+    pub number: Interval,
+    // LM, micrometres, and Km, 10^-7
+    pub mesh_length: Interval,
+    pub mesh_factor: Interval,
+    // LS, twentieths of a millimetre, and Ks, 10^-7 per metre
+    pub step_length: u64,
+    pub step_factor: Interval,
+}
+
+// What its fault current drives.
+pub struct Driven {
+    // microamperes
+    pub current: Interval,
+    // millivolts
+    pub mesh: Interval,
+    pub step: Interval,
 }

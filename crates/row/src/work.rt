@@ -7,6 +7,8 @@ ghost use Rattle.decrement.specs.Ends.{factorEnds};
 ghost use Rattle.current.specs.Ends.{upperFactor};
 ghost use Rattle.row.specs.Ends.{rowOf};
 use crate::Row;
+use crate::parts::driven_parts;
+use crate::parts::fixed_parts;
 use case::Case;
 use decision::verdict_of;
 use interval::Interval;
@@ -24,15 +26,14 @@ pub fn work_row(c: Case) -> Row
     requires { ⌜ Bounds c ⌝ }
     ensures { λ r. ⌜ r ≡ rowOf c ⌝ }
 {
-    let factor = decrement::factor_ends(c);
-    let current = current::grid_current(c, factor);
-    let tolerable = tolerable::touch_and_step(c);
-    let tolerable_touch = tolerable.touch;
-    let tolerable_step = tolerable.step;
-    let n = effective_number::effective_number(c.across, c.along);
-    let drive = drive::drive(c, n, current);
-    let mesh = mesh::mesh_voltage(c, n, drive);
-    let step = step::step_voltage(c, n, drive);
+    let fixed = fixed_parts(c);
+    let driven = driven_parts(c, fixed);
+    let factor = fixed.factor;
+    let current = driven.current;
+    let tolerable_touch = fixed.tolerable_touch;
+    let tolerable_step = fixed.tolerable_step;
+    let mesh = driven.mesh;
+    let step = driven.step;
     let ohms = resistance::resistance(c);
     let rise = resistance::potential_rise(c, ohms, current);
     Row {

@@ -73,21 +73,23 @@ pub fn step_length(c: Case) -> u64
     15 * conductor_length(c) + 17 * rod_length(c)
 }
 
-// ρ·Ki·IG/LS in mV.
-fn driven(c: Case, drive: Interval) -> Interval
+// ρ·Ki·IG/LS in mV, for the case's LS and ρ·Ki·IG.
+fn driven(c: Case, length: u64, drive: Interval) -> Interval
     requires { ⌜ Bounds c ⌝ }
+    requires { ⌜ length ≡ stepLength c ⌝ }
     requires { ⌜ drive ≡ driveEnds c ⌝ }
     ensures { λ r. ⌜ r ≡ drivenEnds c ⌝ }
 {
-    drive.quotient(Interval::point(50 * step_length(c)), 1)
+    drive.quotient(Interval::point(50 * length), 1)
 }
 
-// Step voltage in mV, for the case's n in 10^-7 and its ρ·Ki·IG in 10^-9.
-pub fn step_voltage(c: Case, n: Interval, drive: Interval) -> Interval
+// Step voltage in mV, for the case's LS, Ks and ρ·Ki·IG.
+pub fn step_voltage(c: Case, length: u64, factor: Interval, drive: Interval) -> Interval
     requires { ⌜ Bounds c ⌝ }
-    requires { ⌜ n ≡ numberOf c ⌝ }
+    requires { ⌜ length ≡ stepLength c ⌝ }
+    requires { ⌜ factor ≡ spacingFactor c ⌝ }
     requires { ⌜ drive ≡ driveEnds c ⌝ }
     ensures { λ r. ⌜ r ≡ stepVoltageEnds c ⌝ }
 {
-    driven(c, drive).product(spacing_factor(c, n), 10000000)
+    driven(c, length, drive).product(factor, 10000000)
 }

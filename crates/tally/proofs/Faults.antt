@@ -9,7 +9,7 @@ use Rattle.text.proofs.Clash.{clash}
 use Rattle.case.specs.{declared.Case.{Case}, Bounds.{Bounds}, Fault.{withFault}}
 use Rattle.row.{specs.LessFault.{LessFault}, proofs.{Right.{row-verdict}, StaysSafe.{safe-stays}}}
 use Rattle.yards.{specs.Yards.{meansSafe, isSafe}, proofs.Found.{means-safe}}
-use Rattle.headroom.{specs.Headroom.{InRange, SafeWith, Headroom, NoHeadroom}, proofs.Halving.{fault-bounds}}
+use Rattle.headroom.{specs.Headroom.{InRange, SafeWith, Headroom, NoHeadroom, RightFault}, proofs.Bracket.{fault-bounds}}
 use Rattle.tally.specs.{Fault.{everySafe, greatestFault, commonFault}, Tally.{EveryBounds}}
 
 -- ---- answered safe, as a test and as a verdict
@@ -153,7 +153,7 @@ common-step {c} cs b d = up-to-one (common-up-to (c ∷ cs) (b, d)) (up-to-both 
 -- ---- the headroom of one line
 
 module _ {c : Case} (b : Bounds c) where
-  pub headroom-common : {F : ℕ} → Headroom c F → F ≡ commonFault (c ∷ [])
+  headroom-common : {F : ℕ} → Headroom c F → F ≡ commonFault (c ∷ [])
   unfolding everySafe EveryBounds
   headroom-common {F} r = up-to-one up (common-up-to (c ∷ []) (b, tt))
     where
@@ -165,7 +165,7 @@ module _ {c : Case} (b : Bounds c) where
             greatest = λ f h e. r .greatest f h (test-safe c f (left _ true e));
           }
 
-  pub no-headroom-common : NoHeadroom c → 0 ≡ commonFault (c ∷ [])
+  no-headroom-common : NoHeadroom c → 0 ≡ commonFault (c ∷ [])
   unfolding everySafe EveryBounds
   no-headroom-common r = up-to-one up (common-up-to (c ∷ []) (b, tt))
     where
@@ -176,3 +176,9 @@ module _ {c : Case} (b : Bounds c) where
             safe = λ f h l. absurd (omega (arith, h .low));
             greatest = λ f h e. absurd (r .none-safe f h (test-safe c f (left _ true e)));
           }
+
+  -- as a number, with 0 for none
+  pub fault-common : (F : ℕ) → RightFault c F → F ≡ commonFault (c ∷ [])
+  unfolding RightFault
+  fault-common zero r = no-headroom-common r
+  fault-common (suc k) r = headroom-common r

@@ -14,8 +14,7 @@ ghost use Rattle.tally.specs.Tally.{addLine, Small};
 use crate::Tally;
 use case::Case;
 use decision::Verdict;
-use headroom::Room;
-use headroom::headroom;
+use headroom::greatest_fault;
 use row::work_row;
 use whole::below;
 
@@ -91,11 +90,7 @@ fn line_fault(c: Case) -> u32
     requires { ⌜ Bounds c ⌝ }
     ensures { λ r. ⌜ r ≡ commonFault (c ∷ []) ⌝ }
 {
-    match headroom(c) {
-        Room::UpTo(fault) => fault,
-        Room::None => 0,
-        Room::Refused(number, line, column) => 0,
-    }
+    greatest_fault(c)
 }
 
 fn lesser(a: u32, b: u32) -> u32

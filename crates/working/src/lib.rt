@@ -86,6 +86,7 @@ fn work(c: Case) -> Quantities
     let current = current::grid_current(c, decrement::factor_ends(c));
     let n = effective_number::effective_number(c.across, c.along);
     let drive = drive::drive(c, n, current);
+    let lm = mesh::mesh_length(c);
     Quantities {
         cs: layer_factor(c),
         root_time: tolerable::time_root(c),
@@ -93,7 +94,7 @@ fn work(c: Case) -> Quantities
         lc: in_micrometres(lengths::conductor_length(c)),
         lr: in_micrometres(lengths::rod_length(c)),
         lt: in_micrometres(lengths::total_length(c)),
-        lm: mesh::mesh_length(c),
+        lm,
         ls: step_in_micrometres(c),
         n,
         ki: effective_number::irregularity(n),
@@ -101,7 +102,7 @@ fn work(c: Case) -> Quantities
         kh: mesh::depth_factor(c),
         km: mesh::geometric_factor(c, n),
         ks: step::spacing_factor(c, n),
-        driven: mesh::driven(c, drive),
+        driven: mesh::driven(c, lm, drive),
     }
 }
 

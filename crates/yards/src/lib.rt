@@ -11,7 +11,7 @@ use case::Case;
 use case::Judged;
 use case::judge;
 use search::first_safe;
-pub use yard::is_safe;
+pub use yard::parts_safe;
 use yard::trial;
 
 // The range of a side, in mm.

@@ -2,10 +2,15 @@
 ghost use mathlib.Core.Path.{_≡_};
 ghost use Prim.Native.Nat.{_≤_};
 ghost use Rattle.case.specs.Bounds.{Bounds};
+ghost use Rattle.row.specs.Parts.{fixedOf, drivenOf};
 ghost use Rattle.yards.specs.Yards.{fits as fitting, yard as yardOf, trial as trialOf, meansSafe, isSafe};
 use case::Case;
 use decision::Verdict;
-use row::work_row;
+use decision::verdict_of;
+use row::Driven;
+use row::Fixed;
+use row::driven_parts;
+use row::fixed_parts;
 
 // The spacing's range.
 const LEAST_SPACE: u32 = 2500;
@@ -67,12 +72,25 @@ fn means_safe(v: Verdict) -> bool
     }
 }
 
+// Whether a yard is answered safe, by its parts.
+pub fn parts_safe(c: Case, fixed: Fixed, driven: Driven) -> bool
+    requires { ⌜ fixed ≡ fixedOf c ⌝ }
+    requires { ⌜ driven ≡ drivenOf c ⌝ }
+    ensures { λ r. ⌜ r ≡ isSafe c ⌝ }
+{
+    means_safe(verdict_of(
+        fixed.tolerable_touch,
+        fixed.tolerable_step,
+        driven.mesh,
+        driven.step,
+    ))
+}
+
 // Whether a yard is answered safe.
 pub fn is_safe(c: Case) -> bool
     requires { ⌜ Bounds c ⌝ }
     ensures { λ r. ⌜ r ≡ isSafe c ⌝ }
 {
-    let row = work_row(c);
-    let verdict = row.verdict;
-    means_safe(verdict)
+    let fixed = fixed_parts(c);
+    parts_safe(c, fixed, driven_parts(c, fixed))
 }

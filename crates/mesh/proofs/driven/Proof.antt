@@ -5,19 +5,17 @@ use Rattle.interval.proofs.SpanFits.{quotient-fits}
 use Rattle.drive.proofs.Spans.{drive-span}
 use Rattle.mesh.specs.Ends.{drivenEnds}
 use Rattle.mesh.proofs.{LengthSpans.{mesh-length-span, mesh-length-low}, driven.Statement.{statement}}
-use borrow.Author.Needs.{needs}
 use Rattle.mesh.proofs.driven.Tie as tie
 
 quotient-requires : tie.Need-quotient-requires
 quotient-requires c κs =
-    let s = c .before in
-    let b = s .pre .0 in
-    rw (c .mesh-length .ensures, s .pre .1)
+    let b = c .pre .0 in
+    rw (c .pre .1 .0, c .pre .1 .1)
     (quotient-fits (lit< tt) (lit< tt) (omega (arith, mesh-length-low b)) (drive-span b) (mesh-length-span b))
 
 returns : tie.Need-returns
 unfolding drivenEnds
-returns c = rw (c .quotient .ensures, c .before .mesh-length .ensures, c .before .before .pre .1)
+returns c = let p = c .before .pre .1 in rw (c .quotient .ensures, p .0, p .1)
 
 pub driven-spec : {M : Type 1} → statement M
-driven-spec = tie.close (tie.spec (λ c κs. search needs) quotient-requires returns)
+driven-spec = tie.close (tie.spec quotient-requires returns)

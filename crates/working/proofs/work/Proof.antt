@@ -7,11 +7,15 @@ use borrow.Author.Needs.{needs}
 use Rattle.working.proofs.work.Statement.{statement}
 use Rattle.working.proofs.work.Tie as tie
 
--- where ρ·Ki·IG was worked, seen from LM and from ρ·Ki·IG/LM
-abbrev driven-from : tie.After-mesh-length → tie.After-drive
-driven-from c = c .before .before .before .before .before .before .before .before .before .before
+-- where LM was worked, seen from LT and from Ks
+abbrev measured : tie.After-in-micrometres3 → tie.After-mesh-length
+measured c = c .before .before .before .before .before .before .before .before .before
 
-abbrev weighed : tie.After-spacing-factor → tie.After-mesh-length
+-- where ρ·Ki·IG was
+abbrev driven-from : tie.After-in-micrometres3 → tie.After-drive
+driven-from c = measured c .before
+
+abbrev weighed : tie.After-spacing-factor → tie.After-in-micrometres3
 weighed c = c .before .before .before .before .before .before
 
 abbrev started : tie.After-drive → tie.Start
@@ -22,18 +26,18 @@ effective-number-requires c κs = counts (c .before .before .pre)
 
 in-micrometres-requires : tie.Need-in-micrometres-requires
 in-micrometres-requires c κs =
-    rw (c .conductor-length .ensures) (omega (arith, conductor-bounds (started (c .before .before .before .before) .pre) .high))
+    rw (c .conductor-length .ensures) (omega (arith, conductor-bounds (started (c .before .before .before .before .before) .pre) .high))
 
 in-micrometres-requires-2 : tie.Need-in-micrometres-requires-2
 in-micrometres-requires-2 c κs =
-    rw (c .rod-length .ensures) (omega (arith, rod-bound (started (c .before .before .before .before .before .before) .pre)))
+    rw (c .rod-length .ensures) (omega (arith, rod-bound (started (c .before .before .before .before .before .before .before) .pre)))
 
 in-micrometres-requires-3 : tie.Need-in-micrometres-requires-3
 in-micrometres-requires-3 c κs =
     rw (c .total-length .ensures) (omega (
       arith,
       total-bounds
-          (started (c .before .before .before .before .before .before .before .before) .pre) .high,
+          (started (c .before .before .before .before .before .before .before .before .before) .pre) .high,
     ))
 
 step-in-micrometres-requires : tie.Need-step-in-micrometres-requires
@@ -57,7 +61,8 @@ spacing-factor-requires c κs =
     let d = driven-from (c .before .before .before .before .before) in (started d .pre, d .before .effective-number .ensures)
 
 driven-requires : tie.Need-driven-requires
-driven-requires c κs = let d = driven-from (weighed c) in (started d .pre, d .drive .ensures)
+driven-requires c κs =
+    let m = measured (weighed c) in (started (m .before) .pre, (m .mesh-length .ensures, m .before .drive .ensures))
 
 returns : tie.Need-returns
 unfolding workingOf
@@ -68,8 +73,7 @@ returns c =
     let i = h .before in
     let r = i .before in
     let s = r .before in
-    let m = s .before in
-    let l = m .before in
+    let l = s .before in
     let t = l .before in
     let u = t .before .before in
     let v = u .before .before in
@@ -84,7 +88,6 @@ returns c =
       i .inner-factor .ensures,
       r .irregularity .ensures,
       s .step-in-micrometres .ensures,
-      m .mesh-length .ensures,
       l .in-micrometres3 .ensures,
       t .total-length .ensures,
       t .before .in-micrometres2 .ensures,
@@ -94,13 +97,14 @@ returns c =
       w .side-term .ensures,
       x .time-root .ensures,
       y .layer-factor .ensures,
-      y .before .before .effective-number .ensures,
+      y .before .mesh-length .ensures,
+      y .before .before .before .effective-number .ensures,
     )
 
 pub work-spec : {M : Type 1} → statement M
 work-spec =
     tie.close (tie.spec (λ c κs. search needs) (λ c κs. search needs) effective-number-requires (λ c κs. search needs)
-    (λ c κs. search needs) (λ c κs. search needs) (λ c κs. search needs) (λ c κs. search needs) in-micrometres-requires
-    (λ c κs. search needs) in-micrometres-requires-2 (λ c κs. search needs) in-micrometres-requires-3 (λ c κs. search needs)
+    (λ c κs. search needs) (λ c κs. search needs) (λ c κs. search needs) (λ c κs. search needs) (λ c κs. search needs)
+    in-micrometres-requires (λ c κs. search needs) in-micrometres-requires-2 (λ c κs. search needs) in-micrometres-requires-3
     step-in-micrometres-requires irregularity-requires inner-factor-requires depth-factor-requires geometric-factor-requires
     spacing-factor-requires driven-requires returns)

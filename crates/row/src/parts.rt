@@ -1,0 +1,44 @@
+// The parts of a row that decide its verdict: what its fault current does not change, and what it drives.
+ghost use mathlib.Core.Path.{_≡_};
+ghost use Rattle.case.specs.Bounds.{Bounds};
+ghost use Rattle.row.specs.Parts.{fixedOf, drivenOf};
+use crate::Driven;
+use crate::Fixed;
+use case::Case;
+
+// Df, what is tolerable, n, and the lengths and factors of mesh and step voltage.
+pub fn fixed_parts(c: Case) -> Fixed
+    requires { ⌜ Bounds c ⌝ }
+    ensures { λ r. ⌜ r ≡ fixedOf c ⌝ }
+{
+    let factor = decrement::factor_ends(c);
+    let tolerable = tolerable::touch_and_step(c);
+    let tolerable_touch = tolerable.touch;
+    let tolerable_step = tolerable.step;
+    let number = effective_number::effective_number(c.across, c.along);
+    Fixed {
+        factor,
+        tolerable_touch,
+        tolerable_step,
+        number,
+        mesh_length: mesh::mesh_length(c),
+        mesh_factor: mesh::geometric_factor(c, number),
+        step_length: step::step_length(c),
+        step_factor: step::spacing_factor(c, number),
+    }
+}
+
+// Grid current, mesh and step voltage, for the case's fixed parts.
+pub fn driven_parts(c: Case, fixed: Fixed) -> Driven
+    requires { ⌜ Bounds c ⌝ }
+    requires { ⌜ fixed ≡ fixedOf c ⌝ }
+    ensures { λ r. ⌜ r ≡ drivenOf c ⌝ }
+{
+    let current = current::grid_current(c, fixed.factor);
+    let drive = drive::drive(c, fixed.number, current);
+    Driven {
+        current,
+        mesh: mesh::mesh_voltage(c, fixed.mesh_length, fixed.mesh_factor, drive),
+        step: step::step_voltage(c, fixed.step_length, fixed.step_factor, drive),
+    }
+}
