@@ -15,8 +15,9 @@ use Rattle.listing.specs.{declared.Program.the-variants.{Verdict}, Programs.{pr
 use Rattle.fields.specs.{Refusal.{numbered, refusedText, unlessRefused}, Listed.{listed}}
 use Rattle.row_text.specs.{Verdict.{verdictNames, verdictFields}, Room.{textRoom}}
 use Rattle.sheet_text.specs.Texts.{verdictText}
-use Rattle.claims.specs.Printed.{Printed, rowLine, VerdictOutcome, rows, refused, short}
-use Rattle.claims.proofs.{Lines.{map-at}, Sheets.{cases-count}}
+use Rattle.claims.specs.Printed.{Printed, RowPrinted, VerdictOutcome, rows, refused, short}
+use Rattle.claims.proofs.{Lines.{map-at}, Sheets.{cases-count, bounds-at}, RowNumbers.{row-alone}}
+use Rattle.claims.specs.Words.{BreaksNone, caseAt}
 
 -- the line of a row
 abbrev line : Row → List ℕ
@@ -26,11 +27,15 @@ lines-of : (rs : List Row) → map parted (map verdictFields rs) ≡ map line rs
 lines-of [] = refl
 lines-of (r ∷ rs) = ap (λ (ls : List (List ℕ)). line r ∷ ls) (lines-of rs)
 
-line-at : (s : List ℕ) (i : ℕ) → i < length (cases s) → getD (map line (sheetRows s)) i [] ≡ rowLine s i
-unfolding verdictFields
+line-at : (s : List ℕ) (i : ℕ) → i < length (cases s) → getD (map line (sheetRows s)) i [] ≡ line (rowOf (caseAt s i))
 line-at s i h =
     let l : length (sheetRows s) ≡ length (cases s) = length-map (cases s) rowOf in
     map-at line (sheetRows s) i (rowOf (caseOf [])) [] (omega arith) ∙ ap line (map-at rowOf (cases s) i (caseOf []) (rowOf (caseOf [])) h)
+
+printed-row : (s : List ℕ) {n : ℕ} → BreaksNone s n → (i : ℕ) → i < n → i < length (cases s)
+    → RowPrinted (caseAt s i) (getD (map line (sheetRows s)) i [])
+unfolding verdictFields
+printed-row s b i l h = record { r = rowOf (caseAt s i); own-row = row-alone (bounds-at s b i l); is = line-at s i h }
 
 names-line : parted verdictNames ≡ bytes "station,season,verdict,kcmil"
 unfolding verdictNames parted moreFields
@@ -61,7 +66,7 @@ module _ {s before after : List ℕ} {r : ℕ} where
   shown room (Lines n) e q w =
       let k : n ≡ length (cases s) = cases-count s n e in
       rows n (map line (sheetRows s)) room e (length-map (sheetRows s) line ∙ length-map (cases s) rowOf ∙ sym k)
-      (λ i h. line-at s i (omega arith))
+      (λ i h. printed-row s e i h (omega arith))
       (at-start _ q w (ap (λ (ls : List (List ℕ)). textOf (parted verdictNames ∷ ls)) (lines-of (sheetRows s))
       ∙ ap (λ (l : List ℕ). textOf (l ∷ map line (sheetRows s))) names-line))
   shown room (Refused number line column) e q w = refused number line column room e (at-start _ q w (refusal-line number line column))
