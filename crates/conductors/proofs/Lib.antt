@@ -1,4 +1,4 @@
-mod Table
+pub mod Table
 mod WeightSpans
 pub mod LineRoots
 pub mod WeightWidths

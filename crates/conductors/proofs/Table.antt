@@ -16,7 +16,7 @@ use Rattle.conductors.specs.Weights.{eight}
 -- ---- what is computed
 
 -- m with q 2^m ≤ p < q 2^(m+1), counted up
-pub halved : ℕ → ℕ → ℕ
+unfoldable pub halved : ℕ → ℕ → ℕ
 halved p q = leastFrom (λ m. 2 * (q * 2 ^ m)) (p + 1) 6 0
 
 -- the lower and the upper end of ln(p/q)

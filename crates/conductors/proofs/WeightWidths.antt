@@ -69,7 +69,7 @@ module _ {a b : ℕ} (h : Counts a b) where
       )
       (natural-product {a = πBelow} {b = πAbove} (lit≤ tt) (omega (arith, order)) (lit< tt))
 
-  log-is : lnPair (oddEnds (nEnds a b)) eight ≡ natural (lnLow (oddLow l) eight) (lnHigh (oddHigh u) eight)
+  pub log-is : lnPair (oddEnds (nEnds a b)) eight ≡ natural (lnLow (oddLow (nLow a b)) eight) (lnHigh (oddHigh (nHigh a b)) eight)
   unfolding l u
   log-is =
       let k = spread-known h in
@@ -83,8 +83,9 @@ module _ {a b : ℕ} (h : Counts a b) where
 
   -- ---- the inner weight
 
-  exponent-is : eqb a b ≡ false
-      → innerExponent (nEnds a b) ≡ natural (exponentLow u (lnLow (l * 2) 10000000)) (exponentHigh l (lnHigh (u * 2) 10000000))
+  pub exponent-is : eqb a b ≡ false
+      → innerExponent (nEnds a b)
+      ≡ natural (exponentLow (nHigh a b) (lnLow (nLow a b * 2) 10000000)) (exponentHigh (nLow a b) (lnHigh (nHigh a b * 2) 10000000))
   unfolding innerExponent l u
   exponent-is e =
       let k = exponent-known h e in

@@ -1,7 +1,2 @@
-// What depends on the effective number n of parallel conductors alone: weights of mesh and step voltage.
-mod inner;
-mod weights;
-
-pub use inner::inner_weight;
-pub use weights::half_power;
-pub use weights::spread;
+// What depends on the effective number n of parallel conductors alone, weights of mesh and step voltage: definitions in specs/, laws in
+// proofs/. No code: that is the table of `by_counts`.

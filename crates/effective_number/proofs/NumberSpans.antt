@@ -1,42 +1,22 @@
 -- Sizes and widths of n and Ki, from the test.
 use Prim.Native.Nat.{ℕ, _+_, _-_, _*_, _/_, _^_, _≤_, _<_}
 use mathlib.Core.{Path.{_≡_}, Bool.{Bool, true, false, cond}}
-use native.Mathlib.{Omega.{arith}, Nat.{mul-le-mul}}
+use native.Mathlib.Omega.{arith}
 use lib.{Dec.{eqb}, IntN.{pos}}
 use Rattle.whole.specs.Whole.{ceilDiv}
-use Rattle.interval.specs.{Operations.{natural, point, scaledOf}, Span.{Span}}
+use Rattle.interval.specs.{Operations.{natural, point}, Span.{Span}}
 use Rattle.interval.proofs.Natural.{point-natural, natural-sum, natural-scaled, natural-outward}
-use Rattle.interval.proofs.Span.{span-natural, span-wider, span-scaled}
+use Rattle.interval.proofs.Span.{span-natural}
 use Rattle.enclosure.proofs.SquareRoot.{square-root-is}
 use Rattle.case.specs.Bounds.{Between}
-use Rattle.effective_number.specs.Counts.{Counts, spacings, halfPerimeter, meshes}
+use Rattle.effective_number.specs.Counts.{Counts, spacings, halfPerimeter}
 use Rattle.effective_number.specs.Number.{meshRoot, nbEnds, productEnds, nEnds, KiEnds}
 use Rattle.effective_number.proofs.Table.{rootAt, nbLow, nbHigh, nLow, nHigh, roots-known, number-known}
 
-less : {n : ℕ} → Between 2 n 25 → Between 1 (n - 1) 24
-less k = record { low = omega (arith, k .low); high = omega (arith, k .high) }
-
 module _ {a b : ℕ} (h : Counts a b) where
-  pub spacings-bounds : Between 4 (spacings a b) 1200
-  unfolding spacings
-  spacings-bounds =
-      let x : Between 1 (b - 1) 24 = less (h .along) in
-      let y : Between 1 (a - 1) 24 = less (h .across) in
-      record {
-        low = omega (arith, mul-le-mul (h .across .low) (x .low), mul-le-mul (h .along .low) (y .low));
-        high = omega (arith, mul-le-mul (h .across .high) (x .high), mul-le-mul (h .along .high) (y .high));
-      }
-
   pub half-bounds : Between 2 (halfPerimeter a b) 48
   unfolding halfPerimeter
   half-bounds = record { low = omega (arith, h .across .low, h .along .low); high = omega (arith, h .across .high, h .along .high) }
-
-  pub meshes-bounds : Between 1 (meshes a b) 576
-  unfolding meshes
-  meshes-bounds =
-      let x = less (h .across) in
-      let y = less (h .along) in
-      record { low = mul-le-mul (x .low) (y .low); high = mul-le-mul (x .high) (y .high) }
 
   -- ---- the roots
 
@@ -44,20 +24,9 @@ module _ {a b : ℕ} (h : Counts a b) where
   unfolding meshRoot
   mesh-root-is = square-root-is (roots-known h .mesh)
 
-  pub nb-is : nbEnds a b ≡ natural (nbLow a b) (nbHigh a b + 1)
+  nb-is : nbEnds a b ≡ natural (nbLow a b) (nbHigh a b + 1)
   unfolding nbEnds
   nb-is = rw (mesh-root-is, square-root-is (roots-known h .low), square-root-is (roots-known h .high))
-
-  pub nb-span : Span (nbEnds a b) 0 1700000000 1700000000
-  nb-span =
-      let r = roots-known h in
-      rw nb-is
-      (span-natural (nbLow a b) (nbHigh a b + 1) (omega arith) (omega (arith, r .order)) (omega (arith, r .most)) (omega (arith, r .most)))
-
-  pub scaled-span : Span (scaledOf (nbEnds a b) (spacings a b)) 0 2040000000000 2040000000000
-  scaled-span =
-      span-wider (span-scaled (spacings a b) nb-span) (omega arith) (omega (arith, spacings-bounds .high))
-      (omega (arith, spacings-bounds .high))
 
   -- ---- n
 

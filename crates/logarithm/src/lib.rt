@@ -3,7 +3,6 @@ use interval::Interval;
 use interval::Pair;
 ghost use mathlib.Core.Path.{_≡_};
 ghost use Prim.Native.Nat.{_+_, _≤_};
-ghost use Rattle.interval.specs.Span.{Span};
 ghost use Rattle.logarithm.specs.Ends.{most, Inside, halvingsOf, argumentOf, endOf, upEnds, lnEnds, lnPair};
 ghost use Rattle.logarithm.specs.Asked.{inside, Answered};
 
@@ -26,23 +25,6 @@ fn up_ends(p: u64, q: u64) -> Interval
         terms::end(0, r.times, r.argument),
         terms::end(1, r.times, r.argument + 1),
     )
-}
-
-// One end of ln (p/q), for q not above p: the lower where up is 0, the upper where it is 1.
-fn up_end(up: u64, p: u64, q: u64) -> u64
-    requires { ⌜ (up ≤ 1) × (Inside p × (Inside q × (q ≤ p))) ⌝ }
-    ensures { λ r. ⌜ r ≡ endOf up (halvingsOf p q) (argumentOf p q + up) ⌝ }
-{
-    let r = argument::reduce(p, q);
-    terms::end(up, r.times, r.argument + up)
-}
-
-// The ends of ln (x/q) for a pair x, not below q.
-pub fn ln_pair(x: Interval, q: u64) -> Interval
-    requires { ⌜ Inside q × Span x q most most ⌝ }
-    ensures { λ r. ⌜ r ≡ lnPair x q ⌝ }
-{
-    Interval::natural(up_end(0, x.lower as u64, q), up_end(1, x.upper as u64, q))
 }
 
 // The ends of ln (p/q), in billionths: below 1 it is minus ln (q/p).

@@ -2,10 +2,9 @@
 ghost use mathlib.Core.Path.{_≡_};
 ghost use Rattle.case.specs.Bounds.{Bounds};
 ghost use Rattle.mesh.specs.Factor.{argumentTop, argumentBottom, argumentLog, depthFactor, innerFactor, innerTerm, geometricFactor};
-ghost use Rattle.drive.specs.Ends.{numberOf};
+ghost use Rattle.by_counts.specs.Ends.{byCountsOf};
+use by_counts::ByCounts;
 use case::Case;
-use conductors::inner_weight;
-use conductors::spread;
 use enclosure::pi;
 use interval::Interval;
 use interval::root::root_ends;
@@ -44,36 +43,37 @@ pub fn depth_factor(c: Case) -> Interval
     root_ends((1000 + (c.depth as u64)) * 1000000000000000)
 }
 
-// Kii in 10^-9, for the case's n.
-pub fn inner_factor(c: Case, n: Interval) -> Interval
+// Kii in 10^-9, for what the case's counts give.
+pub fn inner_factor(c: Case, by: ByCounts) -> Interval
     requires { ⌜ Bounds c ⌝ }
-    requires { ⌜ n ≡ numberOf c ⌝ }
+    requires { ⌜ by ≡ byCountsOf c ⌝ }
     ensures { λ r. ⌜ r ≡ innerFactor c ⌝ }
 {
     if c.place == 1 {
         return Interval::point(1000000000);
     }
-    inner_weight(c.across, c.along, n)
+    by.inner
 }
 
 // (Kii/Kh)·ln(8/(π(2n−1))) in 10^-9.
-fn inner_term(c: Case, n: Interval) -> Interval
+fn inner_term(c: Case, by: ByCounts) -> Interval
     requires { ⌜ Bounds c ⌝ }
-    requires { ⌜ n ≡ numberOf c ⌝ }
+    requires { ⌜ by ≡ byCountsOf c ⌝ }
     ensures { λ r. ⌜ r ≡ innerTerm c ⌝ }
 {
-    let ratio = inner_factor(c, n).quotient(depth_factor(c), 1000000000);
-    ratio.product(spread(n), 1000000000)
+    let ratio = inner_factor(c, by).quotient(depth_factor(c), 1000000000);
+    let spread = by.spread;
+    ratio.product(spread, 1000000000)
 }
 
 // Km in 10^-7.
-pub fn geometric_factor(c: Case, n: Interval) -> Interval
+pub fn geometric_factor(c: Case, by: ByCounts) -> Interval
     requires { ⌜ Bounds c ⌝ }
-    requires { ⌜ n ≡ numberOf c ⌝ }
+    requires { ⌜ by ≡ byCountsOf c ⌝ }
     ensures { λ r. ⌜ r ≡ geometricFactor c ⌝ }
 {
     let turn = pi().scaled(2);
     argument_log(c)
-        .sum(inner_term(c, n))
+        .sum(inner_term(c, by))
         .quotient(turn, 10000000)
 }

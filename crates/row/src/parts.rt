@@ -15,16 +15,17 @@ pub fn fixed_parts(c: Case) -> Fixed
     let tolerable = tolerable::touch_and_step(c);
     let tolerable_touch = tolerable.touch;
     let tolerable_step = tolerable.step;
-    let number = effective_number::effective_number(c.across, c.along);
+    let by = by_counts::by_counts(c.across, c.along);
+    let number = by.n;
     Fixed {
         factor,
         tolerable_touch,
         tolerable_step,
         number,
         mesh_length: mesh::mesh_length(c),
-        mesh_factor: mesh::geometric_factor(c, number),
+        mesh_factor: mesh::geometric_factor(c, by),
         step_length: step::step_length(c),
-        step_factor: step::spacing_factor(c, number),
+        step_factor: step::spacing_factor(c, by),
     }
 }
 

@@ -2,11 +2,12 @@
 ghost use mathlib.Core.Path.{_≡_};
 ghost use Prim.Native.Nat.{_<_, _^_};
 ghost use Rattle.case.specs.Bounds.{Bounds};
-ghost use Rattle.drive.specs.Ends.{numberOf, driveEnds};
+ghost use Rattle.drive.specs.Ends.{driveEnds};
+ghost use Rattle.by_counts.specs.Ends.{byCountsOf};
 ghost use Rattle.step.specs.Ends.{perMetre, powerOfTwo, shareEnds, spacingSum, spacingFactor, stepLength, drivenEnds};
 ghost use Rattle.step.specs.Ends.{stepVoltageEnds};
+use by_counts::ByCounts;
 use case::Case;
-use conductors::half_power;
 use enclosure::pi;
 use interval::Interval;
 use lengths::conductor_length;
@@ -29,10 +30,10 @@ fn power_of_two(c: Case) -> u64
     1u64 << (c.across - 2)
 }
 
-// (1 − 0.5^(n−2))/D in 10^-9 per metre, for the case's n: of a square by the power of two, else by the half-power.
-fn spacing_share(c: Case, n: Interval) -> Interval
+// (1 − 0.5^(n−2))/D in 10^-9 per metre, for what the case's counts give: of a square by the power of two, else by the half-power.
+fn spacing_share(c: Case, by: ByCounts) -> Interval
     requires { ⌜ Bounds c ⌝ }
-    requires { ⌜ n ≡ numberOf c ⌝ }
+    requires { ⌜ by ≡ byCountsOf c ⌝ }
     ensures { λ r. ⌜ r ≡ shareEnds c ⌝ }
 {
     let space = c.space as u64;
@@ -40,29 +41,30 @@ fn spacing_share(c: Case, n: Interval) -> Interval
         let p = power_of_two(c);
         return per_metre(p - 1, p * space);
     }
-    let rest = Interval::point(1000000000).difference(half_power(n));
+    let half = by.half;
+    let rest = Interval::point(1000000000).difference(half);
     rest.quotient(Interval::point(space), 1000)
 }
 
 // 1/(2h) + 1/(D+h) + (1 − 0.5^(n−2))/D in 10^-9 per metre.
-fn spacing_sum(c: Case, n: Interval) -> Interval
+fn spacing_sum(c: Case, by: ByCounts) -> Interval
     requires { ⌜ Bounds c ⌝ }
-    requires { ⌜ n ≡ numberOf c ⌝ }
+    requires { ⌜ by ≡ byCountsOf c ⌝ }
     ensures { λ r. ⌜ r ≡ spacingSum c ⌝ }
 {
     let depth = c.depth as u64;
     let space = c.space as u64;
     let by_depth = per_metre(1, 2 * depth).sum(per_metre(1, space + depth));
-    by_depth.sum(spacing_share(c, n))
+    by_depth.sum(spacing_share(c, by))
 }
 
 // Ks in 10^-7 per metre.
-pub fn spacing_factor(c: Case, n: Interval) -> Interval
+pub fn spacing_factor(c: Case, by: ByCounts) -> Interval
     requires { ⌜ Bounds c ⌝ }
-    requires { ⌜ n ≡ numberOf c ⌝ }
+    requires { ⌜ by ≡ byCountsOf c ⌝ }
     ensures { λ r. ⌜ r ≡ spacingFactor c ⌝ }
 {
-    spacing_sum(c, n).quotient(pi(), 10000000)
+    spacing_sum(c, by).quotient(pi(), 10000000)
 }
 
 // LS in twentieths of a millimetre.

@@ -84,7 +84,8 @@ fn work(c: Case) -> Quantities
     ensures { λ r. ⌜ r ≡ workingOf c ⌝ }
 {
     let current = current::grid_current(c, decrement::factor_ends(c));
-    let n = effective_number::effective_number(c.across, c.along);
+    let by = by_counts::by_counts(c.across, c.along);
+    let n = by.n;
     let drive = drive::drive(c, n, current);
     let lm = mesh::mesh_length(c);
     Quantities {
@@ -98,10 +99,10 @@ fn work(c: Case) -> Quantities
         ls: step_in_micrometres(c),
         n,
         ki: effective_number::irregularity(n),
-        kii: mesh::inner_factor(c, n),
+        kii: mesh::inner_factor(c, by),
         kh: mesh::depth_factor(c),
-        km: mesh::geometric_factor(c, n),
-        ks: step::spacing_factor(c, n),
+        km: mesh::geometric_factor(c, by),
+        ks: step::spacing_factor(c, by),
         driven: mesh::driven(c, lm, drive),
     }
 }

@@ -3,7 +3,7 @@ use native.Mathlib.Omega.{arith}
 use lib.Dec.{lit<}
 use borrow.Author.{Tests.{eq-eqb, ne-eqb}, Needs.{needs}}
 use Rattle.interval.proofs.{Fits.{fits-below}, SpanFits.{sum-fits}, Rules.{lits}, NumeralSpans.{numeral-quotient-fits}}
-use Rattle.effective_number.proofs.{NumberSpans.{n-span}, NumberEnclosed.{counts}}
+use Rattle.effective_number.proofs.NumberEnclosed.{counts}
 use Rattle.conductors.proofs.WeightWidths.{half-span}
 use Rattle.step.specs.Ends.{shareEnds}
 use Rattle.step.proofs.FactorSpans.{power-bounds, divisor-bounds, one-span, rest-span, space-span}
@@ -29,31 +29,40 @@ returns : tie.Need-returns
 unfolding shareEnds
 returns c = rw (eq-eqb _ _ (c .before .before .if1 .taken)) (cc)
 
-half-power-requires : tie.Need-half-power-requires
-half-power-requires c κs =
-    let s = c .before .before .before .before in
-    rw (s .pre .1) (n-span (counts (s .pre .0)))
-
 difference-requires : tie.Need-difference-requires
 difference-requires c κs =
-    let p = c .before in
-    let s = p .before .before .before .before in
-    rw (c .half-power .ensures, p .point .ensures, s .pre .1)
-    (sum-fits (lit< tt) one-span (half-span (counts (s .pre .0)) (ne-eqb _ _ (p .before .if1 .left))))
+    let e = c .before .before in
+    let s = e .before .before .before in
+    rw (c .point .ensures, s .pre .1)
+    (sum-fits (lit< tt) one-span (half-span (counts (s .pre .0)) (ne-eqb _ _ (e .if1 .left))))
 
 quotient-requires : tie.Need-quotient-requires
 quotient-requires c κs =
     let d = c .before in
-    let p = d .before .before in
-    let s = p .before .before .before .before in
-    rw (c .point2 .ensures, d .difference .ensures, d .before .half-power .ensures, p .point .ensures, s .pre .1)
-    (numeral-quotient-fits (lits tt) (rest-span (s .pre .0) (ne-eqb _ _ (p .before .if1 .left))) (space-span (s .pre .0)))
+    let p = d .before in
+    let e = p .before .before in
+    let s = e .before .before .before in
+    rw (c .point2 .ensures, d .difference .ensures, p .point .ensures, s .pre .1)
+    (numeral-quotient-fits (lits tt) (rest-span (s .pre .0) (ne-eqb _ _ (e .if1 .left))) (space-span (s .pre .0)))
 
 returns-2 : tie.Need-returns-2
 unfolding shareEnds
-returns-2 c = rw (ne-eqb _ _ (c .before .before .before .before .before .if1 .left)) (cc)
+returns-2 c =
+    let q = c .before in
+    let d = q .before in
+    let p = d .before in
+    let e = p .before .before in
+    let s = e .before .before .before in
+    rw (
+      ne-eqb _ _ (e .if1 .left),
+      c .quotient .ensures,
+      q .point2 .ensures,
+      d .difference .ensures,
+      p .point .ensures,
+      s .pre .1,
+    )
 
 pub spacing-share-spec : {M : Type 1} → statement M
 spacing-share-spec =
     tie.close (tie.spec (λ c. search needs) (λ c κs. search needs) sub-per-metre mul-per-metre per-metre-requires returns
-    (λ c κs. search needs) half-power-requires difference-requires (λ c κs. search needs) quotient-requires returns-2)
+    (λ c κs. search needs) difference-requires (λ c κs. search needs) quotient-requires returns-2)

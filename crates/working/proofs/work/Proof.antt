@@ -19,10 +19,16 @@ abbrev weighed : tie.After-spacing-factor → tie.After-in-micrometres3
 weighed c = c .before .before .before .before .before .before
 
 abbrev started : tie.After-drive → tie.Start
-started c = c .before .before .before .before
+started c = c .before .before .before .before .before
 
-effective-number-requires : tie.Need-effective-number-requires
-effective-number-requires c κs = counts (c .before .before .pre)
+abbrev counted : tie.After-drive → tie.After-by-counts
+counted c = c .before .before
+
+by-counts-requires : tie.Need-by-counts-requires
+by-counts-requires c κs = counts (c .before .before .pre)
+
+drive-requires : tie.Need-drive-requires
+drive-requires c κs = let b = c .before in (b .before .before .before .pre, (rw (b .by-counts .ensures), b .before .grid-current .ensures))
 
 in-micrometres-requires : tie.Need-in-micrometres-requires
 in-micrometres-requires c κs =
@@ -44,21 +50,21 @@ step-in-micrometres-requires : tie.Need-step-in-micrometres-requires
 step-in-micrometres-requires c κs = started (driven-from c) .pre
 
 irregularity-requires : tie.Need-irregularity-requires
-irregularity-requires c κs = let d = driven-from (c .before) in rw (d .before .effective-number .ensures) (n-span (counts (started d .pre)))
+irregularity-requires c κs = let d = driven-from (c .before) in rw (counted d .by-counts .ensures) (n-span (counts (started d .pre)))
 
 inner-factor-requires : tie.Need-inner-factor-requires
-inner-factor-requires c κs = let d = driven-from (c .before .before) in (started d .pre, d .before .effective-number .ensures)
+inner-factor-requires c κs = let d = driven-from (c .before .before) in (started d .pre, counted d .by-counts .ensures)
 
 depth-factor-requires : tie.Need-depth-factor-requires
 depth-factor-requires c κs = started (driven-from (c .before .before .before)) .pre
 
 geometric-factor-requires : tie.Need-geometric-factor-requires
 geometric-factor-requires c κs =
-    let d = driven-from (c .before .before .before .before) in (started d .pre, d .before .effective-number .ensures)
+    let d = driven-from (c .before .before .before .before) in (started d .pre, counted d .by-counts .ensures)
 
 spacing-factor-requires : tie.Need-spacing-factor-requires
 spacing-factor-requires c κs =
-    let d = driven-from (c .before .before .before .before .before) in (started d .pre, d .before .effective-number .ensures)
+    let d = driven-from (c .before .before .before .before .before) in (started d .pre, counted d .by-counts .ensures)
 
 driven-requires : tie.Need-driven-requires
 driven-requires c κs =
@@ -98,13 +104,13 @@ returns c =
       x .time-root .ensures,
       y .layer-factor .ensures,
       y .before .mesh-length .ensures,
-      y .before .before .before .effective-number .ensures,
+      counted (y .before .before) .by-counts .ensures,
     )
 
 pub work-spec : {M : Type 1} → statement M
 work-spec =
-    tie.close (tie.spec (λ c κs. search needs) (λ c κs. search needs) effective-number-requires (λ c κs. search needs)
-    (λ c κs. search needs) (λ c κs. search needs) (λ c κs. search needs) (λ c κs. search needs) (λ c κs. search needs)
-    in-micrometres-requires (λ c κs. search needs) in-micrometres-requires-2 (λ c κs. search needs) in-micrometres-requires-3
+    tie.close (tie.spec (λ c κs. search needs) (λ c κs. search needs) by-counts-requires drive-requires (λ c κs. search needs)
+    (λ c κs. search needs) (λ c κs. search needs) (λ c κs. search needs) (λ c κs. search needs) in-micrometres-requires
+    (λ c κs. search needs) in-micrometres-requires-2 (λ c κs. search needs) in-micrometres-requires-3
     step-in-micrometres-requires irregularity-requires inner-factor-requires depth-factor-requires geometric-factor-requires
     spacing-factor-requires driven-requires returns)

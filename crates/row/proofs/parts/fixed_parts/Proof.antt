@@ -11,14 +11,14 @@ returns c =
     let l = c .before in
     let k = l .before in
     let m = k .before in
-    let n = m .before in
+    let n = m .before .before in
     let t = n .before .before .before in
     rw (
       c .spacing-factor .ensures,
       l .step-length .ensures,
       k .geometric-factor .ensures,
       m .mesh-length .ensures,
-      n .effective-number .ensures,
+      n .by-counts .ensures,
       t .touch-and-step .ensures,
       t .before .factor-ends .ensures,
     )
