@@ -18,15 +18,20 @@ use Rattle.conversion.specs.declared.Carried.{the-variants.{Bytes, Refused}, Ca
 use Rattle.conversion.specs.Answer.{carriedText, roomAnswer, refusedOr, answer, bufferAfter, Answered}
 use Rattle.conversion.proofs.RoundTrip as trip
 use Rattle.claims.specs.Words.{Breaks}
-use Rattle.claims.specs.Carried.{AcceptedIn, lineIn, Into, Returns, Held, times, counts, hertz, Goes, NewSheet, Written, CarryOutcome}
-use Rattle.claims.specs.Carried.{rule, held, short, carried, BackOutcome}
+use Rattle.claims.specs.Carried.{AcceptedIn, Goes, NewSheet, Written, CarryOutcome, rule, held, short, carried, Restored, BackOutcome}
 use Rattle.claims.specs.Carried as claim
+use Rattle.claims.proofs.OwnLines.{valuesIn}
+use Rattle.claims.proofs.CarriedLines.{map-at, line-values, into, own-kept, others-kept, TimesIn, CountsIn, HertzIn, HeldIn}
+use Rattle.claims.proofs.CarriedLines.{times, counts, hertz, returns-at, held-at}
 
 -- ---- the lines on the way back
 
+abbrev ReturnsIn : List ℕ → Type 0
+ReturnsIn v = TimesIn v × CountsIn v × HertzIn v
+
 data Changed (vs : List (List ℕ)) (k : ℕ) : Judgement → Type 0 where
-  none : ((i : ℕ) → i < length vs → Returns (getD vs i [])) → Changed vs k (judged.Lines 0)
-  first : {n : ℕ} (line i : ℕ) → line ≡ i + k → i < length vs → ((j : ℕ) → j < i → Returns (getD vs j [])) → Held (getD vs i []) n
+  none : ((i : ℕ) → i < length vs → ReturnsIn (getD vs i [])) → Changed vs k (judged.Lines 0)
+  first : {n : ℕ} (line i : ℕ) → line ≡ i + k → i < length vs → ((j : ℕ) → j < i → ReturnsIn (getD vs j [])) → HeldIn (getD vs i []) n
       → Changed vs k (judged.Refused n line 0)
 
 -- one line, and what the later ones leave
@@ -40,18 +45,18 @@ line-changed v vs k {later} c =
     the : String → ℕ
     the name = named columns v name
 
-    here : {n : ℕ} → Held v n → Changed (v ∷ vs) k (judged.Refused n k 0)
+    here : {n : ℕ} → HeldIn v n → Changed (v ∷ vs) k (judged.Refused n k 0)
     here h = first k 0 (omega arith) (omega arith) (λ j l. absurd (omega arith)) h
 
-    past : Returns v → {j : Judgement} → Changed vs (suc k) j → Changed (v ∷ vs) k j
+    past : ReturnsIn v → {j : Judgement} → Changed vs (suc k) j → Changed (v ∷ vs) k j
     past r (none all) = none each
       where
-        each : (i : ℕ) → i < suc (length vs) → Returns (getD (v ∷ vs) i [])
+        each : (i : ℕ) → i < suc (length vs) → ReturnsIn (getD (v ∷ vs) i [])
         each zero l = r
         each (suc i) l = all i (omega arith)
     past r (first line i e l b h) = first line (suc i) (omega arith) (omega arith) before h
       where
-        before : (j : ℕ) → j < suc i → Returns (getD (v ∷ vs) j [])
+        before : (j : ℕ) → j < suc i → ReturnsIn (getD (v ∷ vs) j [])
         before zero g = r
         before (suc j) g = b j (omega arith)
 
@@ -69,38 +74,6 @@ unfolding changesFrom
 changed k [] = none (λ i l. absurd (omega arith))
 changed k (v ∷ vs) = line-changed v vs k (changed (suc k) vs)
 
--- ---- the new sheet, column by column
-
-map-at : (f : List ℕ → List ℕ) (vs : List (List ℕ)) (i : ℕ) → i < length vs → getD (map f vs) i [] ≡ f (getD vs i [])
-map-at f [] i h = absurd (omega arith)
-map-at f (v ∷ vs) zero h = refl
-map-at f (v ∷ vs) (suc i) h = map-at f vs i (omega arith)
-
-into : (form : Form) (s text : List ℕ) (i : ℕ) → lineIn form text i ≡ carriedValues form (lineIn (other form) s i) → Into form s text i
-unfolding carriedValues other formOf presentValues formerValues columns formerColumns named nameIndex same
-into Present s text i e =
-    record {
-      shock = rw e;
-      clear = rw e;
-      wire = rw e;
-      across = rw e;
-      along = rw e;
-      hz = rw e;
-      others = rw e
-          (refl then refl then refl then refl then refl then refl then refl then refl then refl then refl then refl then refl then refl then
-          refl
-          then refl then refl then tt);
-    }
-into Former s text i e =
-    record {
-      ms = rw e;
-      lines = rw e;
-      others = rw e
-          (refl then refl then refl then refl then refl then refl then refl then refl then refl then refl then refl then refl then refl then
-          refl
-          then refl then refl then tt);
-    }
-
 -- ---- a sheet that its own form accepts
 
 module _ (form : Form) (s : List ℕ) (n : ℕ) (e : AcceptedIn (other form) s n) where
@@ -108,18 +81,28 @@ module _ (form : Form) (s : List ℕ) (n : ℕ) (e : AcceptedIn (other form) s n
   unfolding casesIn
   lines-count = length-map (valueLines s) _ ∙ sym (accepted (formOf (other form)) s n e .count)
 
-  line-into : (i : ℕ) → i < n → lineIn form (carriedText form s) i ≡ carriedValues form (lineIn (other form) s i)
-  line-into i l =
-      ap (λ (vs : List (List ℕ)). getD vs i []) (trip.carried-over form s n e)
-      ∙ map-at (carriedValues form) (casesIn (formOf (other form)) s) i (omega (arith, lines-count))
+  abbrev text : List ℕ
+  text = carriedText form s
 
-  new-sheet : NewSheet form s (carriedText form s) n
+  line-into : (i : ℕ) → i < n → valuesIn (formOf form) text i ≡ carriedValues form (valuesIn (formOf (other form)) s i)
+  line-into i l =
+      let a = accepted (formOf form) text n (trip.carried-accepted form s n e) in
+      let b = accepted (formOf (other form)) s n e in
+      sym (line-values (formOf form) text i (omega (arith, a .count)))
+      ∙ ap (λ (vs : List (List ℕ)). getD vs i []) (trip.carried-over form s n e)
+      ∙ map-at (carriedValues form) (casesIn (formOf (other form)) s) i (omega (arith, lines-count))
+      ∙ ap (carriedValues form) (line-values (formOf (other form)) s i (omega (arith, b .count)))
+
+  new-sheet : NewSheet form s text n
   new-sheet =
+      let a = trip.carried-accepted form s n e in
       record {
-        accepted = trip.carried-accepted form s n e;
+        accepted = a;
         few-bytes = trip.carried-short form s n e;
         order = trip.carried-names form s n e;
-        values = λ i l. into form s (carriedText form s) i (line-into i l);
+        values = λ i l.
+            into form s text (accepted (formOf (other form)) s n e .names-sound) (accepted (formOf form) text n a .names-sound) i
+            (line-into i l);
       }
 
 -- ---- the buffer
@@ -155,10 +138,27 @@ back-way : {s before after : List ℕ} {n : ℕ} {j : Judgement} → AcceptedIn 
     → after ≡ bufferAfter Former s before (refusedOr j (roomAnswer (carriedText Former s) (length before)))
     → CarryOutcome Former s before after (refusedOr j (roomAnswer (carriedText Former s) (length before)))
 unfolding refusedOr bufferAfter formOf other
-back-way {s} {n = n} a (none all) b = roomed (record { accepted = a; returns = λ e i l. all i (omega (arith, lines-count Former s n a)) }) b
+back-way {s} {n = n} a (none all) b =
+    let c = accepted columns s n a in
+    roomed (record {
+      accepted = a;
+      returns = λ e i l.
+          returns-at s (c .names-sound) i
+          (rw (line-values columns s i (omega (arith, c .count))) at (all i (omega (arith, lines-count Former s n a))));
+    }) b
 back-way {s} {n = n} a (first line i e l before h) b =
-    rw e (held {i = i} (record { back = refl; lines = n; accepted = a; within = omega (arith, lines-count Former s n a); before = before })
-    h b)
+    let c = accepted columns s n a in
+    let within : i < n = omega (arith, lines-count Former s n a) in
+    rw e
+    (held {i = i}
+    (record {
+      back = refl;
+      lines = n;
+      accepted = a;
+      within = within;
+      before = λ j k. returns-at s (c .names-sound) j (rw (line-values columns s j (omega (arith, c .count))) at (before j k));
+    })
+    (held-at s (c .names-sound) i (rw (line-values columns s i (omega (arith, c .count))) at h)) b)
 
 not-back : Present ≡ Former → ⊥
 not-back e = clash cc
@@ -199,6 +199,28 @@ passed : {count : ℕ} (j : Judgement) (next : Carried) → Bytes count ≡ refu
 unfolding refusedOr
 passed (judged.Lines n) next e = (n, refl, e)
 passed (judged.Refused n l c) next e = clash cc
+
+-- the sheet that comes back has the values of the first
+sheet-restored : (form : Form) (s : List ℕ) (n : ℕ) → AcceptedIn (other form) s n → {k : ℕ}
+    → changes form (casesIn (formOf (other form)) s) ≡ judged.Lines k
+    → Restored (other form) s (carriedText (other form) (carriedText form s)) n
+sheet-restored form s n e c =
+    let text = carriedText (other form) (carriedText form s) in
+    let back : AcceptedIn (other form) text n
+    = trip.carried-accepted (other form) (carriedText form s) n (rw (other-twice form) (trip.carried-accepted form s n e)) in
+    let a = accepted (formOf (other form)) s n e in
+    let b = accepted (formOf (other form)) text n back in
+    let same : (i : ℕ) → i < n → valuesIn (formOf (other form)) text i ≡ valuesIn (formOf (other form)) s i
+    = λ i l.
+    sym (line-values (formOf (other form)) text i (omega (arith, b .count)))
+    ∙ ap (λ (vs : List (List ℕ)). getD vs i []) (trip.sheet-restored form s n e c)
+    ∙ line-values (formOf (other form)) s i (omega (arith, a .count)) in
+    record {
+      source = e;
+      accepted = back;
+      own = λ i l. own-kept s text i (other form) (a .names-sound) (b .names-sound) (same i l);
+      others = λ i l. others-kept s text i (other form) (a .names-sound) (b .names-sound) (same i l);
+    }
 
 -- the bytes of the way there
 text-of : {form : Form} {s before after : List ℕ} {k : ℕ} → CarryOutcome form s before after (Bytes k) → take k after ≡ carriedText form s
@@ -242,10 +264,9 @@ module _ {form : Form} {s before after : List ℕ} {k : ℕ} (h : Answered form 
               → BackOutcome form s text before′ after′ (cond t (Refused 8 0 0) (Bytes (length (carriedText (other form) text))))
           go true q e = claim.short (ltb-true (length before′) (length (carriedText (other form) text)) q)
           go false q e =
-              claim.restored
-              (ap (casesIn (formOf (other form))) (ap (take (length (carriedText (other form) text))) e ∙ take-at
-              (carriedText (other form) text) _ _ refl)
-              ∙ trip.sheet-restored form s (source .0) (source .1) (changed-none .1))
+              claim.restored {lines = source .0} {count = length (carriedText (other form) text)}
+              (rw (ap (take (length (carriedText (other form) text))) e ∙ take-at (carriedText (other form) text) _ _ refl)
+              (sheet-restored form s (source .0) (source .1) (changed-none .1)))
 
 -- ---- request (a): a sheet of document 01's names is none of today's
 

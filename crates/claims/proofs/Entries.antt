@@ -96,7 +96,7 @@ module _ {s licence : List ℕ} {before after : List ℤ} where
       go (released.Pairs m) o t = in-c (answer.Rows m) t o
       go (released.Refused k l c) o t = in-c (answer.Refused k l c) t (release-number o, o)
 
-held-number : {v : List ℕ} {number : ℕ} → carrying.Held v number → 1 ≤ number
+held-number : {s : List ℕ} {i number : ℕ} → carrying.Held s i number → 1 ≤ number
 held-number (carrying.times t) = omega arith
 held-number (carrying.counts t c) = omega arith
 held-number (carrying.hertz t c h) = omega arith

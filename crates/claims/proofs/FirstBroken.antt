@@ -26,6 +26,7 @@ use Rattle.claims.specs.Order.{WrongText, WrongCount, OutOfRange, LayerA
 use Rattle.claims.specs.Order.{Agrees, FirstBroken, NoneBroken}
 use Rattle.claims.specs.Order as rule
 use Rattle.claims.proofs.{OnePlace.{one-column, one-number, one-place, none-or-first}, OwnLines.{value-at}}
+use Rattle.claims.proofs.OwnLines.{columnsIn, valuesIn, stand, columns-count, values-count, names-right, stands-at, under}
 
 not-both : {b : Bool} → b ≡ true → b ≡ false → ⊥
 not-both p q = clash cc
@@ -73,42 +74,25 @@ text-kept s b = let t = text-right today s b in go (t .some) (t .most) (t .last)
 
 module _ (form : Form) (k : Known form) (s : List ℕ) (right : wrongColumn form s ≡ 0) where
   abbrev at : List ℕ
-  at = columnsOf form (names s)
+  at = columnsIn form s
 
   abbrev valuesAt : ℕ → List ℕ
-  valuesAt i = lineValues at (fieldsAt s i)
+  valuesAt i = valuesIn form s i
 
-  stand : Named form (names s) at
-  stand = names-stand form (names s) right
+  stood : Named form (names s) at
+  stood = stand form s right
 
-  columns-count : length at ≡ length form
-  columns-count = header-accepted form (names s) right .count
+  counted : length at ≡ length form
+  counted = columns-count form s right
 
   columns-some : Some at
-  columns-some = some-columns at (length form) columns-count (header-accepted form (names s) right .some)
+  columns-some = some-columns at (length form) counted (header-accepted form (names s) right .some)
 
-  values-count : (i : ℕ) → length (valuesAt i) ≡ length form
-  unfolding lineValues
-  values-count i = length-map at _ ∙ columns-count
+  right-names : None (WrongName form (names s))
+  right-names = names-right form s right
 
-  names-right : None (WrongName form (names s))
-  names-right = no-wrong-name stand
-
-  -- the number under a name
-  stands-at : (name : String) → nameIndex form (bytes name) < length form → StandsAt (names s) (bytes name) (named form at name)
-  unfolding named
-  stands-at name h =
-      let t = name-stands stand (nameIndex form (bytes name)) h in
-      record { first = t .first; last = t .last; is = t .is ∙ sym (index-name form (bytes name) h) }
-
-  under : (i : ℕ) (name : String) → nameIndex form (bytes name) < length form → Under s i name (named form (valuesAt i) name)
-  unfolding named
-  under i name h =
-      record {
-        column = getD at (nameIndex form (bytes name)) 0;
-        named = stands-at name h;
-        number = value-at at (fieldsAt s i) (nameIndex form (bytes name)) (omega (arith, columns-count));
-      }
+  under-name : (i : ℕ) (name : String) → nameIndex form (bytes name) < length form → Under s i name (named form (valuesAt i) name)
+  under-name i name h = under form s right name h i
 
   module _ (i : ℕ) where
     abbrev v : List ℕ
@@ -116,23 +100,23 @@ module _ (form : Form) (k : Known form) (s : List ℕ) (right : wrongColumn form
 
     module _ (name : String) (h : nameIndex form (bytes name) < length form) where
       zero-under : named form v name ≡ 0 → Under s i name 0
-      zero-under e = rw e at (under i name h)
+      zero-under e = rw e at (under-name i name h)
 
       under-zero : Under s i name 0 → named form v name ≡ 0
-      under-zero u = one-number names-right (under i name h) u
+      under-zero u = one-number right-names (under-name i name h) u
 
     -- ---- 5
 
     outside-at : {c : ℕ} (o : OutOfRange form s i c)
         → (c ≡ getD at (o .index) 0) × (inRange (rangeAt form (o .index)) (getD v (o .index) 0) ≡ false)
     outside-at o =
-        let e = one-column names-right (o .named) (name-stands stand (o .index) (o .known)) in
-        let q = value-at at (fieldsAt s i) (o .index) (omega (arith, columns-count, o .known)) in
+        let e = one-column right-names (o .named) (name-stands stood (o .index) (o .known)) in
+        let q = value-at at (fieldsAt s i) (o .index) (omega (arith, counted, o .known)) in
         (e, rw (q, ← e) (o .outside))
 
     ranges-kept : outOfRange form at v ≡ 0 → None (OutOfRange form s i)
     ranges-kept z c o =
-        not-both (passed _ (in-range-at form v (values-count i) (in-range form at v columns-count columns-some z) (o .index)))
+        not-both (passed _ (in-range-at form v (values-count form s right i) (in-range form at v counted columns-some z) (o .index)))
         (outside-at o .1)
 
     leftmost-outside : (outOfRange form at v ≡ 0 → ⊥) → Leftmost (OutOfRange form s i) (outOfRange form at v)
@@ -140,18 +124,18 @@ module _ (form : Form) (k : Known form) (s : List ℕ) (right : wrongColumn form
       where
         here : RangeBroken form at v (outOfRange form at v) → OutOfRange form s i (outOfRange form at v)
         here r =
-            let q = value-at at (fieldsAt s i) (r .name) (omega (arith, columns-count, r .known)) in
+            let q = value-at at (fieldsAt s i) (r .name) (omega (arith, counted, r .known)) in
             record {
               index = r .name;
               known = r .known;
-              named = rw (r .column-is) (name-stands stand (r .name) (r .known));
+              named = rw (r .column-is) (name-stands stood (r .name) (r .known));
               outside = rw (r .column-is, ← q) (r .outside);
             }
 
         first : (left : ℕ) → left < outOfRange form at v → ¬ OutOfRange form s i left
         first left h o =
             let e = outside-at o in
-            omega (arith, e .0, range-leftmost form at v columns-count (values-count i) columns-some (o .index) (o .known) (e .1))
+            omega (arith, e .0, range-leftmost form at v counted (values-count form s right i) columns-some (o .index) (o .known) (e .1))
 
     -- ---- 6
 
@@ -212,17 +196,17 @@ module _ (form : Form) (k : Known form) (s : List ℕ) (right : wrongColumn form
           earlier = h;
           station = named form (valuesAt j) "station";
           season = named form (valuesAt j) "season";
-          here = (rw (q .0) at (under i "station" (k .station)), rw (q .1) at (under i "season" (k .season)));
-          there = (under j "station" (k .station), under j "season" (k .season));
+          here = (rw (q .0) at (under-name i "station" (k .station)), rw (q .1) at (under-name i "season" (k .season)));
+          there = (under-name j "station" (k .station), under-name j "season" (k .season));
         }
 
     new-key : ((j : ℕ) → j < i → sameKey form v (valuesAt j) ≡ false) → ¬ Repeats s i
     unfolding sameKey
     new-key h r =
-        let p = one-number names-right (under i "station" (k .station)) (r .here .0)
-        ∙ one-number names-right (r .there .0) (under (r .line) "station" (k .station)) in
-        let q = one-number names-right (under i "season" (k .season)) (r .here .1)
-        ∙ one-number names-right (r .there .1) (under (r .line) "season" (k .season)) in
+        let p = one-number right-names (under-name i "station" (k .station)) (r .here .0)
+        ∙ one-number right-names (r .there .0) (under-name (r .line) "station" (k .station)) in
+        let q = one-number right-names (under-name i "season" (k .season)) (r .here .1)
+        ∙ one-number right-names (r .there .1) (under-name (r .line) "season" (k .season)) in
         not-both (rw (eq-eqb _ _ p, eq-eqb _ _ q)) (h (r .line) (r .earlier))
 
     -- ---- the line
@@ -271,11 +255,11 @@ module _ (form : Form) (k : Known form) (s : List ℕ) (right : wrongColumn form
     by-finding (line.layer-differs f o q) e =
         told e
         (rule.layer (record { values = no-wrong-value (right-values (length form) (fieldsAt s i) f); ranges = ranges-kept i o })
-        (layer-broken i q) (stands-at "layer" (k .layer)))
+        (layer-broken i q) (stands-at form s right "layer" (k .layer)))
     by-finding (line.rods-differ f o a q) e =
         told e
         (rule.rods (record { values = no-wrong-value (right-values (length form) (fieldsAt s i) f); ranges = ranges-kept i o })
-        (layer-kept i a) (rods-broken i q) (stands-at "rods" (k .rods)))
+        (layer-kept i a) (rods-broken i q) (stands-at form s right "rods" (k .rods)))
     by-finding (line.repeated a q) e =
         told e (rule.repeated (agrees i a) (repeated-at (repeats-line form at (valuesAt i) [] (valueLines s) i (r .within) q)))
 
@@ -289,9 +273,6 @@ count-kept p q place (rule.none e) = p e
 count-kept p q place (rule.many h) = omega arith
 
 module _ (form : Form) (k : Known form) (s : List ℕ) where
-  abbrev columnsIn : List ℕ
-  columnsIn = columnsOf form (names s)
-
   pub first-broken : {number line column : ℕ} → judgement form s ≡ Refused number line column
       → FirstBroken form s number line column
   unfolding judgement
@@ -299,7 +280,7 @@ module _ (form : Form) (k : Known form) (s : List ℕ) where
     where
       at-line : {n l c : ℕ} → badText today s ≡ false → (right : wrongColumn form s ≡ 0) → (length (valueLines s) ≡ 0 → ⊥)
           → length (valueLines s) ≤ 256
-          → RefusedAt form columnsIn [] 2 (valueLines s) n l c → FirstBroken form s n l c
+          → RefusedAt form (columnsIn form s) [] 2 (valueLines s) n l c → FirstBroken form s n l c
       at-line b right some most r =
           rw (r .line)
           (rule.line (r .index) (r .within)
@@ -317,7 +298,7 @@ module _ (form : Form) (k : Known form) (s : List ℕ) where
       go (cause.no-line b w h) = rule.count (text-kept s b) (no-wrong-name (names-stand form (names s) w)) (rule.none h)
       go (cause.many-lines b w h) = rule.count (text-kept s b) (no-wrong-name (names-stand form (names s) w)) (rule.many h)
       go (cause.lines b right some most h) =
-          at-line b right some most (refused-at form columnsIn (length (valueLines s)) [] 2 (valueLines s) h)
+          at-line b right some most (refused-at form (columnsIn form s) (length (valueLines s)) [] 2 (valueLines s) h)
 
   pub none-broken : {n : ℕ} → judgement form s ≡ Lines n → NoneBroken form s n
   none-broken {n} e =
@@ -330,7 +311,7 @@ module _ (form : Form) (k : Known form) (s : List ℕ) where
           count = count-kept (λ z. omega (arith, z, a .count, a .some)) (omega (arith, a .count, a .most));
           lines = λ j h.
               line-kept form k s (a .names-sound) j (omega (arith, a .count))
-              (sound-at form columnsIn [] 2 (Lines n) (valueLines s) (a .judged) j (omega (arith, a .count)));
+              (sound-at form (columnsIn form s) [] 2 (Lines n) (valueLines s) (a .judged) j (omega (arith, a .count)));
         };
       }
 

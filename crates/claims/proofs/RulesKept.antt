@@ -72,9 +72,9 @@ rules-kept {s} {n} e =
     keys-once : Accepted columns s n → (i j : ℕ) → i < j → j < n → SameKey (caseAt s j) (caseAt s i) → ⊥
     keys-once a i j h l =
         let m : j < length (valueLines s) = omega (arith, a .count) in
-        let f = sound-at columns (columnsIn s) [] 2 (Lines n) (valueLines s) (a .judged) j m in
-        let q = line.sound-says columns (columnsIn s) _ (fieldsAt s j) f in
-        other-key s j i m (omega arith) (none-before columns (columnsIn s) (valuesAt s j) [] (valueLines s) j m (q .1) .1 i h)
+        let f = sound-at columns (columnsIn columns s) [] 2 (Lines n) (valueLines s) (a .judged) j m in
+        let q = line.sound-says columns (columnsIn columns s) _ (fieldsAt s j) f in
+        other-key s j i m (omega arith) (none-before columns (columnsIn columns s) (valuesAt s j) [] (valueLines s) j m (q .1) .1 i h)
 
 -- ---- document 01's sample sheet
 
