@@ -1,8 +1,8 @@
 -- Every field of the page of claims, by laws of this crate and theorems of those below.
-use Rattle.formulas.proofs.Yards.{starred}
+use Rattle.formulas.proofs.{Yards.{starred}, MeshArgument.{G-forms}}
 use Rattle.hocsimbur.proofs.{LessFault.{row-stays-safe}, LessSoil.{drier-row-decides}}
 use Rattle.claims.specs.Claims.{Claims}
-use Rattle.claims.proofs.{Sheets.{bounds-at, demands}, LessCurrent.{line-less-current, row-margins}}
+use Rattle.claims.proofs.{Sheets.{bounds-at, demands}, LessCurrent.{less-current, line-less-current, row-margins}}
 use Rattle.claims.proofs.{RulesKept.{rules-kept, sample-sheet}, RulesEnough.{breaks-none, breaks-first, empty-line}}
 use Rattle.claims.proofs.{OnePlace.{one-place}, FirstBroken.{known, first-broken, none-broken, refused-by, accepted-by}}
 use Rattle.claims.proofs.{EarlierLimits.{stored-sheet, above-earlier}, Squares.{square}, SampleVerdicts.{sample-verdicts}}
@@ -37,6 +37,7 @@ page =
       asked-alone = asked-alone;
       logarithm = plain.logarithm;
       ms-refused = ms-refused;
+      mesh-argument = G-forms;
       square = square;
       form-kept = λ form {s}. (none-broken _ (known form) s, accepted-by _ (known form) s);
       form-broken = λ form {s}. (first-broken _ (known form) s, refused-by _ (known form) s);
@@ -51,7 +52,8 @@ page =
       staged-test = split-outcome;
       split-refused = λ s b i l. bounds-at s b i l .split;
       summary = summary;
-      less-current = row-stays-safe;
+      less-current = less-current;
+      stays-safe = row-stays-safe;
       line-less-current = line-less-current;
       working = working-outcome;
       release = release;

@@ -2,13 +2,13 @@
 -- Order.antt. Columns count from 1; value lines count from 0, so that value line i is line i + 2 of the sheet.
 use Prim.Native.{Nat.{ℕ, _-_, _≤_, _<_}, String.{String}}
 use mathlib.Core.{Path.{_≡_}, Logic.{_⊎_}, List.{List, [], _∷_}}
-use lib.ListN.{length, getD}
+use lib.{IntN.{ℤ}, ListN.{length, getD}}
 use Rattle.text.specs.{Text.{bytes, fieldsOf}, Value.{valueOf}}
 use Rattle.case.specs.{declared.Case.{Case}, Case.{caseOf}, Columns.{columns}, Bounds.{Bounds}}
 use Rattle.header.specs.{Parts.{nameAt}, Names.{fieldAt, StandsAt, StandsOnce, KnownName}}
 use Rattle.judgement.specs.declared.Judgement.the-variants as judged
 use Rattle.judgement.specs.{Limits.{earlier}, Sheet.{names, valueLines, judgementWithin}, Wrong.{RightValues}}
-use Rattle.sheet.specs.Examples.{sample}
+use Rattle.sheet.specs.{declared.Answer.the-variants.{Rows}, Table.{TableAfter}, Examples.{sample}}
 use Rattle.claims.specs.Words.{BreaksNone, caseAt}
 
 -- the fields of value line i
@@ -105,6 +105,11 @@ RodsAgree c = ((c .rods ≡ 0) × (c .rodlen ≡ 0) × (c .place ≡ 0)) ⊎ ((1
 
 abbrev pub AcceptedEarlier : List ℕ → ℕ → Type 0
 AcceptedEarlier s n = judgementWithin columns earlier s ≡ judged.Lines n
+
+-- n rows of theirs for a sheet, in a table that was `before`: each that of its own line, as today
+pub record AnsweredEarlier (s : List ℕ) (before after : List ℤ) (n : ℕ) : Type 0 where
+  pub accepted : AcceptedEarlier s n
+  pub rows : TableAfter s before after (Rows n)
 
 abbrev pub RefusedEarlier : List ℕ → ℕ → ℕ → ℕ → Type 0
 RefusedEarlier s number line column = judgementWithin columns earlier s ≡ judged.Refused number line column
