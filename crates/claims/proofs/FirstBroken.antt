@@ -25,11 +25,8 @@ use Rattle.claims.specs.Rules.{fieldsAt, Under}
 use Rattle.claims.specs.Order.{WrongText, WrongCount, OutOfRange, LayerAgreesAt, RodsAgreeAt, Repeats, LineKept, LineBroken}
 use Rattle.claims.specs.Order.{Agrees, FirstBroken, NoneBroken}
 use Rattle.claims.specs.Order as rule
-use Rattle.claims.proofs.{OnePlace.{one-column, one-number, one-place, none-or-first}, OwnLines.{value-at}}
+use Rattle.claims.proofs.{OnePlace.{yes-or-no, one-column, one-number, one-place, none-or-first}, OwnLines.{value-at}}
 use Rattle.claims.proofs.OwnLines.{columnsIn, valuesIn, stand, columns-count, values-count, names-right, stands-at, under}
-
-not-both : {b : Bool} → b ≡ true → b ≡ false → ⊥
-not-both p q = clash cc
 
 both : (a b : Bool) → (a && b) ≡ true → (a ≡ true) × (b ≡ true)
 both true b e = (refl, e)
@@ -116,7 +113,7 @@ module _ (form : Form) (k : Known form) (s : List ℕ) (right : wrongColumn form
 
     ranges-kept : outOfRange form at v ≡ 0 → None (OutOfRange form s i)
     ranges-kept z c o =
-        not-both (passed _ (in-range-at form v (values-count form s right i) (in-range form at v counted columns-some z) (o .index)))
+        yes-or-no (passed _ (in-range-at form v (values-count form s right i) (in-range form at v counted columns-some z) (o .index)))
         (outside-at o .1)
 
     leftmost-outside : (outOfRange form at v ≡ 0 → ⊥) → Leftmost (OutOfRange form s i) (outOfRange form at v)
@@ -148,9 +145,9 @@ module _ (form : Form) (k : Known form) (s : List ℕ) (right : wrongColumn form
             inr (λ u. omega (arith, under-zero "layer" (k .layer) u, p .0), λ u. omega (arith, under-zero "thick" (k .thick) u, p .1))
 
     layer-broken : line.layerAgrees form v ≡ false → ¬ LayerAgreesAt s i
-    layer-broken e (inl p) = not-both (zeros-agree _ _ (under-zero "layer" (k .layer) (p .0)) (under-zero "thick" (k .thick) (p .1))) e
+    layer-broken e (inl p) = yes-or-no (zeros-agree _ _ (under-zero "layer" (k .layer) (p .0)) (under-zero "thick" (k .thick) (p .1))) e
     layer-broken e (inr p) =
-        not-both (others-agree _ _ (λ z. p .0 (zero-under "layer" (k .layer) z)) (λ z. p .1 (zero-under "thick" (k .thick) z))) e
+        yes-or-no (others-agree _ _ (λ z. p .0 (zero-under "layer" (k .layer) z)) (λ z. p .1 (zero-under "thick" (k .thick) z))) e
 
     rods-kept : line.rodsAgree form v ≡ true → RodsAgreeAt s i
     rods-kept e = let q = both _ _ e in go (agreed _ _ (q .0)) (agreed _ _ (q .1))
@@ -171,11 +168,11 @@ module _ (form : Form) (k : Known form) (s : List ℕ) (right : wrongColumn form
     rods-broken : line.rodsAgree form v ≡ false → ¬ RodsAgreeAt s i
     rods-broken e (inl p) =
         let z = under-zero "rods" (k .rods) (p .0) in
-        not-both
+        yes-or-no
         (rw (zeros-agree _ _ z (under-zero "rodlen" (k .rodlen) (p .1)), zeros-agree _ _ z (under-zero "place" (k .place) (p .2)))) e
     rods-broken e (inr p) =
         let z : named form v "rods" ≡ 0 → ⊥ = λ q. p .0 (zero-under "rods" (k .rods) q) in
-        not-both
+        yes-or-no
         (rw (
           others-agree _ _ z (λ q. p .1 (zero-under "rodlen" (k .rodlen) q)),
           others-agree _ _ z (λ q. p .2 (zero-under "place" (k .place) q)),
@@ -207,7 +204,7 @@ module _ (form : Form) (k : Known form) (s : List ℕ) (right : wrongColumn form
         ∙ one-number right-names (r .there .0) (under-name (r .line) "station" (k .station)) in
         let q = one-number right-names (under-name i "season" (k .season)) (r .here .1)
         ∙ one-number right-names (r .there .1) (under-name (r .line) "season" (k .season)) in
-        not-both (rw (eq-eqb _ _ p, eq-eqb _ _ q)) (h (r .line) (r .earlier))
+        yes-or-no (rw (eq-eqb _ _ p, eq-eqb _ _ q)) (h (r .line) (r .earlier))
 
     -- ---- the line
 
@@ -243,7 +240,7 @@ module _ (form : Form) (k : Known form) (s : List ℕ) (right : wrongColumn form
     repeated-at : SeenBefore form at (valuesAt i) (valueLines s) i ⊎ (repeats form (valuesAt i) [] ≡ true) → Repeats s i
     unfolding repeats
     repeated-at (inl b) = repeats-at i (b .index) (b .earlier) (b .same)
-    repeated-at (inr e) = absurd (not-both e refl)
+    repeated-at (inr e) = absurd (yes-or-no e refl)
 
     by-finding : {f : LineFinding} → line.LineFound form at (before form at [] (valueLines s) i) (fieldsAt s i) f
         → lineJudgement (i + 2) (Lines 0) f ≡ Refused number l c → LineBroken form s i number c

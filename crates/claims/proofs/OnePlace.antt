@@ -1,7 +1,8 @@
 -- A sheet has one first broken rule at the most, and none where it breaks none: by the conditions alone.
 use Prim.Native.{Nat.{ℕ, _+_, _<_}, String.{String}}
-use mathlib.Core.{Path.{_≡_, refl, sym, _∙_}, List.{List}}
+use mathlib.Core.{Path.{_≡_, refl, sym, _∙_}, Bool.{Bool, true, false}, List.{List}}
 use native.Mathlib.Omega.{arith}
+use Rattle.text.proofs.Clash.{clash}
 use Rattle.case.specs.Columns.{Form}
 use Rattle.header.specs.Names.{StandsAt, WrongName, again, Leftmost, None}
 use Rattle.judgement.specs.Sheet.{names}
@@ -9,8 +10,11 @@ use Rattle.claims.specs.{Rules.{Under}, Order.{WrongCount, LineKept, Lin
 use Rattle.claims.specs.Order.{none, many, value, range, layer, rods, repeated, text, name, count, line}
 
 -- two numbers neither of which is less are equal
-neither-less : {c d : ℕ} → (c < d → ⊥) → (d < c → ⊥) → c ≡ d
+pub neither-less : {c d : ℕ} → (c < d → ⊥) → (d < c → ⊥) → c ≡ d
 neither-less {c} {d} p q = omega (arith, p, q)
+
+pub yes-or-no : {b : Bool} → b ≡ true → b ≡ false → ⊥
+yes-or-no p q = clash cc
 
 leftmost-same : {Wrong : ℕ → Type 0} {c d : ℕ} → Leftmost Wrong c → Leftmost Wrong d → c ≡ d
 leftmost-same {c = c} {d} a b = neither-less (λ h. b .first c h (a .here)) (λ h. a .first d h (b .here))

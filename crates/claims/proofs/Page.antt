@@ -11,6 +11,7 @@ use Rattle.claims.proofs.{Readings.{soil-outcome}, StagedTests.{split-o
 use Rattle.claims.proofs.{Bytes.{in-bytes, pointed}, Carrying.{carry-outcome, there-and-back, ms-refused}, SummaryAnswers.{summary}}
 use Rattle.claims.proofs.{Entries.{summary-in-c, release-in-c, carry-in-c}, EntryReports.{soil-in-c, split-in-c, fewest-in-c}}
 use Rattle.claims.proofs.EntryLines.{margins-in-c, working-in-c, headroom-in-c}
+use Rattle.claims.proofs.OneAnswers.{one-answers}
 use Rattle.claims.proofs.Later as later
 use Rattle.claims.proofs.Records as records
 use Rattle.claims.proofs.PlainNumbers as plain
@@ -29,6 +30,7 @@ page =
       verdict-printed = verdict-outcome;
       starred = starred;
       one-number = one-number;
+      one-answer = one-answers;
       row = records.row-outcome;
       factor = records.factor-outcome;
       size = records.size-outcome;

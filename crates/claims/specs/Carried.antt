@@ -109,7 +109,7 @@ pub record Written (text before after : List ℕ) (count : ℕ) : Type 0 where
   pub rest-kept : drop count after ≡ drop count before
   pub same-length : length after ≡ length before
 
--- ---- every answer, each with its condition; the conditions exclude one another
+-- ---- every answer, each with its condition; the conditions exclude one another (Answers.antt)
 
 pub data CarryOutcome (form : Form) (s before after : List ℕ) : Carried → Type 0 where
   -- "The source sheet passes all checks of its own form first, save 8."

@@ -12,7 +12,7 @@ abbrev pub FaultInside : ℕ → Type 0
 FaultInside f = Between 100 f 80000
 
 -- "after the checks of one case (5, 6), the greatest fault current in 100..80000 at which the case, all else equal, is answered safe, or
--- none": every answer, each with its condition; the conditions exclude one another
+-- none": every answer, each with its condition; the checks exclude the others (Answers.antt)
 pub data HeadroomOutcome (c : Case) : Room → Type 0 where
   refused : {number line column : ℕ} → RecordRefused c number line column → HeadroomOutcome c (Refused number line column)
   -- "with F, every fault current in range is answered safe if and only if it is at most F"

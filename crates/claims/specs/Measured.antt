@@ -1,5 +1,5 @@
 -- What is asked of plain numbers: the logarithm, readings (g), a staged test (l), the margins of a row. Of each question every answer that
--- it can give, with its condition; the conditions exclude one another, so each answer is given exactly on its own.
+-- it can give, with its condition; the conditions exclude one another (Answers.antt), so each answer is given exactly on its own.
 use Prim.Native.Nat.{ℕ, suc, _+_, _*_, _/_, _%_, _^_, _≤_, _<_}
 use mathlib.Core.{Path.{_≡_}, Logic.{_⊎_, _↔_}, List.{List, List·Memᴰ}}
 use lib.{IntN.{ℤ, pos, negℤ, natAbs, _+ℤ_}, ListN.{length, getD}, Signed.{_≤ℤ_, _<ℤ_}}
@@ -23,8 +23,8 @@ use Rattle.claims.specs.Words.{verdictAt}
 -- ---- the logarithm
 
 -- "a fraction of two whole numbers from 1 to 10^15"
-abbrev pub Askable : ℕ → Type 0
-Askable n = Between 1 n (10 ^ 15)
+abbrev pub NumberInside : ℕ → Type 0
+NumberInside n = Between 1 n (10 ^ 15)
 
 -- (j) "The logarithm's ends must be at most 200 billionths apart"
 abbrev pub twoHundred : Ends → Fraction
@@ -32,10 +32,10 @@ twoHundred ends = decimal 200 9
 
 pub data LogarithmOutcome (p q : ℕ) : Pair → Type 0 where
   -- "one outside is refused with 5, line 0, column 1 (upper number) or 2 (lower)"
-  upper : ¬ Askable p → LogarithmOutcome p q (pair.Refused 5 0 1)
-  lower : Askable p → ¬ Askable q → LogarithmOutcome p q (pair.Refused 5 0 2)
+  upper : ¬ NumberInside p → LogarithmOutcome p q (pair.Refused 5 0 1)
+  lower : NumberInside p → ¬ NumberInside q → LogarithmOutcome p q (pair.Refused 5 0 2)
   -- "answered as a pair in signed billionths that holds the exact value"
-  ends : {i : Interval} → Askable p → Askable q → Number (lnOf (whole p ÷f whole q))
+  ends : {i : Interval} → NumberInside p → NumberInside q → Number (lnOf (whole p ÷f whole q))
       → Reports (lnOf (whole p ÷f whole q)) (ten 9) twoHundred i → LogarithmOutcome p q (pair.Ends i)
 
 -- ---- (g) soil from four-pin readings

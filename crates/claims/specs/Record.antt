@@ -1,5 +1,5 @@
 -- One case asked as a record: its checks, and every answer that the question for its row can give, each with its condition. The conditions
--- exclude one another, so each answer is given exactly on its own. Document 01, 'The sheet' and 'The result table'.
+-- exclude one another (Answers.antt), so each answer is given exactly on its own. Document 01, 'The sheet' and 'The result table'.
 use Prim.Native.Nat.{ℕ, suc, _<_}
 use mathlib.Core.{Path.{_≡_}, Bool.{Bool, true, false}}
 use lib.{IntN.{natAbs}, ListN.{getD}}

@@ -75,7 +75,7 @@ pub record PairTold (s licence : List ℕ) (after : List ℤ) (k : ℕ) : Type 0
 
 -- ---- the answer
 
--- every answer, each with its condition; the conditions exclude one another
+-- every answer, each with its condition; the conditions exclude one another (Answers.antt)
 pub data ReleaseOutcome (s licence : List ℕ) (before after : List ℤ) : Released → Type 0 where
   -- "Refusals: the sheet's own 1 to 7"; "any refusal leaves the table"
   rule : {number line column : ℕ} → Breaks s number line column → after ≡ before

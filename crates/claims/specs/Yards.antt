@@ -110,7 +110,7 @@ pub record Askable (c : Case) : Type 0 where
   pub stands : StandsIn c other
   pub sound : RecordSound other
 
--- every answer, each with its condition; the conditions exclude one another
+-- every answer, each with its condition
 pub data FewestOutcome (c : Case) (side : ℕ) : FewestLines → Type 0 where
   -- "its other values follow document 01's checks for one case, which come first"
   checks : {number line column : ℕ} (y : Case) → StandsIn c y → RecordRefused y number line column
