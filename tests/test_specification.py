@@ -39,6 +39,12 @@ class Specification(unittest.TestCase):
             self.assertTrue(named, sentence)
             self.assertLessEqual(set(named), fields, sentence)
 
+    def test_every_field_of_the_page_is_cited(self):
+        fields = re.findall(r"^  pub ([a-z-]+) :", PAGE.read_text(encoding="utf-8"), flags=re.MULTILINE)
+        cited = {name for _, _, claims in rows() for name in re.findall(r"`([a-z-]+)`", claims)}
+        self.assertEqual(set(fields), cited)
+        self.assertEqual(len(fields), len(set(fields)))
+
     def test_rows(self):
         self.assertGreater(len(list(rows())), 50)
 

@@ -4,6 +4,7 @@ use mathlib.Core.{Path.{_≡_, refl, sym, ap, _∙_}, Bool.{Bool, true, _&&_}, L
 use native.Mathlib.Omega.{arith}
 use lib.{Dec.{T, ltb, ltb→lt}, ListN.{length, getD}}
 use mir.Facts.{and-yes}
+use Rattle.whole.specs.Every.{Every}
 use Rattle.text.specs.Text.{bytes, same}
 use Rattle.case.specs.declared.Form.{Form, the-variants.{Present, Former}}
 use Rattle.case.specs.Columns.{columns, formerColumns, nameIndex, named}
@@ -13,7 +14,6 @@ use Rattle.case.proofs.Tests.{_then_}
 use Rattle.judgement.specs.Sheet.{valueLines}
 use Rattle.judgement.proofs.Causes.{wrongColumn}
 use Rattle.carried_values.specs.Values.{other, presentValues, formerValues, carried as carriedValues, casesIn}
-use Rattle.formulas.proofs.Tables.{Every}
 use Rattle.claims.specs.Rules.{fieldsAt, Under}
 use Rattle.claims.specs.Carried.{Taken, otherNames, ownNames, Into, Returns, Held}
 use Rattle.claims.specs.Carried as claim

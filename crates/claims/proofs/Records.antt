@@ -19,11 +19,11 @@ use Rattle.formulas.specs.{Decrement.{Df}, Resistance.{resistance}, Width.{μΩ
 use Rattle.tolerable.specs.Ends.{touchEnds, stepEnds}
 use Rattle.row.{specs.Ends.{rowOf}, proofs.Right.{tolerable-touch-reports, tolerable-step-reports}}
 use Rattle.numbers.{specs.Number.{Number}, proofs.Voltages.{case-numbers}}
-use Rattle.hocsimbur.specs.declared.{Number.{Number as SizeAnswer}, Tolerable.{Tolerable}, RowAnswer.{RowAnswer}}
+use Rattle.hocsimbur.specs.declared.{SizeAnswer.{SizeAnswer}, Tolerable.{Tolerable}, RowAnswer.{RowAnswer}}
 use Rattle.hocsimbur.specs.Asked.{pairAnswer, factorInRow, resistanceInRow, sizeByRow, sizeAnswer, tolerableAnswer, rowAnswer}
 use Rattle.hocsimbur.specs.Asked.{FactorAnswered, SizeAnswered, TolerableAnswered, ResistanceAnswered, RowAnswered}
 use Rattle.hocsimbur.proofs.Answers.{factor-right, resistance-right, smallest-size}
-use Rattle.hocsimbur.specs.declared.Number.the-variants as sized
+use Rattle.hocsimbur.specs.declared.SizeAnswer.the-variants as sized
 use Rattle.hocsimbur.specs.declared.Tolerable.the-variants as tolerable
 use Rattle.hocsimbur.specs.declared.RowAnswer.the-variants as row
 use Rattle.claims.specs.Record as claim

@@ -17,7 +17,7 @@ use Rattle.working.specs.declared.Worked.the-variants as worked
 use Rattle.headroom.specs.declared.Room.the-variants as room
 use Rattle.release.specs.declared.Released.the-variants as released
 use Rattle.hocsimbur.specs.declared.RowAnswer.the-variants as row
-use Rattle.hocsimbur.specs.declared.Number.the-variants as sized
+use Rattle.hocsimbur.specs.declared.SizeAnswer.the-variants as sized
 use Rattle.hocsimbur.specs.declared.Tolerable.the-variants as tolerable
 use Rattle.claims.specs.Record.{RowOutcome, PairOutcome, TolerableOutcome, SizeOutcome}
 use Rattle.claims.specs.{Workings.{WorkingOutcome}, Later.{HeadroomOutcome}, Carried.{CarryOutcome}, Releases.{ReleaseOutcome}}

@@ -2,12 +2,12 @@
 use Prim.Native.{Nat.{ℕ, _+_, _≤_, _<_}, String.{String}}
 use mathlib.Core.{Path.{_≡_}, List.{List, [], _∷_, map}}
 use lib.ListN.{length, getD, take, drop}
+use Rattle.whole.specs.Every.{Every}
 use Rattle.case.specs.{declared.Form.{Form, the-variants.{Present, Former}}, Parts.{formOf}}
 use Rattle.judgement.specs.declared.Judgement.the-variants as judged
 use Rattle.judgement.specs.Sheet.{names, judgement}
 use Rattle.carried_values.specs.Values.{other}
 use Rattle.conversion.specs.{declared.Carried.{the-variants.{Bytes, Refused}, Carried}, Answer.{carriedText}}
-use Rattle.formulas.proofs.Tables.{Every}
 use Rattle.claims.specs.Rules.{Under}
 
 -- a sheet passes all checks of a form with so many value lines, or is refused by them

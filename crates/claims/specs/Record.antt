@@ -10,9 +10,9 @@ use Rattle.case.specs.{declared.Case.{Case}, Case.{values}, Columns.{columns, i
 use Rattle.formulas.specs.{Decrement.{Df}, Tolerable.{tolerableTouch, tolerableStep}, Width.{mV, billionths, factorWidth, tolerableWidth}}
 use Rattle.numbers.specs.{Number.{Number}, Formulas.{CaseNumbers}}
 use Rattle.row.specs.{declared.Row.{Row}, Row.{numbers}}
-use Rattle.hocsimbur.specs.declared.{RowAnswer.{RowAnswer, the-variants.{Is, Refused}}, Number.{Number as SizeAnswer}}
+use Rattle.hocsimbur.specs.declared.{RowAnswer.{RowAnswer, the-variants.{Is, Refused}}, SizeAnswer.{SizeAnswer}}
 use Rattle.hocsimbur.specs.{declared.Tolerable.{Tolerable}, Asked.{SmallestSize}}
-use Rattle.hocsimbur.specs.declared.Number.the-variants as sized
+use Rattle.hocsimbur.specs.declared.SizeAnswer.the-variants as sized
 use Rattle.hocsimbur.specs.declared.Tolerable.the-variants as tolerable
 use Rattle.claims.specs.{Rules.{SurfaceAgrees, RodsAgree}, Demands.{OwnRow}}
 

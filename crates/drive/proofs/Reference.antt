@@ -18,7 +18,7 @@ use Rattle.drive.proofs.Spans.{currentLow, currentHigh, current-is, cur
 
 -- p/q
 ratio : (p q : ℕ) → 0 < q → Fraction
-ratio p q h = record { plus = p; minus = 0; den = q; pos = h }
+ratio p q h = record { plus = p; minus = 0; den = q; positive = h }
 
 ratio-is : (p q : ℕ) (h : 0 < q) → whole p ÷f whole q ≈f ratio p q h
 unfolding ratio whole inv _÷f_ _·f_

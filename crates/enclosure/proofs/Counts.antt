@@ -11,11 +11,11 @@ use Rattle.exact.proofs.{Products.{cong·}, Reported.{scaleProduct, over-down, 
 -- the order of counts is that of their values
 pub over-le : {a b : ℤ} (u : Scale) → over a u ≤f over b u → a ≤ℤ b
 unfolding over
-over-le {a} {b} u h = halves-le a b (le-of-mul-le-mul-right (omega (arith, h .le)) (u .pos))
+over-le {a} {b} u h = halves-le a b (le-of-mul-le-mul-right (omega (arith, h .le)) (u .positive))
 
 -- a factor that makes one scale of another is above 0
 pub factor-positive : (u w : Scale) {m : ℕ} → w .count * m ≡ u .count → 0 < m
-factor-positive u w {m = zero} e = absurd (omega (arith, u .pos))
+factor-positive u w {m = zero} e = absurd (omega (arith, u .positive))
 factor-positive u w {m = suc m} e = omega arith
 
 -- k times as many of one unit

@@ -50,4 +50,4 @@ encloses-sqrt u {v} {t} n m fits low high r e =
 -- where the division leaves no rest
 pub encloses-sqrt-even : {x : Exact} (u : Scale) {v : Scale} {t : ℕ} {i : Interval} (n m : ℕ) → u .count * m ≡ 10 ^ workDepth
     → t * v .count ≡ u .count * u .count * n → RootEnds t i → Encloses x v (point (pos n)) → Encloses (root 2 x) u i
-encloses-sqrt-even u {v} n m fits even r e = encloses-sqrt u n m fits (omega arith) (omega (arith, v .pos)) r e
+encloses-sqrt-even u {v} n m fits even r e = encloses-sqrt u n m fits (omega arith) (omega (arith, v .positive)) r e

@@ -55,7 +55,7 @@ module _ (n : ℕ) (q : Fraction) (r : ℕ) (u : Scale) (hn : 1 ≤ n) where
   above-root h =
       let k : ℕ = 3 + excess r (u .count) n * q .den in
       let deep : excess r (u .count) n * q .den ≤ 10 ^ k = omega (arith, below-pow 10 k (omega arith)) in
-      record { depth = k; deep = omega arith; above = record { lt = omega (arith, digits-above n q r (u .count) k hn (u .pos) deep h) } }
+      record { depth = k; deep = omega arith; above = record { lt = omega (arith, digits-above n q r (u .count) k hn (u .positive) deep h) } }
 
   -- and otherwise at no depth
   pub not-above-root : u .count ^ n * top q ≤ r ^ n * q .den → (k : ℕ) → root n (exactly q) k .lower ≤f over (pos r) u

@@ -17,7 +17,7 @@ enough t d h =
 
 pub doublings-reach : (q : Fraction) → 2 * top q ≤ 2 ^ doublings q * q .den
 unfolding doublings
-doublings-reach q = least-reaches (λ j. 2 ^ j * q .den) (2 * top q) (suc (top q)) 0 (enough (top q) (q .den) (q .pos))
+doublings-reach q = least-reaches (λ j. 2 ^ j * q .den) (2 * top q) (suc (top q)) 0 (enough (top q) (q .den) (q .positive))
 
 pub doublings-least : (q : Fraction) (j : ℕ) → 2 * top q ≤ 2 ^ j * q .den → doublings q ≤ j
 unfolding doublings
@@ -26,7 +26,7 @@ doublings-least q j h = least-below (λ j. 2 ^ j * q .den) (2 * top q) (suc (top
 pub doublings≤ : {a b : Fraction} → a ≤f b → doublings a ≤ doublings b
 doublings≤ {a} {b} l =
     doublings-least a (doublings b)
-    (le-of-mul-le-mul-right (omega (arith, mul-le-mul-right (a .den) (doublings-reach b), top≤ l)) (b .pos))
+    (le-of-mul-le-mul-right (omega (arith, mul-le-mul-right (a .den) (doublings-reach b), top≤ l)) (b .positive))
 
 -- ---- q / 2^m
 

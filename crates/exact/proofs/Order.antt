@@ -10,20 +10,20 @@ refl≤ a = omega arith
 
 pub trans≤ : {a b c : Fraction} → a ≤f b → b ≤f c → a ≤f c
 trans≤ {a} {b} {c} h k =
-    record { le = le-of-mul-le-mul-right (omega (arith, mul-le-mul-right (c .den) (h .le), mul-le-mul-right (a .den) (k .le))) (b .pos) }
+    record { le = le-of-mul-le-mul-right (omega (arith, mul-le-mul-right (c .den) (h .le), mul-le-mul-right (a .den) (k .le))) (b .positive) }
 
 pub lt-of-lt-of-le : {a b c : Fraction} → a <f b → b ≤f c → a <f c
 lt-of-lt-of-le {a} {b} {c} h k =
     record {
       lt = lt-of-mul-lt-mul-right (b .den)
-          (omega (arith, mul-lt-mul-of-pos-right (h .lt) (c .pos), mul-le-mul-right (a .den) (k .le)));
+          (omega (arith, mul-lt-mul-of-pos-right (h .lt) (c .positive), mul-le-mul-right (a .den) (k .le)));
     }
 
 pub lt-of-le-of-lt : {a b c : Fraction} → a ≤f b → b <f c → a <f c
 lt-of-le-of-lt {a} {b} {c} h k =
     record {
       lt = lt-of-mul-lt-mul-right (b .den)
-          (omega (arith, mul-le-mul-right (c .den) (h .le), mul-lt-mul-of-pos-right (k .lt) (a .pos)));
+          (omega (arith, mul-le-mul-right (c .den) (h .le), mul-lt-mul-of-pos-right (k .lt) (a .positive)));
     }
 
 pub le-of-lt : {a b : Fraction} → a <f b → a ≤f b

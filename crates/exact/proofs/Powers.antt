@@ -70,7 +70,7 @@ powers-cross n r t s u {q} {q′} ht l a b =
     core : (r s t u : ℕ) → 0 < t → r * q .den ≤ t * top q → u * top q′ < s * q′ .den → r * u < s * t
     core r s t u h a b =
         lt-of-mul-lt-mul-right (q .den * q′ .den)
-        (omega (arith, mul-le-mul-right (u * q′ .den) a, mul-lt-mul-of-pos-right b (mul-pos h (q .pos)), mul-le-mul-right (t * u) (top≤ l)))
+        (omega (arith, mul-le-mul-right (u * q′ .den) a, mul-lt-mul-of-pos-right b (mul-pos h (q .positive)), mul-le-mul-right (t * u) (top≤ l)))
 
 -- (r / t)^n ≤ q ≤ q′ ≤ (s / u)^n gives r / t ≤ s / u
 pub powers-cross≤ : (n r t s u : ℕ) {q q′ : Fraction} → 1 ≤ n → q ≤f q′
@@ -82,4 +82,4 @@ powers-cross≤ n r t s u {q} {q′} hn l a b =
     core r s t u a b =
         le-of-mul-le-mul-right
         (omega (arith, mul-le-mul-right (u * q′ .den) a, mul-le-mul-right (t * q .den) b, mul-le-mul-right (t * u) (top≤ l)))
-        (mul-pos (q .pos) (q′ .pos))
+        (mul-pos (q .positive) (q′ .positive))

@@ -114,4 +114,4 @@ pub mul< : {a b c : Fraction} → whole 0 <f a → b <f c → a ·f b <f a ·f c
 unfolding _·f_ whole
 mul< {a} {b} {c} h k =
     let l : a .minus < a .plus = omega arith in
-    omega (arith, mul-lt-mul-of-pos-right (rearrange< (k .lt) l) (a .pos))
+    omega (arith, mul-lt-mul-of-pos-right (rearrange< (k .lt) l) (a .positive))

@@ -16,7 +16,7 @@ clamped h = omega arith
 
 pub inv-pos : (a : Fraction) → whole 0 <f inv a
 unfolding whole inv
-inv-pos a = omega (arith, a .pos)
+inv-pos a = omega (arith, a .positive)
 
 pub inv-nonneg : (a : Fraction) → whole 0 ≤f inv a
 inv-nonneg a = le-of-lt (inv-pos a)

@@ -14,7 +14,7 @@ use Rattle.exact.proofs.{Order.{trans≤, refl≈}, Products.{cong·}}
 
 -- the unit of a product
 abbrev pub scaleProduct : Scale → Scale → Scale
-scaleProduct u v = record { count = u .count * v .count; pos = mul-pos (u .pos) (v .pos) }
+scaleProduct u v = record { count = u .count * v .count; positive = mul-pos (u .positive) (v .positive) }
 
 -- ---- one unit
 
@@ -24,7 +24,7 @@ over≤ u h = omega (arith, mul-le-mul-right (u .count) (le-halves h))
 
 pub over< : {a b : ℤ} (u : Scale) → a <ℤ b → over a u <f over b u
 unfolding over
-over< u h = omega (arith, mul-lt-mul-of-pos-right (lt-halves h) (u .pos))
+over< u h = omega (arith, mul-lt-mul-of-pos-right (lt-halves h) (u .positive))
 
 pub over-neg : (z : ℤ) (u : Scale) → over (negℤ z) u ≈f neg (over z u)
 unfolding over neg
@@ -78,7 +78,7 @@ module _ (a b z : ℤ) (u v w : Scale) where
 -- z of unit w against the quotient of a of u by c of v
 module _ (a z : ℤ) {c : ℕ} (hc : 0 < c) (u v w : Scale) where
   divisor : Scale
-  divisor = record { count = c; pos = hc }
+  divisor = record { count = c; positive = hc }
 
   inverse : inv (over (pos c) v) ≈f over (pos (v .count)) divisor
   unfolding over inv divisor
@@ -102,4 +102,4 @@ module _ (a z : ℤ) {c : ℕ} (hc : 0 < c) (u v w : Scale) where
 
 pub reported-positive : (i : Interval) (u : Scale) → pos 0 <ℤ i .lower → Positive (reported u i)
 unfolding reported whole over
-reported-positive i u h = record { positive = record { lt = omega (arith, lt-halves h, u .pos) } }
+reported-positive i u h = record { positive = record { lt = omega (arith, lt-halves h, u .positive) } }

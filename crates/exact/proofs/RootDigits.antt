@@ -15,7 +15,7 @@ module _ (n : ℕ) (hn : 1 ≤ n) (q : Fraction) (k : ℕ) where
 
   bound : (t : ℕ) → t < suc t ^ n * q .den
   bound t =
-      let m : suc t ^ n * 1 ≤ suc t ^ n * q .den = mul-le-mul-left (suc t ^ n) (q .pos) in
+      let m : suc t ^ n * 1 ≤ suc t ^ n * q .den = mul-le-mul-left (suc t ^ n) (q .positive) in
       omega (arith, le-pow (suc t) n hn (omega arith))
 
   pub root-below : rootDigits n q k ^ n * q .den ≤ (10 ^ k) ^ n * top q
@@ -39,7 +39,7 @@ module _ (n : ℕ) (hn : 1 ≤ n) (q : Fraction) (u : Scale) (r : ℕ) (k : ℕ)
   pub not-above-upper : r ^ n * q .den ≤ u .count ^ n * top q → over (pos r) u ≤f rootOf n q k .upper
   unfolding rootOf decimal over
   not-above-upper h =
-      omega (arith, powers-cross n r (u .count) (suc (rootDigits n q k)) (10 ^ k) (u .pos) (refl≤ q) h (root-above n hn q k))
+      omega (arith, powers-cross n r (u .count) (suc (rootDigits n q k)) (10 ^ k) (u .positive) (refl≤ q) h (root-above n hn q k))
 
   pub lower-not-above : u .count ^ n * top q ≤ r ^ n * q .den → rootOf n q k .lower ≤f over (pos r) u
   unfolding rootOf decimal over
@@ -57,7 +57,7 @@ module _ (n : ℕ) (hn : 1 ≤ n) (q : Fraction) (u : Scale) (r : ℕ) (k m : �
   unfolding rootOf decimal over
   not-above-lower h =
       let d : ℕ = rootDigits n q k in
-      let c : r * 10 ^ k < suc d * u .count = powers-cross n r (u .count) (suc d) (10 ^ k) (u .pos) (refl≤ q) h (root-above n hn q k) in
+      let c : r * 10 ^ k < suc d * u .count = powers-cross n r (u .count) (suc d) (10 ^ k) (u .positive) (refl≤ q) h (root-above n hn q k) in
       omega (arith, scaled, next-count (r * m) (suc d) (u .count) (omega (arith, scaled)))
 
   pub upper-not-above : u .count ^ n * top q < r ^ n * q .den → rootOf n q k .upper ≤f over (pos r) u

@@ -37,7 +37,7 @@ add≤ {a} {b} c h = omega (arith, mul-le-mul-right (c .den * c .den) (h .le))
 
 pub cancel≤ : {a b : Fraction} (c : Fraction) → a +f c ≤f b +f c → a ≤f b
 unfolding _+f_
-cancel≤ {a} {b} c h = record { le = le-of-mul-le-mul-right (omega (arith, h .le)) (mul-pos (c .pos) (c .pos)) }
+cancel≤ {a} {b} c h = record { le = le-of-mul-le-mul-right (omega (arith, h .le)) (mul-pos (c .positive) (c .positive)) }
 
 pub mono+ : {a b c d : Fraction} → a ≤f b → c ≤f d → a +f c ≤f b +f d
 mono+ {a} {b} {c} {d} h k = trans≤ (add≤ c h) (trans≤ (add-comm b c .to) (trans≤ (add≤ b k) (add-comm d b .to)))
@@ -84,7 +84,7 @@ pub lt-of-sum : {a b c : Fraction} → a +f b ≤f c → whole 0 <f b → a <f c
 unfolding _+f_ whole
 lt-of-sum {a} {b} {c} h k =
     let l : b .minus < b .plus = omega arith in
-    record { lt = lt-of-mul-lt-mul-right (b .den) (omega (arith, h .le, mul-lt-mul-of-pos-right l (mul-pos (a .pos) (c .pos)))) }
+    record { lt = lt-of-mul-lt-mul-right (b .den) (omega (arith, h .le, mul-lt-mul-of-pos-right l (mul-pos (a .positive) (c .positive)))) }
 
 pub neg-nonpos : {a b : Fraction} → whole 0 ≤f a → whole 0 ≤f b → neg a ≤f b
 unfolding neg whole

@@ -6,7 +6,7 @@ pub record Fraction : Type 0 where
   pub plus : ℕ
   pub minus : ℕ
   pub den : ℕ
-  pub pos : 0 < den
+  pub positive : 0 < den
 
 infix 50 _≤f_ _<f_ _≈f_
 infixl 65 _+f_ _−f_
@@ -25,11 +25,11 @@ pub record _≈f_ (a b : Fraction) : Type 0 where
 
 -- a whole number
 unfoldable pub whole : ℕ → Fraction
-whole n = record { plus = n; minus = 0; den = 1; pos = zero-lt-suc 0 }
+whole n = record { plus = n; minus = 0; den = 1; positive = zero-lt-suc 0 }
 
 -- n · 10^−e, as 155 and 2 for 1.55
 unfoldable pub decimal : ℕ → ℕ → Fraction
-decimal n e = record { plus = n; minus = 0; den = 10 ^ e; pos = one-le-pow e 10 (zero-lt-suc 9) }
+decimal n e = record { plus = n; minus = 0; den = 10 ^ e; positive = one-le-pow e 10 (zero-lt-suc 9) }
 
 unfoldable pub _+f_ : Fraction → Fraction → Fraction
 a +f b =
@@ -37,11 +37,11 @@ a +f b =
       plus = a .plus * b .den + b .plus * a .den;
       minus = a .minus * b .den + b .minus * a .den;
       den = a .den * b .den;
-      pos = mul-pos (a .pos) (b .pos);
+      positive = mul-pos (a .positive) (b .positive);
     }
 
 unfoldable pub neg : Fraction → Fraction
-neg a = record { plus = a .minus; minus = a .plus; den = a .den; pos = a .pos }
+neg a = record { plus = a .minus; minus = a .plus; den = a .den; positive = a .positive }
 
 unfoldable pub _−f_ : Fraction → Fraction → Fraction
 a −f b = a +f neg b
@@ -52,13 +52,13 @@ a ·f b =
       plus = a .plus * b .plus + a .minus * b .minus;
       minus = a .plus * b .minus + a .minus * b .plus;
       den = a .den * b .den;
-      pos = mul-pos (a .pos) (b .pos);
+      positive = mul-pos (a .positive) (b .positive);
     }
 
 -- one over a positive fraction; of any other it means nothing
 unfoldable pub inv : Fraction → Fraction
 inv a =
-    record { plus = a .den; minus = 0; den = max 1 (a .plus - a .minus); pos = le-max-left 1 (a .plus - a .minus) }
+    record { plus = a .den; minus = 0; den = max 1 (a .plus - a .minus); positive = le-max-left 1 (a .plus - a .minus) }
 
 -- by a positive fraction
 unfoldable pub _÷f_ : Fraction → Fraction → Fraction

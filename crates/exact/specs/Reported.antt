@@ -9,15 +9,15 @@ use Rattle.exact.specs.{Fraction.{Fraction, _≤f_, _−f_}, Ends.{Ends}
 -- the scale of a unit: how many of it make one
 pub record Scale : Type 0 where
   pub count : ℕ
-  pub pos : 0 < count
+  pub positive : 0 < count
 
 -- units of 10^−e: 3 for millivolts, 6 for micro-ohms, 9 for billionths
 unfoldable pub ten : ℕ → Scale
-ten e = record { count = 10 ^ e; pos = one-le-pow e 10 (zero-lt-suc 9) }
+ten e = record { count = 10 ^ e; positive = one-le-pow e 10 (zero-lt-suc 9) }
 
 -- z units of a scale
 unfoldable pub over : ℤ → Scale → Fraction
-over z u = record { plus = plus z; minus = minus z; den = u .count; pos = u .pos }
+over z u = record { plus = plus z; minus = minus z; den = u .count; positive = u .positive }
 
 -- a reported pair
 unfoldable pub reported : Scale → Interval → Ends

@@ -11,7 +11,7 @@ use Rattle.formulas.proofs.Positive.{D-pos, h-pos, d-pos, G′-pos}
 
 -- D³ + (D+2h)²·2h − h·4hD is (D+2h)(D²+4h²), for D = x/m and h = y/m: each part is brought to a number over m, m² or m³
 part : (m : ℕ) → 0 < m → ℕ → Fraction
-part m p a = record { plus = a; minus = 0; den = m; pos = p }
+part m p a = record { plus = a; minus = 0; den = m; positive = p }
 
 gather : (m : ℕ) (p : 0 < m) (x y z w : ℕ) → x + y ≡ w + z → part m p x +f part m p y −f part m p z ≈f part m p w
 unfolding part _+f_ _−f_ neg
@@ -85,7 +85,7 @@ module _ {c : Case} (b : Bounds c) where
       D c ·f D c ·f D c +f (D c +f whole 2 ·f h c) ·f (D c +f whole 2 ·f h c) ·f (whole 2 ·f h c) −f h c ·f (whole 4 ·f h c ·f D c)
       ≈f (D c +f whole 2 ·f h c) ·f (D c ·f D c +f whole 4 ·f (h c ·f h c))
   unfolding D h decimal first part
-  numerator = cube-sum (10 ^ 3) (decimal 1 3 .pos) (c .space) (c .depth)
+  numerator = cube-sum (10 ^ 3) (decimal 1 3 .positive) (c .space) (c .depth)
 
   pub G-forms : G c ≈f G′ c
   unfolding G G′ divisor

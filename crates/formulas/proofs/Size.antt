@@ -62,7 +62,7 @@ module _ (c : Case) (f : ℕ) where
 module _ (c : Case) (f : ℕ) (d : 0 < duty c f) where
   -- m over I·Kf, and I·Kf
   share : ℕ → Fraction
-  share m = over (pos (m * 10 ^ 14)) (record { count = duty c f; pos = d })
+  share m = over (pos (m * 10 ^ 14)) (record { count = duty c f; positive = d })
 
   load : Fraction
   load = decimal (c .fault * f) 12 ·f decimal (Kf (c .metal)) 2
@@ -94,7 +94,7 @@ module _ (c : Case) (f : ℕ) (d : 0 < duty c f) where
   high m h = rw top-wire (omega (arith, squares m))
 
   unit : Scale
-  unit = record { count = duty c f; pos = d }
+  unit = record { count = duty c f; positive = d }
 
   time : Fraction
   time = decimal (c .wire) 3

@@ -29,7 +29,7 @@ thickness-pos thick = record { lt = omega arith }
 module _ (soil layer thick : ℕ) where
   -- 90 (layer − soil) / (2 thick + 90)
   share : Fraction
-  share = record { plus = 90 * layer; minus = 90 * soil; den = divisor thick; pos = divisor-pos thick }
+  share = record { plus = 90 * layer; minus = 90 * soil; den = divisor thick; positive = divisor-pos thick }
 
   share-is : share ·f thickness thick ≈f decimal 9 2 ·f (whole layer −f whole soil)
   unfolding share thickness whole decimal _·f_ _+f_ _−f_ neg divisor
@@ -37,7 +37,7 @@ module _ (soil layer thick : ℕ) where
 
   -- Q as one fraction
   unfoldable pub effect : Fraction
-  effect = record { plus = layer * divisor thick + 90 * soil; minus = 90 * layer; den = divisor thick; pos = divisor-pos thick }
+  effect = record { plus = layer * divisor thick + 90 * soil; minus = 90 * layer; den = divisor thick; positive = divisor-pos thick }
 
   less-share : whole layer −f share ≈f effect
   unfolding share effect whole _−f_ _+f_ neg

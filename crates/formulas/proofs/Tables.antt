@@ -1,15 +1,10 @@
--- A table's range: one test computed over the table, and a law that turns it into the rule at each entry; and one claim about a list.
+-- A table's range: one test computed over the table, and a law that turns it into the rule at each entry.
 use Prim.Native.Nat.{ℕ, zero, suc, _<_}
 use mathlib.Core.{Bool.{Bool, true, _&&_}, List.{List, [], _∷_}}
 use native.Mathlib.Omega.{arith}
 use lib.{ListN.{length, getD}, Dec.{T, leb, leb→le}}
 use mir.Facts.{and-yes}
 use Rattle.case.specs.Bounds.{Between}
-
--- a claim about every entry of a list
-abbrev pub Every : {A : Type 0} → (A → Type 0) → List A → Type 0
-Every P [] = Unit {0}
-Every P (x ∷ xs) = P x × Every P xs
 
 module _ (a b : ℕ) where
   -- every number of a list lies from a to b

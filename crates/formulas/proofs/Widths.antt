@@ -4,13 +4,14 @@ use Prim.Native.Nat.{ℕ, _+_}
 use mathlib.Core.{Bool.{Bool, true, _&&_}, List.{List, [], _∷_}}
 use lib.{IntN.{pos}, Dec.{T}}
 use mir.Facts.{and-yes}
+use Rattle.whole.specs.Every.{Every}
 use Rattle.interval.specs.declared.Interval.{Interval}
 use Rattle.exact.specs.{Fraction.{Fraction, _≈f_, whole, decimal, _+f_, _·f_, inv, _÷f_}, Ends.{Ends}, Reported.{ten, over, reported}}
 use Rattle.case.specs.declared.Case.{Case}
 use Rattle.formulas.specs.{Lengths.{ρ, D, Lr, Lx, Ly, Lc, Lp, LR, LT, na}, Step.{LS}}
 use Rattle.formulas.specs.Width.{mV, μΩ, μA, billionths, factorWidth, currentWidth, tolerableWidth, resistanceWidth, riseWidth}
 use Rattle.formulas.specs.{Width.{referenceKi, meshWidth, stepWidth}, Yards.{grid, sample, rectangle}}
-use Rattle.formulas.proofs.{Tables.{Every}, Known.{atMost, at-most}}
+use Rattle.formulas.proofs.Known.{atMost, at-most}
 
 -- the sample with twenty rods of 7.5 m along the perimeter
 abbrev rodded : Case

@@ -4,7 +4,7 @@ use mathlib.Core.{Path.{_≡_, refl, ap}, Bool.{Bool, _&&_}, List.{[], _∷_}}
 use native.Mathlib.{Omega.{arith}, Nat.{zero-lt-suc}}
 use lib.{IntN.{pos}, Dec.{T, leb, leb→le, lit≤}}
 use mir.Facts.{and-yes}
-use Rattle.whole.proofs.Choice.{pos≤}
+use Rattle.whole.{specs.Every.{Every}, proofs.Choice.{pos≤}}
 use Rattle.interval.{specs.Operations.{natural}, proofs.Rules.{_≼_, Kept, lits}}
 use Rattle.exact.specs.{Fraction.{Fraction, whole, decimal, _−f_, top}, Ends.{Ends, _÷e_}, Exact.{Exact, exactly, _÷x_, Holds}, Root.{root}}
 use Rattle.exact.{specs.{Reported.{Scale, ten, over, reported, Reports}, Depth.{Consistent}}, proofs.Order.{refl≤}}
@@ -18,7 +18,7 @@ use Rattle.formulas.specs.{Lengths.{ρ, D, h, d}, Current.{IG}, Size.{co
 use Rattle.formulas.specs.{Tolerable.{Q, k, rootTime, tolerableTouch, tolerableStep}, Mesh.{G}}
 use Rattle.formulas.specs.Width.{mV, μΩ, μA, billionths, factorWidth, currentWidth}
 use Rattle.formulas.specs.Yards.{yard, sample, wet, rectangle, rodless, yards, Right, Worked.{conductor}}
-use Rattle.formulas.proofs.{Tables.{Every}, Positive.{millisecond}, Decrement.{consistent-Df}, Conductors.{quantity-n}}
+use Rattle.formulas.proofs.{Positive.{millisecond}, Decrement.{consistent-Df}, Conductors.{quantity-n}}
 use Rattle.formulas.proofs.Quantities.{quantity-IG}
 use Rattle.formulas.proofs.Consistent.{consistent-touch, consistent-tolerable-step, quantity-resistance, consistent-step}
 use Rattle.formulas.proofs.{Consistent.{consistent-mesh}, ReportedSize.{size-reported}}
@@ -56,7 +56,7 @@ exact-root q ms r u R k e w =
     (t .positive))
 
 halves : Scale
-halves = record { count = 2; pos = zero-lt-suc 1 }
+halves = record { count = 2; positive = zero-lt-suc 1 }
 
 -- ---- a pair that reports a value which is known
 

@@ -139,20 +139,20 @@ yards =
     ∷ []
 
 -- the pair with these ends holds the exact value
-abbrev pub Between : Exact → Scale → ℕ → ℕ → Type 0
-Between x unit lower upper = Holds (reported unit (natural lower upper)) x
+abbrev pub HeldBy : Exact → Scale → ℕ → ℕ → Type 0
+HeldBy x unit lower upper = Holds (reported unit (natural lower upper)) x
 
 -- "a starred voltage means that the pair with both ends there holds the exact value". A size is right if it is the size by the upper end of
 -- every pair that reports the factor. A factor or current is right if the pair with those ends holds the exact value and meets its width,
 -- any other number if the pair holds the exact value.
 abbrev pub Right : Worked → Type 0
-Right (voltages c touch step) = Between (tolerableTouch c) mV touch touch × Between (tolerableStep c) mV step step
-Right (tolerable c touch touch′ step step′) = Between (tolerableTouch c) mV touch touch′ × Between (tolerableStep c) mV step step′
+Right (voltages c touch step) = HeldBy (tolerableTouch c) mV touch touch × HeldBy (tolerableStep c) mV step step
+Right (tolerable c touch touch′ step step′) = HeldBy (tolerableTouch c) mV touch touch′ × HeldBy (tolerableStep c) mV step step′
 Right (conductor c kcmil) = (pair : Interval) → Reports (Df c) billionths factorWidth pair → size c (natAbs (pair .upper)) ≡ kcmil
 Right (decrement c lower upper) = Reports (Df c) billionths factorWidth (natural lower upper)
 Right (current c lower upper) = Reports (IG c) μA currentWidth (natural lower upper)
 Right (argument c g) = G c ≈f g
-Right (conductors c lower upper) = Between (n c) billionths lower upper
-Right (meshVoltage c lower upper) = Between (mesh c) mV lower upper
-Right (stepVoltage c lower upper) = Between (step c) mV lower upper
-Right (gridResistance c lower upper) = Between (resistance c) μΩ lower upper
+Right (conductors c lower upper) = HeldBy (n c) billionths lower upper
+Right (meshVoltage c lower upper) = HeldBy (mesh c) mV lower upper
+Right (stepVoltage c lower upper) = HeldBy (step c) mV lower upper
+Right (gridResistance c lower upper) = HeldBy (resistance c) μΩ lower upper

@@ -16,7 +16,7 @@ use Rattle.decrement.proofs.Right.{factor-reports}
 use Rattle.current.proofs.GridCurrent.{upper-bounds}
 use Rattle.row.specs.{declared.Row.{Row}, Ends.{caseVerdict, rowOf}}
 use Rattle.row.proofs.Right.{tolerable-touch-reports, tolerable-step-reports, resistance-reports, row-verdict, right-row}
-use Rattle.hocsimbur.specs.declared.Number.the-variants as number
+use Rattle.hocsimbur.specs.declared.SizeAnswer.the-variants as number
 use Rattle.hocsimbur.specs.declared.Tolerable.the-variants as tolerable
 use Rattle.hocsimbur.specs.declared.RowAnswer.{RowAnswer}
 use Rattle.hocsimbur.specs.Asked.{pairAnswer, PairAnswered, factorInRow, resistanceInRow, sizeByRow, sizeAnswer, SmallestSize}

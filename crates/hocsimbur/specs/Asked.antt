@@ -15,8 +15,8 @@ use Rattle.formulas.specs.Resistance as R
 use Rattle.tolerable.specs.Ends.{touchEnds, stepEnds}
 use Rattle.decision.specs.declared.Verdict.{Verdict}
 use Rattle.row.specs.{declared.Row.{Row}, Row.{RightRow}, Ends.{rowOf}}
-use Rattle.hocsimbur.specs.declared.{Number.{Number}, Tolerable.{Tolerable}, RowAnswer.{RowAnswer, the-variants.{Is}}}
-use Rattle.hocsimbur.specs.declared.Number.the-variants as number
+use Rattle.hocsimbur.specs.declared.{SizeAnswer.{SizeAnswer}, Tolerable.{Tolerable}, RowAnswer.{RowAnswer, the-variants.{Is}}}
+use Rattle.hocsimbur.specs.declared.SizeAnswer.the-variants as number
 use Rattle.hocsimbur.specs.declared.Tolerable.the-variants as tolerable
 use Rattle.hocsimbur.specs.declared.RowAnswer.the-variants as row
 
@@ -51,7 +51,7 @@ unfoldable pub sizeByRow : Case → ℕ
 sizeByRow c = size c (natAbs (factorInRow c .upper))
 
 -- that size, or refusal 5 or 6 with line 0
-unfoldable pub sizeAnswer : Case → Number
+unfoldable pub sizeAnswer : Case → SizeAnswer
 sizeAnswer c = recordAnswer number.Refused (number.Is (sizeByRow c)) (recordJudged c)
 
 -- "the smallest whole kcmil not below I·Kf·√t", by exact values, with the factor in billionths
@@ -64,13 +64,13 @@ pub record SizedBy (c : Case) (factor : Interval) (kcmil : ℕ) : Type 0 where
   pub factor-right : Reports (Df c) billionths factorWidth factor
   pub size-right : SmallestSize c (natAbs (factor .upper)) kcmil
 
-unfoldable pub RightSize : Case → Number → Type 0
+unfoldable pub RightSize : Case → SizeAnswer → Type 0
 RightSize c (number.Is kcmil) = SizedBy c (factorInRow c) kcmil
 RightSize c (number.Refused number line column) = Unit {0}
 
 -- the answer by the names of the factor's ends and the size, and what holds of them. Two wrong programs: one that refuses every record
 -- breaks `answer`; one that sizes by the lower end, by that name, breaks `right`.
-pub record SizeAnswered (c : Case) (r : Number) : Type 0 where
+pub record SizeAnswered (c : Case) (r : SizeAnswer) : Type 0 where
   pub answer : r ≡ sizeAnswer c
   pub right : RightSize c r
 

@@ -42,7 +42,7 @@ pub use yards::FewestLines;
 pub use yards::fewest_lines;
 
 // A number that the rules settle, or a refusal with number, line and column.
-pub enum Number {
+pub enum SizeAnswer {
     Is(u64),
     Refused(u32, usize, usize),
 }
@@ -70,12 +70,12 @@ pub fn decrement_factor(c: Case) -> Pair
 }
 
 // The conductor size in whole kcmil.
-pub fn conductor_size(c: Case) -> Number
+pub fn conductor_size(c: Case) -> SizeAnswer
     ensures { λ r. ⌜ SizeAnswered c r ⌝ }
 {
     match judge(c) {
-        Judged::Sound => Number::Is(current::conductor_size(c, factor_ends(c))),
-        Judged::Refused(number, line, column) => Number::Refused(number, line, column),
+        Judged::Sound => SizeAnswer::Is(current::conductor_size(c, factor_ends(c))),
+        Judged::Refused(number, line, column) => SizeAnswer::Refused(number, line, column),
     }
 }
 

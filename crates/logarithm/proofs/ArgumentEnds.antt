@@ -11,7 +11,7 @@ use Rattle.logarithm.proofs.{Ratio.{ratio-low, base-below, base-above, 
 
 -- p / b
 ratio : ℕ → {b : ℕ} → 1 ≤ b → Fraction
-ratio p {b} h = record { plus = p; minus = 0; den = b; pos = h }
+ratio p {b} h = record { plus = p; minus = 0; den = b; positive = h }
 
 argument-is : {p b : ℕ} (h : 1 ≤ b) → b ≤ p → Is binary ((p - b) * unit) (p + b) (argument (ratio p h))
 unfolding ratio argument whole _+f_ neg _−f_ _·f_ inv _÷f_

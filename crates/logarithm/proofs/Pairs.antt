@@ -18,7 +18,7 @@ use Rattle.logarithm.proofs.{KnownHalvings.{ln-up, ln-down}, LnEnds.{ln
 -- a of a unit over one
 count-ratio : (a : ℕ) (u : Scale) → over (pos a) u ≈f whole a ÷f whole (u .count)
 unfolding over whole inv _÷f_ _·f_
-count-ratio a u = omega (arith, ap (λ t. a * t) (clamped (u .pos)))
+count-ratio a u = omega (arith, ap (λ t. a * t) (clamped (u .positive)))
 
 module _ {a b : ℕ} (u : Scale) (ha : Inside a) (hb : Inside b) (hu : Inside (u .count)) where
   -- of a value between a and b of the unit
@@ -52,7 +52,7 @@ module _ (n : ℕ) {c d : ℕ} (u : Scale) (hc : Inside c) (hd : Inside d) (hn :
   -- n over p of the unit
   quotient-is : {p : ℕ} → 1 ≤ p → whole n ÷f over (pos p) u ≈f whole q ÷f whole p
   quotient-is {p} l =
-      trans≈ (expand (whole n) (over-pos l) (whole-pos (u .pos)) (count-is p))
+      trans≈ (expand (whole n) (over-pos l) (whole-pos (u .positive)) (count-is p))
       (cong÷ (whole-pos l) (sym≈ (whole-mul n (u .count))) (refl≈ _))
 
   pub ln-over-encloses : {y : Exact} → Consistent y → PositiveAt y → Encloses y u (natural c d)

@@ -9,7 +9,7 @@ use Rattle.logarithm.specs.Series.{unit}
 
 -- the unit of the series, 2^−33
 abbrev pub binary : Scale
-binary = record { count = unit; pos = lit< tt }
+binary = record { count = unit; positive = lit< tt }
 
 pub term-is : (a i : ℕ) → Is binary (2 * a) (2 * i + 1) (termOf (units binary a) i)
 unfolding over whole _·f_ inv _÷f_

@@ -20,7 +20,7 @@ pub record IsMargin (voltage tolerable : ℕ) (m : ℤ) : Type 0 where
 
 -- all of a voltage and m tenths of a percent more
 unfoldable pub share : ℤ → Fraction
-share m = record { plus = whole + plus m; minus = minus m; den = whole; pos = zero-lt-suc 999 }
+share m = record { plus = whole + plus m; minus = minus m; den = whole; positive = zero-lt-suc 999 }
 
 -- the exact voltages are at or below that share of what is tolerable, and the row is safe just where neither margin is above 0
 pub record RightMargins (c : Case) (mesh step : ℤ) : Type 0 where

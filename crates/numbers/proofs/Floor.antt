@@ -43,7 +43,7 @@ lowest p (suc n) = lowest-next p (lowest p n) (decLe 3 n)
 
 -- at most a third of a positive fraction: a third of 1 / den
 pub part : Fraction → Fraction
-part e = record { plus = 1; minus = 0; den = 3 * e .den; pos = mul-pos (omega arith) (e .pos) }
+part e = record { plus = 1; minus = 0; den = 3 * e .den; positive = mul-pos (omega arith) (e .positive) }
 
 pub part-positive : (e : Fraction) → whole 0 <f part e
 unfolding whole part

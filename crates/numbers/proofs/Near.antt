@@ -13,7 +13,7 @@ exchanged a b c = trans≈ (mul-assoc a b c) (trans≈ (cong· (refl≈ a) (mul-
 -- a whole number not below a fraction
 pub whole-above : (a : Fraction) → a ≤f whole (a .plus)
 unfolding whole
-whole-above a = omega (arith, mul-le-mul-right (a .plus) (a .pos))
+whole-above a = omega (arith, mul-le-mul-right (a .plus) (a .positive))
 
 pub near-below : {w a b : Fraction} → whole 0 ≤f w → b ≤f a → Near w a b
 near-below n h = record { near = trans≤ h (le+ n) }

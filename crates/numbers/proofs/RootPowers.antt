@@ -7,7 +7,7 @@ use Rattle.exact.proofs.{Order.{trans≤, refl≈, trans≈}, Products.{cong·}
 
 -- (a / 10^k)^n as one fraction
 power : ℕ → ℕ → ℕ → Fraction
-power a k n = record { plus = a ^ n; minus = 0; den = (10 ^ k) ^ n; pos = one-le-pow n (10 ^ k) (ten-pos k) }
+power a k n = record { plus = a ^ n; minus = 0; den = (10 ^ k) ^ n; positive = one-le-pow n (10 ^ k) (ten-pos k) }
 
 power-first : (a k : ℕ) → whole 1 ≈f power a k 0
 unfolding whole power

@@ -5,22 +5,22 @@ use gate::numbers;
 use gate::refused;
 use hocsimbur::FewestLines;
 use hocsimbur::Interval;
-use hocsimbur::Number;
 use hocsimbur::Pair;
 use hocsimbur::Room;
 use hocsimbur::Row;
 use hocsimbur::RowAnswer;
+use hocsimbur::SizeAnswer;
 use hocsimbur::Tolerable;
 use hocsimbur::Worked;
 
 // A number that the rules settle.
-pub fn settled(answer: Number) {
+pub fn settled(answer: SizeAnswer) {
     match answer {
-        Number::Is(n) => {
+        SizeAnswer::Is(n) => {
             number(n);
             bytes(b"\n");
         }
-        Number::Refused(why, line, column) => refused(why, line, column),
+        SizeAnswer::Refused(why, line, column) => refused(why, line, column),
     }
 }
 

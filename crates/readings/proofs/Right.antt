@@ -20,7 +20,7 @@ use Rattle.readings.proofs.Enclosed.{least-joined, greatest-joined, sum
 
 module _ {c : ℕ} (h : 0 < c) where
   times : Scale → Scale
-  times u = scaleProduct u (record { count = c; pos = h })
+  times u = scaleProduct u (record { count = c; positive = h })
 
   over-divided : (z : ℤ) (u : Scale) → over z (times u) ≈f inv (whole c) ·f over z u
   unfolding over inv whole _·f_ times

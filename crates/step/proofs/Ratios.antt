@@ -11,7 +11,7 @@ use Rattle.exact.proofs.{Points.{Point}, Reported.{over-sum}}
 
 -- n / d
 abbrev pub ratio : ℕ → (d : ℕ) → 0 < d → Fraction
-ratio n d p = record { plus = n; minus = 0; den = d; pos = p }
+ratio n d p = record { plus = n; minus = 0; den = d; positive = p }
 
 -- the inverse of a fraction that is written with no minus
 pub inverse-is : (q : Fraction) (p : 0 < q .plus) → q .minus ≡ 0 → inv q ≈f ratio (q .den) (q .plus) p
@@ -23,7 +23,7 @@ inverse-is q p e =
 -- a k / d, counted in a unit
 module _ (a d k : ℕ) (p : 0 < d) (u : Scale) where
   unfoldable pub counted : Fraction
-  counted = ratio (a * k) (d * u .count) (mul-pos p (u .pos))
+  counted = ratio (a * k) (d * u .count) (mul-pos p (u .positive))
 
   pub counted-point : Point counted (reported u (quotientOf (point (pos a)) (point (pos d)) k))
   unfolding counted natural reported over

@@ -17,7 +17,7 @@ use Rattle.tolerable.proofs.{Layer.{layer-span}, Surface.{layer-point},
 
 -- units of 1/2,000,000
 halfMicro : Scale
-halfMicro = record { count = 2000000; pos = zero-lt-suc 1999999 }
+halfMicro = record { count = 2000000; positive = zero-lt-suc 1999999 }
 
 body-is : (c : Case) → k c ≈f decimal (bodyFactor c) 3
 unfolding k bodyFactor

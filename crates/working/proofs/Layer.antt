@@ -27,7 +27,7 @@ module _ (soil layer thick : ℕ) (p : 0 < layer) where
 
   -- 0.09(1 − ρ/ρs)/(2hs + 0.09)
   share : Fraction
-  share = record { plus = 90 * layer; minus = 90 * soil; den = layer * (2 * thick + 90); pos = below }
+  share = record { plus = 90 * layer; minus = 90 * soil; den = layer * (2 * thick + 90); positive = below }
 
   multiplied : share ·f thickness thick ≈f decimal 9 2 ·f (whole 1 −f ratio soil layer p)
   unfolding share thickness whole decimal _·f_ _+f_ _−f_ neg

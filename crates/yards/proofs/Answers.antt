@@ -4,6 +4,7 @@ use mathlib.Core.{Path.{_≡_, refl, sym, ap, _∙_}, Bool.{Bool, true, false, c
 use native.Mathlib.Omega.{arith}
 use lib.{Dec.{leb, eqb}, ListN.{length, getD}}
 use Rattle.text.proofs.Clash.{clash}
+use Rattle.whole.specs.Every.{Every}
 use Rattle.case.specs.{declared.{Case.{Case}, Judged.{Judged}}, Check.{recordJudged, recordAnswer}, Bounds.{Bounds}}
 use Rattle.case.proofs.{Bounds.{record-bounds}, BoundsSound.{bounds-sound}}
 use Rattle.case.specs.declared.Judged.the-variants as judged
@@ -12,7 +13,7 @@ use Rattle.row.{specs.Ends.{caseVerdict, rowOf}, proofs.Right.{row-verdict, rig
 use Rattle.yards.specs.declared.FewestLines.{FewestLines, the-variants.{Found, None, Refused}}
 use Rattle.yards.specs.Yards.{yard, yards, trial, meansSafe, isSafe}
 use Rattle.yards.specs.Fewest.{leastSide, mostSide, fewest, sideAnswer, answer, AnsweredYard, RightAnswer, FewestAnswered}
-use Rattle.yards.proofs.{Trying.{yards-most}, Sound.{Tried, Every, yards-sound}, Place.{Says, fewest-says}, Found.{found-yard}}
+use Rattle.yards.proofs.{Trying.{yards-most}, Sound.{Tried, yards-sound}, Place.{Says, fewest-says}, Found.{found-yard}}
 
 -- ---- an answer that is no refusal
 
@@ -55,7 +56,6 @@ module _ {c : Case} {side : ℕ} where
 -- ---- a yard of the list
 
 every-at : (P : Case → Type 0) (d : Case) (ys : List Case) → Every P ys → (i : ℕ) → i < length ys → P (getD ys i d)
-unfolding Every
 every-at P d [] h i l = absurd (omega arith)
 every-at P d (y ∷ ys) h zero l = h .0
 every-at P d (y ∷ ys) h (suc i) l = every-at P d ys (h .1) i (omega arith)

@@ -2,11 +2,12 @@
 use Prim.Native.Nat.{ℕ, suc}
 use mathlib.Core.{Path.{_≡_, refl, _∙_}, Bool.{Bool, true, false, cond}, List.{List, [], _∷_}}
 use Rattle.text.proofs.Clash.{clash}
+use Rattle.whole.specs.Every.{Every}
 use Rattle.case.specs.{declared.Case.{Case}, Bounds.{Bounds}}
 use Rattle.decision.specs.declared.Verdict.{the-variants.{Safe, Unsafe, Undecided}, Verdict}
 use Rattle.row.specs.Ends.{caseVerdict}
 use Rattle.yards.specs.{declared.FewestLines.the-variants.{Found}, Yards.{yard, yards, meansSafe, isSafe}, Fewest.{firstSafe, fewest}}
-use Rattle.yards.proofs.Sound.{Tried, Every, yards-sound}
+use Rattle.yards.proofs.Sound.{Tried, yards-sound}
 
 -- a yard of these counts of lines and rods
 pub record FoundYard (c : Case) (side lines rods : ℕ) : Type 0 where
@@ -27,7 +28,7 @@ safe-yard lines rods b e = record { sound = b; safe = means-safe _ e }
 module _ (c : Case) (side : ℕ) where
   found-in : (t : ℕ) (ys : List Case) {lines rods place : ℕ} → Every (Tried c side) ys → firstSafe t ys ≡ Found lines rods place
       → FoundYard c side lines rods
-  unfolding firstSafe Every
+  unfolding firstSafe
   found-in t [] s e = clash cc
   found-in t (y ∷ ys) {lines} {rods} {place} s e = go (isSafe y) refl e (found-in (suc t) ys (s .1))
     where

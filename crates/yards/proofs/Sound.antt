@@ -5,6 +5,7 @@ use native.Mathlib.Omega.{arith}
 use lib.Dec.{leb, eqb}
 use borrow.Author.Tests.{leb-true, ne-eqb}
 use Rattle.text.{specs.Text.{same}, proofs.Clash.{clash}}
+use Rattle.whole.specs.Every.{Every}
 use Rattle.case.specs.{declared.Case.{Case}, Columns.{columns, inRange, nameIndex}, Parts.{rangeAt}}
 use Rattle.case.specs.Bounds.{Between, Bare, Layered, Rodless, Rodded, Bounds}
 use Rattle.yards.specs.Yards.{spacing, spaceRange, fits, yard, yardsOf, yardsFrom, yards}
@@ -76,14 +77,9 @@ yard-tried : (c : Case) (side lines rods : ℕ) → Bounds (yard c side lines ro
 unfolding yard
 yard-tried c side lines rods b = record { bounds = b; is = refl }
 
-unfoldable pub Every : (Case → Type 0) → List Case → Type 0
-Every P [] = Unit
-Every P (y ∷ ys) = P y × Every P ys
-
 module _ (c : Case) (side : ℕ) (b : Bounds (yard c 2500 2 4)) where
   rods-sound : (n k lines : ℕ) (more : List Case) → k + n ≡ 11 → 2 ≤ lines → lines ≤ 25 → fits side lines ≡ true → Every (Tried c side) more
       → Every (Tried c side) (yardsOf c side lines k ++ more)
-  unfolding Every
   rods-sound zero k lines more e l m f s = rw (rods-end c side lines k more (omega arith)) s
   rods-sound (suc n) k lines more e l m f s =
       rw (rods-next c side lines k more (omega arith) f) (
@@ -93,7 +89,6 @@ module _ (c : Case) (side : ℕ) (b : Bounds (yard c 2500 2 4)) where
       )
 
   lines-sound : (n lines : ℕ) → lines + n ≡ 26 → 2 ≤ lines → Every (Tried c side) (yardsFrom c side lines)
-  unfolding Every
   lines-sound zero lines e l = rw (lines-end c side lines (omega arith)) tt
   lines-sound (suc n) lines e l = go (fits side lines) refl (lines-sound n (lines + 1) (omega arith) (omega arith))
     where
