@@ -2,10 +2,8 @@
 ghost use mathlib.Core.Path.{_≡_};
 ghost use Rattle.current.specs.Metal.{constantOf};
 
-// A metal by its number in the table.
-pub struct Metal {
-    pub number: u32,
-}
+// The table of metals, by which each number from 1 to 11 has a Kf.
+pub struct Metal;
 
 // What the table has for a metal: Kf in hundredths, or nothing.
 pub enum Constant {
@@ -37,11 +35,10 @@ impl Metal {
 
     pub const STAINLESS_304: u32 = 3005;
 
-    // The metal's own Kf.
-    pub fn kf(self) -> Constant
-        ensures { λ r. ⌜ r ≡ constantOf (self .number) ⌝ }
+    // The Kf of the metal with this number.
+    pub fn kf(number: u32) -> Constant
+        ensures { λ r. ⌜ r ≡ constantOf number ⌝ }
     {
-        let number = self.number;
         match number {
             1 => Constant::Kf(Metal::SOFT_DRAWN_COPPER),
             2 => Constant::Kf(Metal::HARD_DRAWN_COPPER),

@@ -28,7 +28,7 @@ fn load(c: Case, factor: Interval) -> u64
     ensures { λ r. ⌜ r ≡ duty c (upperFactor c) ⌝ }
 {
     let current = fault_current(c, factor);
-    let constant = Metal { number: c.metal }.kf();
+    let constant = Metal::kf(c.metal);
     let Constant::Kf(kf) = constant else {
         return 0;
     };

@@ -30,4 +30,4 @@ kf-spec =
     tie.close (tie.spec (λ c. rw (c .match .keys1)) (λ c. rw (c .match .keys2)) (λ c. rw (c .match .keys3)) (λ c. rw (c .match .keys4))
     (λ c. rw (c .match .keys5)) (λ c. rw (c .match .keys6)) (λ c. rw (c .match .keys7)) (λ c. rw (c .match .keys8))
     (λ c. rw (c .match .keys9)) (λ c. rw (c .match .keys10)) (λ c. rw (c .match .keys11))
-    (λ c. none (c .before .args .self .number) (past _ 11 (c .match .rest))))
+    (λ c. none (c .before .args .number) (past _ 11 (c .match .rest))))
