@@ -24,10 +24,6 @@ use Rattle.step.proofs.Widths as SW
 use Rattle.mesh.{specs.Ends.{meshEnds}, proofs.{Enclosed.{mesh-encloses}, Widths.{mesh-narrow}}}
 use Rattle.row.specs.{Row.{RightRow, verdictOf}, Ends.{caseVerdict, rowOf}}
 
-pub row-verdict : (c : Case) → rowOf c .verdict ≡ caseVerdict c
-unfolding rowOf
-row-verdict c = refl
-
 module _ {c : Case} (b : Bounds c) where
   pub tolerable-touch-reports : Reports (Tolerable.tolerableTouch c) mV tolerableWidth (touchEnds c)
   tolerable-touch-reports = reports tolerableWidth (consistent-touch b) (T.touch-encloses b) (TW.touch-narrow b)
@@ -74,3 +70,8 @@ module _ {c : Case} (b : Bounds c) where
         safe-true = safe-true tolerable-touch-enclosed tolerable-step-enclosed mesh-enclosed step-enclosed;
         unsafe-true = unsafe-true tolerable-touch-enclosed tolerable-step-enclosed mesh-enclosed step-enclosed;
       }
+
+-- the verdict under its own name
+pub row-verdict : (c : Case) → rowOf c .verdict ≡ caseVerdict c
+unfolding rowOf
+row-verdict c = refl
