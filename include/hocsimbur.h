@@ -220,8 +220,9 @@ int64_t hocsimbur_headroom(const uint8_t *sheet, size_t sheet_bytes, int64_t *nu
 
 /* The fewest lines each way, then rods, with which a square yard of a side in mm is safe, all else as in the one value line of a
  * sheet. Answers 1 and three numbers, the lines, the rods and how many yards were tried; or 0 and 0, 0 and how many were tried,
- * none of them safe. The line passes all checks of a sheet first, so that it has some rods for their length to be read. Refusals 1
- * to 7, and 4 at line 3 where there are more value lines; then 15, 16, 8. */
+ * none of them safe. The line's own across, along, space, rods and place are not read: any value stands there. Refusals 1, 2, 4 (at
+ * line 3 where there are more value lines) and 3 of the sheet; then 5 and 6 of what is read, with line 0 and the column's place in the
+ * table of names; then 15, 16, 8. */
 int64_t hocsimbur_fewest(const uint8_t *sheet, size_t sheet_bytes, uint32_t side, int64_t *numbers, size_t numbers_numbers, size_t *place,
                          size_t place_numbers);
 

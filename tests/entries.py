@@ -149,19 +149,16 @@ def releases(library):
 
 
 def searches(library):
-    """Yards whose answer every right program gives, each as a sheet of one line, or of two, which is refused with 4."""
-    for case, side in [*fewest.stored(8), (fewest.stored(1)[0][0], 2499)]:
-        case = case._replace(across=5, along=5, space=5000, rods=4, place=1)
-        some = [sheets.sheet_of([case]), sheets.sheet_of([case, case._replace(season=case.season % 4 + 1)])]
-        told = fewest.answer(case, side, fewest.sure)
-        right = told if isinstance(told, Refusal) else (1, [*told[1:]]) if told[0] == "found" else (0, [0, 0, told[1]])
-        for sheet, wanted in zip(some, (right, Refusal(4, 3, 0))):
-            answer, (numbers,) = library.ask("fewest", [("u8", sheet), ("one", side)], [("i64", [FILL] * 4)])
-            if isinstance(wanted, Refusal):
-                same = (answer, numbers) == (wanted, [FILL] * 4)
-            else:
-                same = (answer, numbers) == (wanted[0], [*wanted[1], FILL])
-            yield f"{side} {sheet!r}", [] if same else [f"{answer} and {numbers}, not {wanted}"]
+    """The inputs of the program `fewest`, its stored one first, and the stored searches as sheets, with all that is not read as it stands."""
+    some = [fewest.parts(text) for text in fewest.inputs()]
+    some += [(sheets.sheet_of([case]), side) for case, side in fewest.stored()]
+    for sheet, side in some:
+        told = fewest.sheet_answer(sheet, side, fewest.sure)
+        for room in (4, 3, 2):
+            answer, (numbers,) = library.ask("fewest", [("u8", sheet), ("one", side)], [("i64", [FILL] * room)])
+            wanted = told if isinstance(told, Refusal) else Refusal(8, 0, 0) if room < 3 else (1, [*told[1:]]) if told[0] == "found" else (0, [0, 0, told[1]])
+            right = (wanted, [FILL] * room) if isinstance(wanted, Refusal) else (wanted[0], filled(wanted[1], room))
+            yield f"{side} {sheet[-400:]!r}", [] if (answer, numbers) == right else [f"{answer} and {numbers}, not {wanted}"]
 
 
 def carried(library):

@@ -101,6 +101,70 @@ def line(case, side):
 
 
 # --------------------------------------------------------------------------
+# A sheet of one value line and a side: the program's input, and what the C entry takes.
+# --------------------------------------------------------------------------
+
+def sheet_case(sheet):
+    """The case of a sheet's one line, or the first of the sheet's refusals 1, 2, 4 and 3; its values may be anything."""
+    if not sheet or len(sheet) > calc.MAX_BYTES or not sheet.endswith(calc.LINE_END):
+        return Refusal(1, 0, 0)
+    header, _, rest = sheet.partition(calc.LINE_END)
+    names = header.split(calc.FIELD_END)
+    wrong = calc.check_names(names, calc.FORM)
+    if wrong:
+        return wrong
+    if not rest:
+        return Refusal(4, 2, 0)
+    line, _, more = rest.partition(calc.LINE_END)
+    if more:
+        return Refusal(4, 3, 0)
+    fields = line.split(calc.FIELD_END)
+    column = calc.wrong_form_column(fields, calc.COLUMN_COUNT)
+    if column:
+        return Refusal(3, 2, column)
+    order = [calc.NAME_BYTES.index(name) for name in names]
+    return calc.in_document_order(order, [int(field) for field in fields], calc.FORM)
+
+
+def sheet_answer(sheet, side, is_safe):
+    """The sheet's refusals, then the answer to its case."""
+    case = sheet_case(sheet)
+    return case if isinstance(case, Refusal) else answer(case, side, is_safe)
+
+
+def parts(text):
+    """The sheet of an input, which follows its first line, and the side; what has not the form of a value is 0, which is out of range."""
+    side, _, sheet = text.partition(calc.LINE_END)
+    return sheet, int(side) if calc.has_value_form(side) else 0
+
+
+PROGRAM = Path(__file__).parents[1] / "crates" / "fewest"  # whose stored input has unread values out of range
+YARD = calc.Case(7, 1, 100, 2500, 102, 500, 500, 500, 70, 3180, 600, 10, 11, 11, 7000, 500, 100, 0, 7500, 0, 1, 60)
+
+
+def inputs():
+    """Inputs of the program: its stored one, answers of each kind, each refusal, sides of no form, and inputs at the limits."""
+    yield (PROGRAM / "stdin").read_bytes()
+    sheet = sheets.sheet_of([YARD])
+    names, values = sheet.split(b"\n")[:2]
+    for side in ("70000", "2500", "720000", "2501", "2499", "720001", "0", "07000", "1000000", "7 0000", "", "-70000", "70000.0"):
+        yield side.encode("ascii") + b"\n" + sheet
+    for change in ({"rodlen": 0}, {"fault": 80000, "split": 1000, "soil": 5000}, {"station": 0}, {"layer": 0}, {"hz": 55},
+                   *({name: value} for name in UNREAD for value in (0, 1, 999999))):
+        for side in (b"70000", b"0", b"0070000"):
+            yield side + b"\n" + sheets.sheet_of([YARD._replace(**change)])
+    for rest in (b"", b"\n", names, names + b"\n", sheet[:-1], sheet + values + b"\n", sheet + b"\n", b"x" + sheet,
+                 sheet.replace(b"3180", b""), sheet.replace(b"3180", b"3180.0"), b"x" * (2 * calc.MAX_BYTES), names + b"\n" + values + b",1" * calc.MAX_BYTES):
+        yield b"70000\n" + rest
+    for length in (calc.MAX_BYTES - 1, calc.MAX_BYTES, calc.MAX_BYTES + 1):
+        long = sheets.filled_up(sheet, length)
+        yield from (side + b"\n" + long for side in (b"70000", b"720000", b"7200000", b""))
+        yield from (b"70000\n" + long[:-1] + last for last in (b",", b"1"))
+    yield b"70000"
+    yield b""
+
+
+# --------------------------------------------------------------------------
 # Questions.
 # --------------------------------------------------------------------------
 

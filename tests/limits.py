@@ -95,59 +95,10 @@ def carried_text(way, sheet):
     return refusal_text(answer) if isinstance(answer, Refusal) else answer.decode("ascii")
 
 
-def fewest_refusal(sheet):
-    """Where no search is asked: names, lines and values of a sheet of one line; or its case."""
-    header, _, rest = sheet.partition(calc.LINE_END)
-    names = header.split(calc.FIELD_END)
-    wrong = calc.check_names(names, calc.FORM)
-    if wrong:
-        return wrong
-    if not rest:
-        return Refusal(4, 2, 0)
-    line, _, more = rest.partition(calc.LINE_END)
-    if more:
-        return Refusal(4, 3, 0)
-    fields = line.split(calc.FIELD_END)
-    column = calc.wrong_form_column(fields, calc.COLUMN_COUNT)
-    if column:
-        return Refusal(3, 2, column)
-    order = [calc.NAME_BYTES.index(name) for name in names]
-    return calc.in_document_order(order, [int(field) for field in fields], calc.FORM)
-
-
 def fewest_text(text):
-    """A side that has not the form of a value is none: 0, which is out of range. An input over the most bytes is refused."""
-    if len(text) > calc.MAX_BYTES:
-        return refusal_text(Refusal(1, 0, 0))
-    side, _, sheet = text.partition(calc.LINE_END)
-    case = fewest_refusal(sheet)
-    if isinstance(case, Refusal):
-        return refusal_text(case)
-    answer = fewest.answer(case, int(side) if calc.has_value_form(side) else 0, fewest.sure)
+    """An input longer than any side with any sheet is refused."""
+    answer = Refusal(1, 0, 0) if len(text) > calc.MAX_BYTES + len(b"720000\n") else fewest.sheet_answer(*fewest.parts(text), fewest.sure)
     return refusal_text(answer) if isinstance(answer, Refusal) else ",".join(map(str, answer)) + "\n"
-
-
-# --------------------------------------------------------------------------
-# Searches.
-# --------------------------------------------------------------------------
-
-YARD = Case(7, 1, 100, 2500, 102, 500, 500, 500, 70, 3180, 600, 10, 11, 11, 7000, 500, 100, 0, 7500, 0, 1, 60)
-
-
-def searches():
-    """Inputs of `fewest`: answers of each kind, each refusal, sides of no form, and inputs at the limits."""
-    sheet = sheets.sheet_of([YARD])
-    names, values = sheet.split(b"\n")[:2]
-    for side in ("70000", "2500", "720000", "2501", "2499", "720001", "0", "07000", "1000000", "7 0000", "", "-70000", "70000.0"):
-        yield side.encode("ascii") + b"\n" + sheet
-    for change in ({"rodlen": 0}, {"fault": 80000, "split": 1000, "soil": 5000}, {"station": 0}, {"layer": 0}, {"hz": 55}):
-        for side in (b"70000", b"0", b"0070000"):
-            yield side + b"\n" + sheets.sheet_of([YARD._replace(**change)])
-    for rest in (b"", b"\n", names, names + b"\n", sheet[:-1], sheet + values + b"\n", sheet + b"\n", b"x" + sheet,
-                 sheet.replace(b"3180", b""), sheet.replace(b"3180", b"3180.0"), b"x" * (2 * calc.MAX_BYTES), names + b"\n" + values + b",1" * calc.MAX_BYTES):
-        yield b"70000\n" + rest
-    yield b"70000"
-    yield b""
 
 
 # --------------------------------------------------------------------------
@@ -180,7 +131,7 @@ def at_limits(folder):
     for what, sheet in (*sheets_at_limits(), *carried):
         count += len(PROGRAMS) - 1
         wrong += [f"{what}: {complaint}" for complaint in judged(folder, sheet)]
-    for text in searches():
+    for text in fewest.inputs():
         count += 1
         told, wanted = run(folder / "fewest", text), fewest_text(text)
         if told != wanted:
@@ -225,7 +176,7 @@ def on_outputs(folder):
     """What is wrong with the programs on outputs that fail and on a slow reader."""
     sheet = dict(sheets_at_limits())["256 lines"]
     former = carry.sheet_text(carry.FORMER.names, carry.many_cases(carry.widest, carry.FORMER, calc.MAX_VALUE_LINES))
-    texts = dict.fromkeys(PROGRAMS, sheet) | {"carry": former, "fewest": next(searches())}
+    texts = dict.fromkeys(PROGRAMS, sheet) | {"carry": former, "fewest": next(fewest.inputs())}
     wrong = []
     for name, text in texts.items():
         wrong += failing(folder, name, text)

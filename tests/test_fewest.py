@@ -3,15 +3,13 @@ program `fewest`, against the separately written list of yards.
 """
 
 import unittest
-from pathlib import Path
 
 import calculator as calc
 import fewest
 import questions
+import sheets
 from calculator import Case, Refusal
 from printed import lines_of
-
-PROGRAM = Path(__file__).parents[1] / "crates" / "fewest"
 
 
 def rods_four_first(case, side):
@@ -105,12 +103,21 @@ class Lists(unittest.TestCase):
 
 class Program(unittest.TestCase):
     def test_the_stored_run(self):
-        side, names, values = lines_of((PROGRAM / "stdin").read_text(encoding="ascii"))
+        side, names, values = lines_of((fewest.PROGRAM / "stdin").read_text(encoding="ascii"))
         order = names.split(",")
         case = Case(**{name: int(value) for name, value in zip(order, values.split(","))})
         wanted = fewest.answer(case, int(side), fewest.sure)
         self.assertEqual(wanted[0], "found")
-        self.assertEqual((PROGRAM / "stdout").read_text(encoding="ascii"), ",".join(map(str, wanted)) + "\n")
+        self.assertEqual(fewest.sheet_answer(*fewest.parts((fewest.PROGRAM / "stdin").read_bytes()), fewest.sure), wanted)
+        self.assertEqual((fewest.PROGRAM / "stdout").read_text(encoding="ascii"), ",".join(map(str, wanted)) + "\n")
+
+    def test_a_sheet_is_read_before_its_case_and_its_side(self):
+        """The order of the refusals of inputs in which two things are wrong."""
+        sheet = sheets.sheet_of([fewest.YARD._replace(fault=99, across=0)])
+        wrong_value = sheet.replace(b",99,", b",99.0,")
+        for text, number in ((b"0\n" + sheet[:-1], 1), (b"0\nx" + wrong_value, 2), (b"0\n" + wrong_value + b"1\n", 4), (b"0\n" + wrong_value, 3),
+                             (b"0\n" + sheet, 5), (b"0\n" + sheets.sheet_of([fewest.YARD._replace(rodlen=0)]), 15)):
+            self.assertEqual(fewest.sheet_answer(*fewest.parts(text), fewest.sure).number, number, text)
 
 
 if __name__ == "__main__":

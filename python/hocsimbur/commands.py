@@ -100,20 +100,30 @@ def summary(arguments: argparse.Namespace) -> int:
 # ---- estimators
 
 def _one_line(arguments: argparse.Namespace) -> bytes:
-    """The sheet with the one line that a station and a season choose, and with another length of rods; itself where nothing is chosen.
-
-    Of rods, rodlen and place only rodlen is read, but a line has all three or none."""
+    """The sheet with the one line that a station and a season choose, and with another length of rods; itself where nothing is chosen."""
     sheet, station, season = read(arguments.file), arguments.station, arguments.season
     if station is None and season is None and arguments.rodlen is None:
         return sheet
-    ask(lambda: core.rows(sheet), Asked(sheet), arguments.file)
+    if station is None and season is None:
+        _read_alone(sheet, arguments.file)
+    else:
+        ask(lambda: core.rows(sheet), Asked(sheet), arguments.file)
     chosen = [case for case in sheets.cases(sheet) if station in (None, case["station"]) and season in (None, case["season"])]
     if not chosen:
         raise Stopped([f"the sheet has no line for {_chosen(station, season)}"], of=arguments.file)
     if arguments.rodlen is not None:
-        rods = {"rods": 4, "rodlen": _clear("rodlen", length, arguments.rodlen), "place": 1}
-        chosen = [dict(case, **rods) for case in chosen]
+        rodlen = _clear("rodlen", length, arguments.rodlen)
+        chosen = [dict(case, rodlen=rodlen) for case in chosen]
     return sheets.text(chosen)
+
+
+def _read_alone(sheet: bytes, of: str) -> None:
+    """That a sheet has one line of values, whatever they are: the refusals of a search that are not of its form come later."""
+    try:
+        core.fewest(sheet, 0)
+    except core.Refused as refused:
+        if refused.number <= 4:
+            raise Stopped([refusal(refused, Asked(sheet, most_lines=1))], f"refused,{refused.number},{refused.line},{refused.column}\n", of) from None
 
 
 def _chosen(station: Optional[int], season: Optional[int]) -> str:

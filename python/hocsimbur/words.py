@@ -91,18 +91,25 @@ def _lines(refused: Refused, asked: Asked) -> str:
     return f"{asked.place(refused.line)}: the sheet has {grouped(count)} lines of values, at most {LINES} are allowed; part it into several"
 
 
+def _in_sheet(refused: Refused, asked: Asked) -> Tuple[int, str]:
+    """The line of a refused value in the sheet and its name. A case asked alone is told with line 0 and the place in the table of names."""
+    if refused.line == 0:
+        return 2, asked.form[refused.column - 1]
+    return refused.line, asked.cells(1)[refused.column - 1]
+
+
 def _range(refused: Refused, asked: Asked) -> str:
-    name = asked.cells(1)[refused.column - 1]
-    value = asked.value(refused.line, name)
+    line, name = _in_sheet(refused, asked)
+    value = asked.value(line, name)
     own = BY_NAME.get(name)
     unit, allowed = (own.unit, own.allowed) if own else FORMER_ONLY[name]
     meant = f" ({own.meaning})" if name in CODES else ""
-    return f"{asked.place(refused.line, name)}: {value}{' ' + unit if unit else ''} is not {'' if own and own.only else 'in '}{allowed}{meant}"
+    return f"{asked.place(line, name)}: {value}{' ' + unit if unit else ''} is not {'' if own and own.only else 'in '}{allowed}{meant}"
 
 
 def _parts(refused: Refused, asked: Asked) -> str:
-    line = refused.line
-    if asked.cells(1)[refused.column - 1] == "layer":
+    line, name = _in_sheet(refused, asked)
+    if name == "layer":
         layer, thick = asked.value(line, "layer"), asked.value(line, "thick")
         return (f"{asked.place(line, 'layer')}: layer and thick are both 0 (bare soil) or both not 0; "
                 f"here layer is {layer} Ω·m and thick is {thick} mm")

@@ -188,6 +188,13 @@ class OfOthers(unittest.TestCase):
         self.assertEqual(said(lambda: core.fewest(ONE, 70000), Asked(ONE, most_lines=1, side=70000)),
                          "line 2, rodlen (column 19): the length of a rod is 0 mm, and yards with rods are tried too; "
                          "give their length, as --rodlen 3m")
+        unread = changed(ONE, across=0, along=99, space=1, rods=7, rodlen=7500, place=9)
+        self.assertEqual(core.fewest(unread, 70000), core.Fewest(True, 8, 40, 33))
+        self.assertEqual(said(lambda: core.fewest(changed(unread, fault=99), 70000), Asked(changed(unread, fault=99), most_lines=1, side=70000)),
+                         "line 2, fault (column 10): 99 A is not in 100..80000")
+        turned = b"\n".join(b",".join(reversed(line.split(b","))) for line in changed(unread, thick=0).split(b"\n"))
+        self.assertEqual(said(lambda: core.fewest(turned, 70000), Asked(turned, most_lines=1, side=70000)),
+                         "line 2, layer (column 19): layer and thick are both 0 (bare soil) or both not 0; here layer is 2500 Ω·m and thick is 0 mm")
         self.assertEqual(said(lambda: core.fewest(SAMPLE, 70000), Asked(SAMPLE, most_lines=1)),
                          "line 3: the sheet has 2 lines of values, and only one is taken here; choose it by --station and --season")
 

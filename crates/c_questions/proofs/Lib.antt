@@ -2,4 +2,3 @@ pub mod Counts
 pub mod Telling
 pub mod ReportCounts
 pub mod SplitSize
-pub mod FewestLine

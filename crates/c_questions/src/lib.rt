@@ -1,20 +1,17 @@
 // The questions beside a sheet's rows, asked by a program in C. One manner for all: the answer is a count of 0 or more, or a
 // refusal's number made negative, with line and column in a lent place of two numbers and every other buffer as it was.
-mod search;
-
 use c_tell::tell;
 ghost use mathlib.Core.Path.{_≡_};
 ghost use Rattle.case.specs.declared.Form.the-variants.{Present, Former};
 ghost use Rattle.c_questions.specs.Operations.{SummaryTold, ReleaseTold, CarryTold};
-ghost use Rattle.c_questions.specs.OneLine.{FewestTold};
-ghost use Rattle.c_questions.specs.Reports.{SoilTold, SplitTold};
+ghost use Rattle.c_questions.specs.Reports.{SoilTold, SplitTold, FewestTold};
 use c_counts::byte_count;
 use c_counts::pair_count;
 use c_counts::station_count;
 use c_reply::put_fewest;
 use c_reply::put_soil;
 use c_reply::put_split;
-use search::search_sheet;
+use one_line::fewest_of_sheet;
 
 // Ten thousand times the first number of the version, a hundred times the second, and the third: 1.1.0.
 const VERSION: u32 = 10100;
@@ -97,8 +94,8 @@ pub extern "C" fn hocsimbur_version() -> u32
     VERSION
 }
 
-// 1 with the fewest lines, then rods, with which a square yard of this side in mm is answered safe, all else as in the one value line
-// of a sheet; or 0.
+// 1 with the fewest lines, then rods, with which a square yard of this side in mm is answered safe, or 0; all else as in the one value
+// line of a sheet, whose own counts, spacing, rods and place are not read.
 #[no_mangle]
 pub extern "C" fn hocsimbur_fewest(
     s: &[u8],
@@ -109,6 +106,6 @@ pub extern "C" fn hocsimbur_fewest(
     ensures { λ r. ⌜ FewestTold (now (s .entry)) side (now (numbers .entry)) (now (numbers .exit)) (now (place .entry))
         (now (place .exit)) r ⌝ }
 {
-    let answer = put_fewest(search_sheet(s, side), numbers);
+    let answer = put_fewest(fewest_of_sheet(s, side), numbers);
     tell(answer, place)
 }

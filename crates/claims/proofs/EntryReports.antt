@@ -1,31 +1,38 @@
 -- Soil, split and fewest lines told to a program in C: the numbers of a report in an array.
-use Prim.Native.Nat.{ℕ, _≤_}
-use mathlib.Core.{Path.{_≡_, refl, ap, _∙_}, Bool.{Bool, true, false, cond}, List.{List, [], _∷_, _++_}}
+use Prim.Native.Nat.{ℕ, _≤_, _<_}
+use mathlib.Core.{Path.{_≡_, refl}, Bool.{Bool, true, false, cond}, List.{List, [], _∷_, _++_}}
 use native.Mathlib.Omega.{arith}
-use lib.{Dec.{ltb}, IntN.{ℤ}, ListN.{length, getD, drop}}
+use lib.{Dec.{ltb}, IntN.{ℤ}, ListN.{length, drop}}
 use borrow.Author.Tests.{ltb-true, ltb-false}
 use Rattle.readings.specs.declared.Sounding.{Sounding}
 use Rattle.readings.specs.declared.Sounding.the-variants as sounding
 use Rattle.staged.specs.declared.SplitAnswer.{SplitAnswer}
 use Rattle.staged.specs.declared.SplitAnswer.the-variants as split
 use Rattle.staged.specs.Answer as staged
-use Rattle.case.specs.{declared.Case.{Case}, Case.{caseOf}, Columns.{columns}}
-use Rattle.judgement.{specs.{declared.Judgement.{Judgement}, Sheet.{judgement}}, proofs.Accepted.{accepted}}
+use Rattle.case.specs.{declared.Case.{Case}, Columns.{columns}}
+use Rattle.header.{specs.Names.{WrongName, None}, proofs.NamesStand.{names-stand, no-wrong-name, wrong-name}}
+use Rattle.line.specs.Line.{lineCase}
+use Rattle.judgement.specs.{declared.Judgement.{Judgement}, Limits.{today}, Sheet.{names, valueLines, badText}}
 use Rattle.judgement.specs.declared.Judgement.the-variants as judged
-use Rattle.yards.specs.declared.FewestLines.{FewestLines}
+use Rattle.judgement.proofs.{Whole.{text-wrong}, ValueFields.{right-values, wrong-values}, Causes.{wrongColumn}}
+use Rattle.yards.specs.{declared.FewestLines.{FewestLines}, Fewest.{FewestAnswered}}
 use Rattle.yards.specs.declared.FewestLines.the-variants as yards
-use Rattle.sheet.specs.{declared.Answer.{Answer}, Answer.{cases}}
+use Rattle.one_line.specs.{Sheet.{caseIn}, Answer.{answerBy, sheetAnswer}}
+use Rattle.one_line.proofs.Causes.{Cause, wrongValue}
+use Rattle.one_line.proofs.Causes as cause
+use Rattle.sheet.specs.declared.Answer.{Answer}
 use Rattle.sheet.specs.declared.Answer.the-variants as answer
 use Rattle.c_tell.specs.Told.{Told}
 use Rattle.c_reply.specs.Reply.{Reply, Numbers, Refused, replyAnswer, numbersAfter, Replied, soilReply, splitReply, fewestReply}
-use Rattle.c_questions.specs.{Reports.{SoilTold, SplitTold}, OneLine.{CasesFewest, FewestBy, SheetFewest, FewestTold}}
-use Rattle.claims.specs.Words.{BreaksNone, caseAt}
+use Rattle.c_questions.specs.Reports.{SoilTold, SplitTold, FewestTold}
+use Rattle.claims.specs.Rules.{fieldsAt}
 use Rattle.claims.specs.Record as record-checks
 use Rattle.claims.specs.Measured as measured
 use Rattle.claims.specs.Yards as yard
 use Rattle.claims.specs.Entries as entries
-use Rattle.claims.proofs.{Sheets.{cases-count}, Readings.{soil-outcome}, StagedTests.{split-outcome}, Yards.{fewest-outcome}}
-use Rattle.claims.proofs.Entries.{Says, in-c, rule-number}
+use Rattle.claims.proofs.{Readings.{soil-outcome}, StagedTests.{split-outcome}, Yards.{fewest-outcome}}
+use Rattle.claims.proofs.{FirstBroken.{text-kept}, OwnLines.{case-is, own-line}}
+use Rattle.claims.proofs.Entries.{Says, in-c}
 
 -- ---- any report
 
@@ -98,34 +105,46 @@ fewest-number (yard.side-outside a b) = omega arith
 fewest-number (yard.no-rod a b e) = omega arith
 
 module _ (s : List ℕ) (side : ℕ) where
-  -- the answer to one case
-  one-says : BreaksNone s 1 → (a : FewestLines) → yard.FewestOutcome (caseAt s 0) side a
+  -- the names of the sheet, and its one value line
+  names-kept : wrongColumn columns s ≡ 0 → None (WrongName columns (names s))
+  names-kept w = no-wrong-name (names-stand columns (names s) w)
+
+  line-read : badText today s ≡ false → wrongColumn columns s ≡ 0 → length (valueLines s) ≡ 1 → wrongValue s ≡ 0
+      → entries.OneLineRead s (caseIn s)
+  unfolding caseIn lineCase
+  line-read b w one v =
+      let h : 0 < length (valueLines s) = omega arith in
+      record {
+        text = text-kept s b;
+        name = names-kept w;
+        one = one;
+        own-line = rw (case-is s 0 h) at (own-line s 0 h w (right-values 22 (fieldsAt s 0) v));
+      }
+
+  -- the answer to the case
+  search-says : entries.OneLineRead s (caseIn s) → (a : FewestLines) → yard.FewestOutcome (caseIn s) side a
       → ReplySays (entries.FewestNumbers s side) (entries.FewestRefused s side) (fewestReply a)
   unfolding ReplySays fewestReply
-  one-says e (yards.Found lines rods tried) o = entries.found e o
-  one-says e (yards.None tried) o = entries.none e o
-  one-says e (yards.Refused k l c) o = (fewest-number o, entries.search e o)
+  search-says l (yards.Found lines rods tried) o = entries.found l o
+  search-says l (yards.None tried) o = entries.none l o
+  search-says l (yards.Refused k m c) o = (fewest-number o, entries.search l o)
 
-  -- of a sheet that breaks no rule
-  cases-say : (n : ℕ) → BreaksNone s n → (cs : List Case) → cases s ≡ cs → (a : FewestLines) → CasesFewest side cs a
+  -- the answer by what was judged of the sheet
+  sheet-says : {j : Judgement} → Cause s j → (a : FewestLines) → a ≡ answerBy (caseIn s) side j
+      → ((n : ℕ) → j ≡ judged.Lines n → FewestAnswered (caseIn s) side a)
       → ReplySays (entries.FewestNumbers s side) (entries.FewestRefused s side) (fewestReply a)
-  unfolding CasesFewest ReplySays fewestReply
-  cases-say n e [] q a h = absurd (omega (arith, accepted columns s n e .some, cases-count s n e ∙ ap length q))
-  cases-say n e (c ∷ []) q a h =
-      let one : n ≡ 1 = cases-count s n e ∙ ap length q in
-      let here : caseAt s 0 ≡ c = ap (λ (l : List Case). getD l 0 (caseOf [])) q in
-      one-says (rw one at e) a (rw here (fewest-outcome h))
-  cases-say n e (c ∷ d ∷ cs) q a h = rw h (omega arith, entries.lines e (omega (arith, cases-count s n e ∙ ap length q)))
-
-  sheet-says : (j : Judgement) → judgement columns s ≡ j → (a : FewestLines) → FewestBy side (cases s) j a
-      → ReplySays (entries.FewestNumbers s side) (entries.FewestRefused s side) (fewestReply a)
-  unfolding FewestBy ReplySays fewestReply
-  sheet-says (judged.Refused k l c) e a h = rw h (rule-number columns s e, entries.rule e)
-  sheet-says (judged.Lines n) e a h = cases-say n e (cases s) refl a h
+  unfolding answerBy ReplySays fewestReply
+  sheet-says (cause.text b) a e h = rw e (omega arith, entries.text (text-wrong today s b))
+  sheet-says (cause.name b w) a e h = rw e (omega arith, entries.name (text-kept s b) (wrong-name columns (names s) w))
+  sheet-says (cause.no-line b w z) a e h = rw e (omega arith, entries.count (text-kept s b) (names-kept w) (entries.none z))
+  sheet-says (cause.more-lines b w m) a e h = rw e (omega arith, entries.count (text-kept s b) (names-kept w) (entries.more m))
+  sheet-says (cause.value b w one v) a e h =
+      rw e (omega arith, entries.value (text-kept s b) (names-kept w) one (wrong-values 22 (fieldsAt s 0) v))
+  sheet-says (cause.right b w one v) a e h = search-says (line-read b w one v) a (fewest-outcome (h 1 refl))
 
 pub fewest-in-c : {s : List ℕ} {side : ℕ} {before after : List ℤ} {place told : List ℕ} {r : ℤ}
     → FewestTold s side before after place told r → entries.FewestInC s side before after place told r
-unfolding SheetFewest
+unfolding sheetAnswer
 fewest-in-c {s} {side} t =
     report-in-c _ _ (fewestReply (t .answer)) (t .numbers) (t .told)
-    (sheet-says s side (judgement columns s) refl (t .answer) (t .asked))
+    (sheet-says s side (cause.cause s) (t .answer) (t .asked .answer-is) (λ n. t .asked .searched))

@@ -7,7 +7,8 @@ use Rattle.claims.proofs.{RulesKept.{rules-kept, sample-sheet}, RulesEn
 use Rattle.claims.proofs.{OnePlace.{one-place}, FirstBroken.{known, first-broken, none-broken, refused-by, accepted-by}}
 use Rattle.claims.proofs.{EarlierLimits.{stored-sheet, above-earlier}, Squares.{square}, SampleVerdicts.{sample-verdicts}}
 use Rattle.claims.proofs.{Printed.{verdict-outcome}, Numbers.{one-number}, Workings.{working-outcome}, Releases.{release}}
-use Rattle.claims.proofs.{Readings.{soil-outcome}, StagedTests.{split-outcome}, Alone.{asked-alone}, Yards.{fewest-outcome}}
+use Rattle.claims.proofs.{Readings.{soil-outcome}, StagedTests.{split-outcome}, Alone.{asked-alone}}
+use Rattle.claims.proofs.Yards.{fewest-outcome, yard-unread}
 use Rattle.claims.proofs.{Bytes.{in-bytes, pointed}, Carrying.{carry-outcome, there-and-back, ms-refused}, SummaryAnswers.{summary}}
 use Rattle.claims.proofs.{Entries.{summary-in-c, release-in-c, carry-in-c}, EntryReports.{soil-in-c, split-in-c, fewest-in-c}}
 use Rattle.claims.proofs.EntryLines.{margins-in-c, working-in-c, headroom-in-c}
@@ -51,6 +52,7 @@ page =
       in-bytes = in-bytes;
       pointed = pointed;
       fewest = fewest-outcome;
+      yard-unread = yard-unread;
       staged-test = split-outcome;
       split-refused = λ s b i l. bounds-at s b i l .split;
       summary = summary;

@@ -5,11 +5,12 @@ use native.Mathlib.{Nat.{div-add-mod', mul-div-cancel, mul-mod-left}, Decide.{de
 use lib.{ListN.{length, getD, length-append, List·getD-append}, Seq.{getD-append-add}}
 use borrow.Author.Tests.{eqb-true, eq-eqb, ne-eqb, le-leb}
 use Rattle.whole.specs.Count.{one}
-use Rattle.text.specs.Text.{same}
+use Rattle.text.{specs.Text.{same}, proofs.Clash.{clash}}
 use Rattle.case.specs.{declared.Case.{Case}, Bounds.{Between}, Columns.{columns, inRange, nameIndex}, Parts.{rangeAt}, Check.{countFrom}}
 use Rattle.yards.specs.Yards.{spacing, spaceRange, fits, yard, rodCounts, yardsOf, yardsFrom, yards}
 use Rattle.yards.proofs.Trying.{lines-next, lines-end}
-use Rattle.claims.specs.Yards.{withYard, Fits, YardTried, fitting}
+use Rattle.claims.specs.Yards.{withYard, Fits, YardTried, Fitting}
+use Rattle.claims.specs.Yards as claim
 use Rattle.claims.proofs.{Betweens.{and-yes, between-yes}, Lines.{map-at}}
 
 -- ---- a count that fits
@@ -66,6 +67,28 @@ is-tried c {side} {lines} {k} b f h =
     }
 
 -- ---- how many counts fit
+
+-- how many of n counts, from a first one on, fit the side
+unfoldable pub fitting : ℕ → ℕ → ℕ → ℕ
+fitting side first zero = 0
+fitting side first (suc n) = one (fits side first) + fitting side (first + 1) n
+
+pub fitting-is : (side n first : ℕ) → 2 ≤ first → first + n ≤ 26 → Fitting side first n (fitting side first n)
+unfolding fitting one
+fitting-is side zero first l m = claim.none
+fitting-is side (suc n) first l m = go (fits side first) refl (fitting-is side n (first + 1) (omega arith) (omega arith))
+  where
+    no-fit : fits side first ≡ true → fits side first ≡ false → ⊥
+    no-fit p q = clash cc
+
+    go : (b : Bool) → fits side first ≡ b → Fitting side (first + 1) n (fitting side (first + 1) n)
+        → Fitting side first (suc n) (cond b 1 0 + fitting side (first + 1) n)
+    go true f more =
+        let z : 1 + fitting side (first + 1) n ≡ suc (fitting side (first + 1) n) = omega arith in
+        rw z (claim.fits (is-fits (record { low = l; high = omega arith }) f) more)
+    go false f more =
+        let z : 0 + fitting side (first + 1) n ≡ fitting side (first + 1) n = omega arith in
+        rw z (claim.skipped (λ space h. no-fit (fits-is h .0) f) more)
 
 pub fitting-more : (side first n m : ℕ)
     → fitting side first (n + suc m) ≡ fitting side first n + one (fits side (first + n)) + fitting side (first + n + 1) m

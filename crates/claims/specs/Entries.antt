@@ -8,7 +8,9 @@ use Rattle.readings.specs.declared.Report.{Report}
 use Rattle.readings.specs.declared.Sounding.the-variants as sounding
 use Rattle.staged.specs.declared.SplitAnswer.the-variants as split
 use Rattle.tables.specs.Parts.{partAt}
-use Rattle.case.specs.declared.{Case.{Case}, Form.{Form}}
+use Rattle.case.specs.{declared.{Case.{Case}, Form.{Form}}, Columns.{columns}}
+use Rattle.header.specs.Names.{WrongName, Leftmost, None}
+use Rattle.judgement.specs.{Sheet.{names, valueLines}, Wrong.{WrongValues}}
 use Rattle.conversion.specs.declared.Carried.the-variants as carried
 use Rattle.formulas.specs.{Mesh.{mesh}, Step.{step}, Tolerable.{tolerableTouch, tolerableStep}}
 use Rattle.decision.specs.declared.Verdict.the-variants.{Safe}
@@ -26,7 +28,7 @@ use Rattle.hocsimbur.specs.{declared.RowAnswer.{RowAnswer}, Asked.{RowAnswered,
 use Rattle.hocsimbur.specs.declared.RowAnswer.the-variants as answered
 use Rattle.claims.specs.{Words.{BreaksNone, Breaks, TooShort, caseAt}, Measured.{SoilOutcome, SplitOutcome}, Yards.{FewestOutcome}}
 use Rattle.claims.specs.{Workings.{WorkingOutcome}, Later.{HeadroomOutcome}, Summary.{SummaryOutcome}, Releases.{ReleaseOutcome}}
-use Rattle.claims.specs.Carried.{CarryOutcome}
+use Rattle.claims.specs.{Rules.{fieldsAt, OwnLine}, Order.{WrongText}, Carried.{CarryOutcome}}
 
 -- ---- one manner
 
@@ -88,18 +90,35 @@ pub data SplitNumbers (s : List ℤ) : ℕ → List ℤ → Type 0 where
 abbrev pub SplitInC : List ℤ → List ℤ → List ℤ → List ℕ → List ℕ → ℤ → Type 0
 SplitInC s = ReportInC (SplitNumbers s) (λ number line column. SplitOutcome s (split.Refused number line column))
 
--- 1 with lines, rods and how many yards were tried, or 0 with 0, 0 and how many, of the one value line of a sheet
+-- ---- fewest lines: of the checks of the sheet 1, 2, 4 and 3, in this order, then those of the search, which does not read the whole case
+
+-- 4: "no value line (line 2)", or a second one
+pub data NotOneLine (s : List ℕ) : ℕ → Type 0 where
+  none : length (valueLines s) ≡ 0 → NotOneLine s 2
+  more : 1 < length (valueLines s) → NotOneLine s 3
+
+-- none of them refuses the sheet, and c is the case of its one value line
+pub record OneLineRead (s : List ℕ) (c : Case) : Type 0 where
+  pub text : ¬ WrongText s
+  pub name : None (WrongName columns (names s))
+  pub one : length (valueLines s) ≡ 1
+  pub own-line : OwnLine s 0 c
+
+-- 1 with lines, rods and how many yards were tried, or 0 with 0, 0 and how many
 pub data FewestNumbers (s : List ℕ) (side : ℕ) : ℕ → List ℤ → Type 0 where
-  found : {lines rods tried : ℕ} → BreaksNone s 1 → FewestOutcome (caseAt s 0) side (yards.Found lines rods tried)
+  found : {c : Case} {lines rods tried : ℕ} → OneLineRead s c → FewestOutcome c side (yards.Found lines rods tried)
       → FewestNumbers s side 1 (pos lines ∷ pos rods ∷ pos tried ∷ [])
-  none : {tried : ℕ} → BreaksNone s 1 → FewestOutcome (caseAt s 0) side (yards.None tried)
+  none : {c : Case} {tried : ℕ} → OneLineRead s c → FewestOutcome c side (yards.None tried)
       → FewestNumbers s side 0 (pos 0 ∷ pos 0 ∷ pos tried ∷ [])
 
--- the sheet's own refusals, 4 at line 3 of more value lines, then the search's
+-- the first of them that the sheet breaks; else 5 and 6 of what the search reads, 15 or 16
 pub data FewestRefused (s : List ℕ) (side : ℕ) : ℕ → ℕ → ℕ → Type 0 where
-  rule : {number line column : ℕ} → Breaks s number line column → FewestRefused s side number line column
-  lines : {n : ℕ} → BreaksNone s n → 2 ≤ n → FewestRefused s side 4 3 0
-  search : {number line column : ℕ} → BreaksNone s 1 → FewestOutcome (caseAt s 0) side (yards.Refused number line column)
+  text : WrongText s → FewestRefused s side 1 0 0
+  name : {column : ℕ} → ¬ WrongText s → Leftmost (WrongName columns (names s)) column → FewestRefused s side 2 1 column
+  count : {line : ℕ} → ¬ WrongText s → None (WrongName columns (names s)) → NotOneLine s line → FewestRefused s side 4 line 0
+  value : {column : ℕ} → ¬ WrongText s → None (WrongName columns (names s)) → length (valueLines s) ≡ 1
+      → Leftmost (WrongValues 22 (fieldsAt s 0)) column → FewestRefused s side 3 2 column
+  search : {c : Case} {number line column : ℕ} → OneLineRead s c → FewestOutcome c side (yards.Refused number line column)
       → FewestRefused s side number line column
 
 abbrev pub FewestInC : List ℕ → ℕ → List ℤ → List ℤ → List ℕ → List ℕ → ℤ → Type 0

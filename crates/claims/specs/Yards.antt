@@ -1,10 +1,9 @@
 -- Request (k) of document 02: the fewest lines for a given side, over sides, counts and spacings.
-use Prim.Native.Nat.{ℕ, zero, suc, _+_, _*_, _-_, _≤_, _<_}
+use Prim.Native.Nat.{ℕ, suc, _+_, _*_, _-_, _≤_, _<_}
 use mathlib.Core.{Path.{_≡_}, Logic.{_⊎_}}
-use Rattle.whole.specs.Count.{one}
 use Rattle.case.specs.{declared.Case.{Case}, Bounds.{Between}}
 use Rattle.decision.specs.declared.Verdict.the-variants.{Safe}
-use Rattle.yards.specs.{declared.FewestLines.{FewestLines, the-variants.{Found, None, Refused}}, Yards.{fits}}
+use Rattle.yards.specs.declared.FewestLines.{FewestLines, the-variants.{Found, None, Refused}}
 use Rattle.hocsimbur.specs.{declared.RowAnswer.{RowAnswer}, Asked.{RowAnswered, AnsweredWith}}
 use Rattle.claims.specs.{Words.{TrulySafe}, Rules.{RodsAgree}, Record.{RecordRefused, RecordSound}}
 
@@ -58,10 +57,12 @@ pub record YardTried (c : Case) (side lines k : ℕ) (y : Case) : Type 0 where
 abbrev pub Before : ℕ → ℕ → ℕ → ℕ → Type 0
 Before l j lines k = (l < lines) ⊎ ((l ≡ lines) × (j < k))
 
--- how many of n counts, from a first one on, fit the side
-unfoldable pub fitting : ℕ → ℕ → ℕ → ℕ
-fitting side first zero = 0
-fitting side first (suc n) = one (fits side first) + fitting side (first + 1) n
+-- of n counts, from a first one on, so many fit the side
+pub data Fitting (side : ℕ) : (first n many : ℕ) → Type 0 where
+  none : {first : ℕ} → Fitting side first 0 0
+  fits : {first n many space : ℕ} → Fits side first space → Fitting side (first + 1) n many → Fitting side first (suc n) (suc many)
+  skipped : {first n many : ℕ} → ((space : ℕ) → ¬ Fits side first space) → Fitting side (first + 1) n many
+      → Fitting side first (suc n) many
 
 -- ---- the answers
 
@@ -84,19 +85,27 @@ pub record FoundYard (c : Case) (side lines rods tried : ℕ) : Type 0 where
   -- "The number of yards tried is reported, at most 264, and is the place of the found yard in that order": eleven for each count that fits
   -- before it
   pub most : tried ≤ 264
-  pub place : tried ≡ 11 * fitting side 2 (lines - 2) + fours + 1
+  pub fitting : ℕ
+  pub counts-before : Fitting side 2 (lines - 2) fitting
+  pub place : tried ≡ 11 * fitting + fours + 1
 
 -- "None is answered only if no yard tried is safe."
 pub record NoYard (c : Case) (side tried : ℕ) : Type 0 where
   pub none : (l j : ℕ) (y : Case) → YardTried c side l j y → NotSafe y
   pub most : tried ≤ 264
   -- "or the whole list's length"
-  pub whole : tried ≡ 11 * fitting side 2 24
+  pub fitting : ℕ
+  pub counts : Fitting side 2 24 fitting
+  pub whole : tried ≡ 11 * fitting
+
+-- y has other counts, spacing, rods and place than c, all else equal
+abbrev pub OtherYard : Case → Case → Type 0
+OtherYard c y = y ≡ withYard (y .across) (y .along) (y .space) (y .rods) (c .rodlen) (y .place) c
 
 -- "The case's own counts, spacing, rods and place are not read, nor compared with rodlen": y has others in their stead, which no check
 -- refuses
 pub record StandsIn (c y : Case) : Type 0 where
-  pub is : y ≡ withYard (y .across) (y .along) (y .space) (y .rods) (c .rodlen) (y .place) c
+  pub is : OtherYard c y
   pub across : Between 2 (y .across) 25
   pub along : Between 2 (y .along) 25
   pub space : Between 2500 (y .space) 30000

@@ -2,15 +2,15 @@
 mod input;
 
 pub use input::read;
-use judgement::BYTES;
 use libc::EPIPE;
 use libc::STDOUT_FILENO;
+use listing::INPUT;
 use listing::Program;
 use listing::TEXT;
 use listing::text;
 
-// One byte more than an input may have, so that a longer one is refused.
-const SPACE: usize = BYTES + 1;
+// One byte more than an input may have, so that a longer one is refused: of most programs a sheet, of `fewest` a side's line before it.
+const SPACE: usize = INPUT + 1;
 
 // Says on standard error that a program's output could not be written, and why.
 fn tell(program: Program) {

@@ -48,7 +48,7 @@ pub enum Judgement {
 }
 
 // Refusal 1.
-fn bad_text(s: &[u8]) -> bool
+pub fn bad_text(s: &[u8]) -> bool
     ensures { λ r. ⌜ r ≡ badText today (now (s .entry)) ⌝ }
 {
     let n = s.len();

@@ -10,6 +10,7 @@ use case::Form;
 use judgement::LINES;
 use row::ROW_LENGTH;
 use row_text::Shown;
+pub use search_text::INPUT;
 use search_text::put_fewest;
 use sheet_text::put_sheet;
 use sheet_text::put_summary;

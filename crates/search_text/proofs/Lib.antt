@@ -1,2 +1,1 @@
-pub mod OneLines
 pub mod SearchTexts

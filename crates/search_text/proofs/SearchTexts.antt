@@ -1,19 +1,15 @@
 -- The text of a search: how long it is at most, and what the reading of the input says of it.
-use Prim.Native.Nat.{ℕ, _-_, _≤_, _<_}
-use mathlib.Core.{Path.{_≡_, sym}, List.{List, [], _∷_}}
-use native.Mathlib.Omega.{arith}
+use Prim.Native.Nat.{ℕ, zero, suc, _-_, _≤_, _<_}
+use mathlib.Core.{Path.{_≡_, refl, sym, _∙_}, Logic.{⊎-elim}, List.{List, [], _∷_}}
+use native.Mathlib.{Nat.{eq-or-lt-of-le}, Numerals.{add-one}, Omega.{arith}}
 use lib.ListN.{length, take, drop}
 use borrow.Author.Tests.{le-ltb, lt-ltb}
-use Rattle.text.specs.{declared.Field.{Field, the-variants.{Wrong, Value}}, Text.{bytes, indexOf, linesOf}, Value.{fieldValue}}
-use Rattle.text.specs.Parts.{Skipped}
-use Rattle.case.specs.{declared.Case.{Case}, Case.{caseOf}}
-use Rattle.line.specs.Line.{lineCase}
-use Rattle.judgement.specs.{declared.Judgement.{Judgement}, Limits.{mostBytes}, Refusal.{textRefused}}
-use Rattle.judgement.specs.declared.Judgement.the-variants as judged
-use Rattle.yards.specs.{declared.FewestLines.{FewestLines, the-variants.{Found, None, Refused}}, Fewest.{answer, FewestAnswered}}
-use Rattle.fields.{specs.Refusal.{refusedText, unlessRefused, refusalBytes}, proofs.Refusals.{numbered-most, refused-most, answer-fits}}
-use Rattle.search_text.specs.{Fewest.{caseIn, sideOf, searchText, inputJudged, fewestText}, OneLine.{SheetRead}}
-use Rattle.search_text.proofs.OneLines.{first-line, later-lines}
+use Rattle.text.specs.{declared.Field.{Field, the-variants.{Wrong, Value}}, Text.{bytes, indexOf}, Value.{fieldValue}, Parts.{Skipped}}
+use Rattle.text.proofs.{Searching.{index-within}, FieldTurns.{part-end}}
+use Rattle.yards.specs.declared.FewestLines.{FewestLines, the-variants.{Found, None, Refused}}
+use Rattle.one_line.specs.Answer.{SheetFewest}
+use Rattle.fields.{specs.Refusal.{refusalBytes}, proofs.Refusals.{numbered-most, refused-most}}
+use Rattle.search_text.specs.Fewest.{sideOf, sideIn, sheetIn, inputBytes, inputAnswer, searchText, fewestText}
 
 -- ---- how long it is
 
@@ -25,7 +21,7 @@ search-fits (Refused number line column) = omega (arith, refused-most number lin
 
 pub fewest-fits : (s : List ℕ) → length (fewestText s) ≤ refusalBytes
 unfolding fewestText
-fewest-fits s = answer-fits refusalBytes (inputJudged s) _ (omega arith) (λ n e. search-fits _)
+fewest-fits s = search-fits (inputAnswer s)
 
 -- ---- the side
 
@@ -39,24 +35,26 @@ side-none line e q = rw (← e, q)
 
 -- ---- the input
 
-pub long-input : (s : List ℕ) → mostBytes < length s → fewestText s ≡ refusedText 1 0 0
-unfolding fewestText inputJudged textRefused unlessRefused
-long-input s h = rw (lt-ltb mostBytes (length s) h)
+pub long-input : (s : List ℕ) → inputBytes < length s → Refused 1 0 0 ≡ inputAnswer s
+unfolding inputAnswer
+long-input s h = rw (lt-ltb inputBytes (length s) h)
 
-module _ (s : List ℕ) {e r : ℕ} {values : List ℕ} {j : Judgement} (short : length s ≤ mostBytes) (ends : e ≡ indexOf 10 s)
-    (k : Skipped e (length s) r) (read : SheetRead (linesOf (take (length s - r) (drop r s))) values j) where
-  later : drop 1 (linesOf s) ≡ linesOf (take (length s - r) (drop r s))
-  later = later-lines s e r ends k
+-- nothing is left past the end
+past : (n : ℕ) (s : List ℕ) → length s ≤ n → drop n s ≡ []
+past zero [] h = refl
+past (suc n) [] h = refl
+past zero (x ∷ s) h = absurd (omega arith)
+past (suc n) (x ∷ s) h = past n s (omega arith)
 
-  judged-is : inputJudged s ≡ j
-  unfolding inputJudged
-  judged-is = rw (le-ltb mostBytes (length s) short, later) (sym (read .answer-is))
+module _ (s : List ℕ) {e r : ℕ} (ends : e ≡ indexOf 10 s) (k : Skipped e (length s) r) where
+  sheet-is : take (length s - r) (drop r s) ≡ sheetIn s
+  unfolding sheetIn
+  sheet-is =
+      part-end s r
+      ∙ ⊎-elim (λ h. past r s (omega (arith, k .none (omega arith))) ∙ sym (past (suc (indexOf 10 s)) s (omega arith)))
+      (λ h. rw (k .next h, ends, add-one)) (eq-or-lt-of-le (rw ends (index-within 10 s)))
 
-  pub input-refused : {number line column : ℕ} → j ≡ judged.Refused number line column → fewestText s ≡ refusedText number line column
-  unfolding fewestText unlessRefused
-  input-refused q = rw (judged-is, q)
-
-  pub input-read : {n side : ℕ} {c : Case} {a : FewestLines} → j ≡ judged.Lines n → side ≡ sideOf (fieldValue (take e s))
-      → c ≡ caseOf values → FewestAnswered c side a → fewestText s ≡ searchText a
-  unfolding fewestText unlessRefused caseIn lineCase
-  input-read q d c a = rw (judged-is, q, first-line s e ends, later, ← read .values-are q, ← c, ← d, ← a .answer)
+  pub input-answer : {side : ℕ} {a : FewestLines} → length s ≤ inputBytes → side ≡ sideOf (fieldValue (take e s))
+      → SheetFewest (take (length s - r) (drop r s)) side a → a ≡ inputAnswer s
+  unfolding inputAnswer sideIn
+  input-answer short d a = a .answer-is ∙ rw (le-ltb inputBytes (length s) short, sheet-is, d, ends)

@@ -1,3 +1,2 @@
 pub mod Fewest
-pub mod OneLine
 pub mod Examples

@@ -1,27 +1,24 @@
 // The search for the fewest lines as text in a lent buffer.
-mod one_line;
-
 ghost use Prim.Native.Nat.{_≤_};
 ghost use mathlib.Core.Path.{_≡_};
 ghost use lib.ListN.{length};
 ghost use Rattle.text.specs.Value.{fieldValue};
 ghost use Rattle.writing.specs.Put.{Put};
-ghost use Rattle.search_text.specs.Fewest.{sideOf, searchText, fewestText};
+ghost use Rattle.search_text.specs.Fewest.{sideOf, inputAnswer, searchText, fewestText};
 ghost use Rattle.fields.specs.Refusal.{refusalBytes};
-use case::NAMES;
-use case::case_of;
 use fields::put_numbered;
 use fields::put_refusal;
 use judgement::BYTES;
-use judgement::Judgement;
 use judgement::NOT_A_SHEET;
-use one_line::read_one;
+use one_line::fewest_of_sheet;
 use text::Field;
 use text::find;
 use text::skip;
 use text::value;
 use yards::FewestLines;
-use yards::fewest_lines;
+
+// The most bytes of an input: the line of a side, six digits and its byte 10, and a sheet.
+pub const INPUT: usize = 7 + BYTES;
 
 // The side that a line says, or 0, which is out of range.
 fn side_of(line: &[u8]) -> u32
@@ -32,6 +29,19 @@ fn side_of(line: &[u8]) -> u32
         Field::Value(x) => x,
         Field::Wrong => 0,
     }
+}
+
+// The answer to an input: a line with the side, then a sheet of one value line.
+fn answer_to(s: &[u8]) -> FewestLines
+    ensures { λ r. ⌜ r ≡ inputAnswer (now (s .entry)) ⌝ }
+{
+    if INPUT < s.len() {
+        return FewestLines::Refused(NOT_A_SHEET, 0, 0);
+    }
+    let e = find(s, 10);
+    let side = side_of(&s[..e]);
+    let next = skip(e, s.len());
+    fewest_of_sheet(&s[next..], side)
 }
 
 // Lines, rods and yards tried; how many yards were tried, none of them safe; or the refusal.
@@ -52,21 +62,9 @@ fn put_search(out: &mut [u8], answer: FewestLines) -> usize
     }
 }
 
-// The answer to an input: a line with the side, then a sheet of one value line.
 pub fn put_fewest(s: &[u8], out: &mut [u8]) -> usize
     requires { ⌜ refusalBytes ≤ length (now out) ⌝ }
     ensures { λ r. ⌜ Put (now (out .entry)) 0 (fewestText (now (s .entry))) (now (out .exit)) r ⌝ }
 {
-    if BYTES < s.len() {
-        return put_refusal(out, NOT_A_SHEET, 0, 0);
-    }
-    let e = find(s, 10);
-    let side = side_of(&s[..e]);
-    let next = skip(e, s.len());
-    let mut values = [0u32; NAMES];
-    let read = read_one(&s[next..], &mut values);
-    match read {
-        Judgement::Lines(_) => put_search(out, fewest_lines(case_of(&values), side)),
-        Judgement::Refused(why, line, column) => put_refusal(out, why, line, column),
-    }
+    put_search(out, answer_to(s))
 }

@@ -1,30 +1,21 @@
--- The reading of a sheet of one value line, from its lines: specs/OneLine.antt.
+-- The reading of a sheet of one value line, and the answer to it: specs/Reading.antt and Answer.antt.
 use Prim.Native.Nat.{ℕ, _-_, _≤_, _<_}
-use mathlib.Core.{Path.{_≡_, refl, ap, _∙_}, List.{List, [], _∷_}}
+use mathlib.Core.{Path.{_≡_, refl, sym, ap, _∙_}, Bool.{true, false}, List.{List, [], _∷_}}
 use native.Mathlib.Omega.{arith}
-use lib.ListN.{length, getD, take, drop, length-drop}
+use lib.ListN.{length, take, drop, length-drop}
 use borrow.Author.Tests.{eq-eqb, ne-eqb, lt-ltb}
 use Rattle.text.{specs.{Text.{indexOf, linesOf, fieldsOf}, Parts.{Skipped}}, proofs.{Clash.{clash}, FieldTurns.{part-end}}}
 use Rattle.text.proofs.{Lines.{lines-next, lines-none}, LineTurns.{line-turn}}
-use Rattle.case.specs.{Columns.{columns, nameCount, name-count}, Bounds.{Placed}, Order.{Ordered}}
+use Rattle.case.specs.{declared.Case.{Case}, Case.{caseOf}, Columns.{columns, nameCount, name-count}, Bounds.{Placed}, Order.{Ordered}}
 use Rattle.header.specs.Parts.{Header}
-use Rattle.line.{specs.Parts.{LineValues}, proofs.Arranging.{arranged}}
-use Rattle.judgement.specs.declared.Judgement.{Judgement, the-variants.{Lines, Refused}}
-use Rattle.judgement.specs.Refusal.{nameRefused, noLineRefused, manyLinesRefused, lineJudgement}
-use Rattle.search_text.specs.{Fewest.{fieldsJudged, valuesJudged, namesIn, sheetJudged}, OneLine.{ValuesRead, SheetRead}}
-
--- ---- the first line and those after it, of every text
-
-pub first-line : (s : List ℕ) (e : ℕ) → e ≡ indexOf 10 s → getD (linesOf s) 0 [] ≡ take e s
-unfolding linesOf indexOf
-first-line [] e ends = rw ends
-first-line (x ∷ s) e ends = rw (lines-next (x ∷ s) (omega arith), ends)
-
-pub later-lines : (s : List ℕ) (e r : ℕ) → e ≡ indexOf 10 s → Skipped e (length s) r
-    → drop 1 (linesOf s) ≡ linesOf (take (length s - r) (drop r s))
-unfolding linesOf
-later-lines [] e r ends k = rw (part-end [] r, lines-none (drop r []) (omega (arith, length-drop {A = ℕ} r [])))
-later-lines (x ∷ s) e r ends k = rw (line-turn (x ∷ s) e r (omega arith) ends k)
+use Rattle.line.{specs.{Line.{lineCase}, Parts.{LineValues}}, proofs.Arranging.{arranged}}
+use Rattle.judgement.specs.{declared.Judgement.{Judgement, the-variants.{Lines, Refused}}, Limits.{today}, Sheet.{names, badText}}
+use Rattle.judgement.specs.Refusal.{textRefused, nameRefused, noLineRefused, manyLinesRefused, lineJudgement}
+use Rattle.judgement.proofs.Whole.{names-are, values-are}
+use Rattle.yards.specs.{declared.FewestLines.{FewestLines}, Fewest.{FewestAnswered}}
+use Rattle.yards.specs.declared.FewestLines.the-variants as found
+use Rattle.one_line.specs.Sheet.{fieldsJudged, valuesJudged, namesJudged, sheetJudged, caseIn}
+use Rattle.one_line.specs.{Reading.{ValuesRead, SheetRead}, Answer.{answerBy, sheetAnswer, SheetFewest}}
 
 no-refusal : {A : Type 0} {number line column n : ℕ} → Refused number line column ≡ Lines n → A
 no-refusal q = clash cc
@@ -82,24 +73,43 @@ module _ (s order : List ℕ) {values : List ℕ} (count : length values ≡ nam
 
 -- ---- the sheet
 
-module _ (s : List ℕ) {at order : List ℕ} {wrong e : ℕ} (ends : e ≡ indexOf 10 s) (h : Header columns (take e s) wrong at order) where
-  names-are : namesIn (linesOf s) ≡ fieldsOf (take e s)
-  unfolding namesIn
-  names-are = ap fieldsOf (first-line s e ends)
+pub wrong-text : (s : List ℕ) {values : List ℕ} → length values ≡ nameCount → badText today s ≡ true → SheetRead s values (Refused 1 0 0)
+unfolding sheetJudged textRefused
+wrong-text s count b = record { answer-is = rw b; count = count; values-are = no-refusal }
 
-  pub wrong-names : {values : List ℕ} → length values ≡ nameCount → (wrong ≡ 0 → ⊥) → SheetRead (linesOf s) values (Refused 2 1 wrong)
-  unfolding sheetJudged nameRefused
-  wrong-names count z = record { answer-is = rw (names-are, ← h .wrong-is, ne-eqb wrong 0 z); count = count; values-are = no-refusal }
+module _ (s : List ℕ) {at order : List ℕ} {wrong e : ℕ} (b : badText today s ≡ false) (ends : e ≡ indexOf 10 s)
+    (h : Header columns (take e s) wrong at order) where
+  names-of : names s ≡ fieldsOf (take e s)
+  names-of = names-are s e b ends
+
+  pub wrong-names : {values : List ℕ} → length values ≡ nameCount → (wrong ≡ 0 → ⊥) → SheetRead s values (Refused 2 1 wrong)
+  unfolding sheetJudged namesJudged nameRefused
+  wrong-names count z = record { answer-is = rw (b, names-of, ← h .wrong-is, ne-eqb wrong 0 z); count = count; values-are = no-refusal }
 
   pub right-names : {values : List ℕ} {r : ℕ} {j : Judgement} → wrong ≡ 0 → Skipped e (length s) r
-      → ValuesRead (linesOf (take (length s - r) (drop r s))) order values j → SheetRead (linesOf s) values j
-  unfolding sheetJudged
+      → ValuesRead (linesOf (take (length s - r) (drop r s))) order values j → SheetRead s values j
+  unfolding sheetJudged namesJudged
   right-names {values} {r} z k v =
-      let later = later-lines s e r ends k in
+      let later = values-are s e r b ends k in
       let placed : Placed nameCount at = rw name-count at (h .placed z) in
       let ordered : Ordered nameCount at order = rw name-count at (h .ordered z) in
       record {
-        answer-is = v .answer-is ∙ rw (names-are, ← h .wrong-is, eq-eqb wrong 0 z, later);
+        answer-is = v .answer-is ∙ rw (b, names-of, ← h .wrong-is, eq-eqb wrong 0 z, later);
         count = v .count;
-        values-are = λ q. rw (names-are, later, ← h .at-is z) (arranged placed ordered (v .line-read q) refl);
+        values-are = λ q. rw (names-of, later, ← h .at-is z) (arranged placed ordered (v .line-read q) refl);
       }
+
+-- ---- the answer
+
+module _ (s : List ℕ) {side : ℕ} {values : List ℕ} {j : Judgement} (read : SheetRead s values j) where
+  pub sheet-refused : {number line column : ℕ} → j ≡ Refused number line column → SheetFewest s side (found.Refused number line column)
+  unfolding sheetAnswer answerBy
+  sheet-refused q =
+      record { answer-is = rw (← read .answer-is, q); searched = λ e. no-refusal (sym q ∙ read .answer-is ∙ e) }
+
+  pub sheet-searched : {n : ℕ} {c : Case} {r : FewestLines} → j ≡ Lines n → c ≡ caseOf values → FewestAnswered c side r
+      → SheetFewest s side r
+  unfolding sheetAnswer answerBy caseIn lineCase
+  sheet-searched {r = r} q c a =
+      let own : FewestAnswered (caseIn s) side r = rw (← read .values-are q, ← c) a in
+      record { answer-is = own .answer ∙ rw (← read .answer-is, q); searched = λ e. own }

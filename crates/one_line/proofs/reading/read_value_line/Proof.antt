@@ -5,9 +5,9 @@ use borrow.Author.Needs.{needs}
 use Rattle.text.proofs.FieldTurns.{part-length}
 use Rattle.case.specs.Columns.{nameCount}
 use Rattle.line.specs.Parts.{LineValues}
-use Rattle.search_text.proofs.OneLines.{no-line, more-lines, wrong-line, right-line}
-use Rattle.search_text.proofs.one_line.read_value_line.Statement.{statement}
-use Rattle.search_text.proofs.one_line.read_value_line.Tie as tie
+use Rattle.one_line.proofs.OneLines.{no-line, more-lines, wrong-line, right-line}
+use Rattle.one_line.proofs.reading.read_value_line.Statement.{statement}
+use Rattle.one_line.proofs.reading.read_value_line.Tie as tie
 
 returns : tie.Need-returns
 returns c = let s = c .before .before .before .before in no-line (s .args .s .now) (s .args .order .now) (s .pre .1) (c .if1 .taken)

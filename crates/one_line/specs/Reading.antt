@@ -1,13 +1,13 @@
 -- What reading a sheet of one value line promises: its judgement, and where that is sound, the values of its line.
 use Prim.Native.Nat.{ℕ}
 use mathlib.Core.{Path.{_≡_}, List.{List, []}}
-use lib.ListN.{length, getD, drop}
+use lib.ListN.{length, getD}
 use Rattle.text.specs.Text.{fieldsOf}
 use Rattle.case.specs.Columns.{columns, nameCount}
 use Rattle.header.specs.Header.{columnsOf}
 use Rattle.line.specs.{Line.{lineValues}, Parts.{LineValues}}
-use Rattle.judgement.specs.declared.Judgement.{Judgement, the-variants.{Lines}}
-use Rattle.search_text.specs.Fewest.{namesIn, valuesJudged, sheetJudged}
+use Rattle.judgement.specs.{declared.Judgement.{Judgement, the-variants.{Lines}}, Sheet.{names, valueLines}}
+use Rattle.one_line.specs.Sheet.{valuesJudged, sheetJudged}
 
 -- the value lines, each value at the index of its column's name
 pub record ValuesRead (lines : List (List ℕ)) (order values : List ℕ) (r : Judgement) : Type 0 where
@@ -16,7 +16,7 @@ pub record ValuesRead (lines : List (List ℕ)) (order values : List ℕ) (r : J
   pub line-read : {n : ℕ} → r ≡ Lines n → LineValues nameCount order (getD lines 0 []) 0 values
 
 -- the sheet, its values in the order of the names
-pub record SheetRead (lines : List (List ℕ)) (values : List ℕ) (r : Judgement) : Type 0 where
-  pub answer-is : r ≡ sheetJudged lines
+pub record SheetRead (s values : List ℕ) (r : Judgement) : Type 0 where
+  pub answer-is : r ≡ sheetJudged s
   pub count : length values ≡ nameCount
-  pub values-are : {n : ℕ} → r ≡ Lines n → values ≡ lineValues (columnsOf columns (namesIn lines)) (fieldsOf (getD (drop 1 lines) 0 []))
+  pub values-are : {n : ℕ} → r ≡ Lines n → values ≡ lineValues (columnsOf columns (names s)) (fieldsOf (getD (valueLines s) 0 []))

@@ -1,17 +1,19 @@
-// A sheet of one value line: its values, or why it is refused.
+// The values of the one value line of a sheet, or why it is refused.
 ghost use mathlib.Core.Path.{_≡_};
 ghost use lib.ListN.{length};
 ghost use Rattle.text.specs.Text.{linesOf};
 ghost use Rattle.case.specs.Columns.{nameCount};
 ghost use Rattle.case.specs.Order.{Distinct};
-ghost use Rattle.search_text.specs.OneLine.{ValuesRead, SheetRead};
+ghost use Rattle.one_line.specs.Reading.{ValuesRead, SheetRead};
 use case::Form;
 use case::NAMES;
 use header::read_header;
 use judgement::Judgement;
+use judgement::NOT_A_SHEET;
 use judgement::NOT_A_VALUE;
 use judgement::WRONG_LINE_COUNT;
 use judgement::WRONG_NAME;
+use judgement::bad_text;
 use line::read_values;
 use text::find;
 use text::skip;
@@ -36,11 +38,14 @@ fn read_value_line<'a>(s: &'a [u8], order: &'a [usize], values: &mut [u32]) -> J
     Judgement::Lines(1)
 }
 
-// Refusals 2, 4 and 3 of a sheet.
+// Refusals 1, 2, 4 and 3 of a sheet.
 pub fn read_one(s: &[u8], values: &mut [u32]) -> Judgement
     requires { ⌜ length (now values) ≡ nameCount ⌝ }
-    ensures { λ r. ⌜ SheetRead (linesOf (now (s .entry))) (now (values .exit)) r ⌝ }
+    ensures { λ r. ⌜ SheetRead (now (s .entry)) (now (values .exit)) r ⌝ }
 {
+    if bad_text(s) {
+        return Judgement::Refused(NOT_A_SHEET, 0, 0);
+    }
     let e = find(s, 10);
     let mut at = [0usize; NAMES];
     let mut order = [0usize; NAMES];
