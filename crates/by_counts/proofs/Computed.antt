@@ -6,7 +6,7 @@ use lib.Dec.{eqb, lit≤, lit<}
 use Rattle.whole.specs.Whole.{ceilDiv}
 use Rattle.interval.specs.Operations.{natural, minusOf}
 use Rattle.interval.proofs.Natural.{point-natural, natural-difference, natural-product, natural-quotient}
-use Rattle.exponential.specs.Ends.{billion, halvingsOf, endOf, expEnds, expPair}
+use Rattle.exponential.specs.Ends.{billion, halvingsOf, endOf, closeEnds, closePair}
 use Rattle.effective_number.{specs.{Counts.{Counts}, Number.{nEnds}}, proofs.Table.{nLow, nHigh, number-known}}
 use Rattle.effective_number.proofs.NumberSpans.{n-least, n-is}
 use Rattle.conductors.specs.Weights.{eight, spreadEnds, rootOf, innerEnds, ln2Ends, halfExponent, halfPowerEnds}
@@ -24,10 +24,10 @@ spreadHigh h = lnHigh (oddHigh h) eight
 
 -- e^−q for q from x to y
 unfoldable pub expLow : ℕ → ℕ
-expLow y = endOf 0 1 (halvingsOf y) y
+expLow y = endOf 0 1 (halvingsOf y) y / 4
 
 unfoldable pub expHigh : ℕ → ℕ → ℕ
-expHigh x y = endOf 1 0 (halvingsOf y) x
+expHigh x y = endOf 1 0 (halvingsOf y) x / 4 + 1
 
 -- the exponent of the inner weight
 unfoldable pub lessOf : ℕ → ℕ → ℕ
@@ -52,8 +52,8 @@ manyOf h = ceilDiv ((h - 20000000) * 693147181) 10000000
 
 -- ---- they are the named ends
 
-exp-is : (x y : ℕ) → expPair (natural x y) ≡ natural (expLow y) (expHigh x y)
-unfolding expPair expEnds natural expLow expHigh
+exp-is : (x y : ℕ) → closePair (natural x y) ≡ natural (expLow y) (expHigh x y)
+unfolding closePair closeEnds natural expLow expHigh
 exp-is x y = refl
 
 module _ {a b : ℕ} (h : Counts a b) where

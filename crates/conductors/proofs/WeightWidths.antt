@@ -9,8 +9,8 @@ use Rattle.interval.proofs.Natural.{point-natural, natural-difference, natural-
 use Rattle.interval.proofs.{Span.{floor≤ceil, span-natural, span-wider}, Negated.{span-less}, Rules.{_≼_, Kept, lits}}
 use Rattle.interval.proofs.NumeralSpans.{numeral-point, numeral-product, numeral-quotient, numeral-wider}
 use Rattle.enclosure.specs.Pi.{πBelow, πAbove, πEnds}
-use Rattle.logarithm.{specs.Ends.{lnPair}, proofs.KnownHalvings.{up-by, ln-up}}
-use Rattle.exponential.{specs.Ends.{billion, most, halvingsOf, expPair}, proofs.{Sizes.{halvings-parts}, Span.{exp-span}}}
+use Rattle.logarithm.{specs.Ends.{lnPair}, proofs.KnownHalvings.{close-by}}
+use Rattle.exponential.{specs.Ends.{billion, most, halvingsOf, closePair}, proofs.{Sizes.{halvings-parts}, Span.{close-span}}}
 use Rattle.formulas.proofs.Conductors.{by-place}
 use Rattle.effective_number.{specs.{Counts.{Counts}, Number.{nEnds}}, proofs.Table.{nLow, nHigh, number-known}}
 use Rattle.effective_number.proofs.NumberSpans.{n-least, n-is, n-more}
@@ -19,26 +19,26 @@ use Rattle.conductors.proofs.Table.{halved, Halved, oddLow, oddHigh, ln
 use Rattle.conductors.proofs.{Table.{spread-known, exponent-known}, WeightSpans.{ln2-span}, LineRoots.{line-root-span}}
 
 -- the ends of a logarithm whose halvings are known
-halved-from : {p s : ℕ} → Halved p s → s ≤ p
-halved-from {p} {s} h = le-trans (omega (arith, mul-le-mul-left s (pow-pos (halved p s)))) (h .low)
-
 known-log : {p q s : ℕ} → 1 ≤ s → Halved p s → Halved q s → lnPair (natural p q) s ≡ natural (lnLow p s) (lnHigh q s)
 unfolding lnPair natural lnLow lnHigh
 known-log {p} {q} {s} h hp hq =
-    let lower = ln-up p s (halved-from hp) ∙ up-by (halved p s) p h (hp .low) (hp .high) in
-    let upper = ln-up q s (halved-from hq) ∙ up-by (halved q s) q h (hq .low) (hq .high) in
+    let lower = close-by (halved p s) p h (hp .low) (hp .high) in
+    let upper = close-by (halved q s) q h (hq .low) (hq .high) in
     λ i. record { lower = lower i .lower; upper = upper i .upper }
 
 -- the width of e^−q from that of q: 2^j is at most 1 and 4q
 power-span : {i : Interval} {l h w : ℕ} (width : ℕ) → Span i l h w
-    → Kept ((65536 ≼ l) ∷ (h ≼ most) ∷ (5 * w * billion + 20 * (4 * h + billion) ≼ width * billion) ∷ []) → Span (expPair i) 0 billion width
-unfolding expPair natural
+    → Kept ((65536 ≼ l) ∷ (h ≼ most) ∷ (w ≼ 1000) ∷ ((w + 1) * billion + 3 * (4 * h + billion) ≼ width * billion) ∷ [])
+    → Span (closePair i) 0 billion width
+unfolding closePair natural
 power-span {w = w} width s k =
     let j = halvingsOf (s .b) in
     let few : 2 ^ j * billion ≤ 4 * s .b + billion = halvings-parts (s .b) in
-    let near : 5 * (s .b - s .a) + 20 * 2 ^ j ≤ width
-    = le-of-mul-le-mul-right {k = billion} (omega (arith, few, s .near, s .to, k .at 2)) (lit< tt) in
-    rw (s .is) (span-wider (exp-span (le-trans (k .at 0) (s .from)) (s .order) (le-trans (s .to) (k .at 1))) (lit≤ tt) (lit≤ tt) near)
+    let near : s .b - s .a + 3 * 2 ^ j + 1 ≤ width
+    = le-of-mul-le-mul-right {k = billion} (omega (arith, few, s .near, s .to, k .at 3)) (lit< tt) in
+    rw (s .is)
+    (span-wider (close-span (le-trans (k .at 0) (s .from)) (s .order) (le-trans (s .to) (k .at 1)) (omega (arith, s .near, k .at 2)))
+    (lit≤ tt) (lit≤ tt) near)
 
 module _ {a b : ℕ} (h : Counts a b) where
   l : ℕ

@@ -10,8 +10,8 @@ use Rattle.exact.proofs.{Logarithm.{ln-exactly, consistent-ln}, Computed.{withi
 use Rattle.exact.proofs.Quantity.{quantity-π, quantity-product, quantity-quotient}
 use Rattle.enclosure.{specs.Enclosure.{Encloses}, proofs.{Basics.{encloses-whole}, Sums.{encloses-difference, encloses-times}}}
 use Rattle.enclosure.proofs.{Products.{encloses-product}, Quotients.{encloses-quotient}, Roots.{encloses-root-of}, Constants.{π-encloses}}
-use Rattle.logarithm.{specs.Ends.{Inside, lnPair}, proofs.Pairs.{ln-pair-encloses, ln-over-encloses}}
-use Rattle.exponential.proofs.Encloses.{power-encloses}
+use Rattle.logarithm.{specs.Ends.{lnPair}, proofs.Pairs.{ln-pair-encloses, ln-over-encloses}}
+use Rattle.exponential.proofs.Encloses.{close-power-encloses}
 use Rattle.case.specs.{declared.Case.{Case}, Bounds.{Bounds}}
 use Rattle.formulas.{specs.{Lengths.{n}, Mesh.{innerWeight}}, proofs.Conductors.{by-both, quantity-n}}
 use Rattle.formulas.proofs.Quantities.{one, two, twice-n, quantity-odd, quantity-line-root, consistent-inner, consistent-half-exponent}
@@ -29,10 +29,6 @@ squares-top m = omega arith
 squares-den : (m : ℕ) → (whole 4 ·f whole m ·f whole m) .den ≡ 1
 unfolding whole _·f_
 squares-den m = refl
-
--- a count of 2n in 10^−7 may have its logarithm asked
-inside : {m : ℕ} → 40000000 ≤ m → m ≤ 500000000 → Inside m
-inside f t = record { low = le-trans (lit≤ tt) f; high = le-trans t (lit≤ tt) }
 
 -- ln 2
 ln2-encloses : Encloses (ln (exactly (whole 2))) (ten 9) ln2Ends
@@ -68,9 +64,7 @@ module _ {c : Case} (b : Bounds c) where
       let q = quantity-product quantity-π (quantity-odd b) in
       let above : eight < s .a = le-trans (lit≤ tt) (s .from) in
       rw (s .is)
-      (ln-over-encloses 8 (ten 12) (record { low = le-trans (lit≤ tt) (s .from); high = le-trans (s .order) (le-trans (s .to) (lit≤ tt)) })
-      (record { low = le-trans (lit≤ tt) (le-trans (s .from) (s .order)); high = le-trans (s .to) (lit≤ tt) })
-      (record { low = lit≤ tt; high = lit≤ tt }) above (s .order) (q .consistent) (q .positive) (rw (s .is) at odd-encloses))
+      (ln-over-encloses 8 (ten 12) (lit≤ tt) above (s .order) (q .consistent) (q .positive) (rw (s .is) at odd-encloses))
 
   -- ---- the inner weight
 
@@ -92,8 +86,7 @@ module _ {c : Case} (b : Bounds c) where
   log-encloses =
       let s = twice-span number in
       rw (s .is)
-      (ln-pair-encloses (ten 7) (inside (s .from) (le-trans (s .order) (s .to))) (inside (le-trans (s .from) (s .order)) (s .to))
-      (record { low = lit≤ tt; high = lit≤ tt }) (twice-n b .consistent) (rw (s .is) at twice-encloses))
+      (ln-pair-encloses (ten 7) (le-trans (lit≤ tt) (s .from)) (s .order) (twice-n b .consistent) (rw (s .is) at twice-encloses))
 
   exponent-encloses : Encloses (exactly (whole 2) ÷x n c ·x ln (exactly (whole 2) ·x n c)) (ten 9) (innerExponent N)
   unfolding innerExponent ten
@@ -113,7 +106,7 @@ module _ {c : Case} (b : Bounds c) where
       (λ e.
       encloses-quotient (ten 9) 1000000000 refl (span-divisor (lit≤ tt) (line-root-span (b .across)) .0) (one .consistent)
       (quantity-line-root b .consistent) (encloses-whole 1 (ten 9) refl) root-encloses)
-      (λ e. power-encloses (lit≤ tt) (consistent-inner b) (exponent-span (counts b) e) exponent-encloses)
+      (λ e. close-power-encloses (lit≤ tt) (consistent-inner b) (exponent-span (counts b) e) exponent-encloses)
 
   -- ---- 0.5^(n−2)
 
@@ -122,7 +115,7 @@ module _ {c : Case} (b : Bounds c) where
   unfolding halfPowerEnds halfExponent ten
   half-encloses e =
       let q = quantity-n b in
-      power-encloses (lit≤ tt) (consistent-half-exponent b) (half-exponent-span (counts b) e)
+      close-power-encloses (lit≤ tt) (consistent-half-exponent b) (half-exponent-span (counts b) e)
       (encloses-product (ten 9) 10000000 refl (consistent-difference (q .consistent) (two .consistent))
       (consistent-ln (two .positive) (two .consistent))
       (encloses-difference (q .consistent) (two .consistent) (n-encloses b) (encloses-whole 2 (ten 7) refl)) ln2-encloses)

@@ -7,7 +7,7 @@ use Rattle.interval.specs.declared.Interval.{Interval}
 use Rattle.interval.specs.Operations.{natural, point, differenceOf, minusOf, scaledOf, productOf, quotientOf}
 use Rattle.enclosure.specs.Pi.{πEnds}
 use Rattle.logarithm.specs.Ends.{lnPair}
-use Rattle.exponential.specs.Ends.{expPair}
+use Rattle.exponential.specs.Ends.{closePair}
 
 -- 8 in 10^−12
 abbrev pub eight : ℕ
@@ -40,7 +40,7 @@ rootOf n = getD roots (n - 2) 0
 -- (2n) to the power −2/n in 10^−9: of a square one over the root, else by the exponential
 unfoldable pub innerEnds : ℕ → ℕ → Interval → Interval
 innerEnds a b n =
-    cond (eqb a b) (quotientOf (point (pos 1000000000)) (natural (rootOf a) (rootOf a + 1)) 1000000000) (expPair (innerExponent n))
+    cond (eqb a b) (quotientOf (point (pos 1000000000)) (natural (rootOf a) (rootOf a + 1)) 1000000000) (closePair (innerExponent n))
 
 -- ln 2 in 10^−9
 unfoldable pub ln2Ends : Interval
@@ -52,4 +52,4 @@ halfExponent n = productOf (differenceOf n (point (pos 20000000))) ln2Ends 10000
 
 -- 0.5^(n−2) in 10^−9, for unequal counts
 unfoldable pub halfPowerEnds : Interval → Interval
-halfPowerEnds n = expPair (halfExponent n)
+halfPowerEnds n = closePair (halfExponent n)

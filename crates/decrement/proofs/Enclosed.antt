@@ -2,7 +2,7 @@
 -- divisions are made one.
 use Prim.Native.Nat.{ℕ, _+_, _*_, _/_, _^_, _≤_, _<_}
 use mathlib.Core.Path.{refl, ap}
-use native.Mathlib.Omega.{arith}
+use native.Mathlib.{Omega.{arith}, Nat.{le-trans}}
 use lib.{Dec.{lit≤}, IntN.{pos, natAbs}}
 use Rattle.whole.{specs.Whole.{ceilDiv}, proofs.Rounding.{floorDiv-below, ceilDiv-above}}
 use Rattle.interval.specs.{declared.Interval.{Interval}, Operations.{natural, outwardOf, scaledOf, productOf}, Span.{Span}}
@@ -19,7 +19,7 @@ use Rattle.exact.proofs.Quantity.{Quantity, quantity-exactly, quantity-quotient
 use Rattle.enclosure.{specs.{Enclosure.{Encloses}, SquareRoot.{squareRoot}, Pi.{πBelow, πAbove, πEnds}}, proofs.SquareRoot.{square-root}}
 use Rattle.enclosure.proofs.{Basics.{encloses-same, encloses-whole}, Sums.{encloses-sum, encloses-difference}, Products.{encloses-product}}
 use Rattle.enclosure.proofs.{Quotients.{encloses-quotient}, Multiples.{encloses-rounded}, Roots.{encloses-root}, Constants.{π-encloses}}
-use Rattle.exponential.proofs.Encloses.{power-encloses}
+use Rattle.exponential.{specs.Ends.{most}, proofs.Encloses.{power-encloses}}
 use Rattle.case.specs.{declared.Case.{Case}, Bounds.{Bounds}}
 use Rattle.formulas.specs.Decrement.{Ta, tf, Df}
 use Rattle.formulas.proofs.Decrement.{exponent, ratio, rest, offset, underRoot, two-pos, xr-pos, tf-pos, twice-pos, quantity-turns}
@@ -164,12 +164,12 @@ module _ {c : Case} (b : Bounds c) where
 
   -- ---- the rest of the line, where the span of 2tf/Ta is known
 
-  module _ {l h w : ℕ} (p : 1 ≤ l) (s : Span (exponentEnds c) l h w) where
+  module _ {l h w : ℕ} (p : 65536 ≤ l) (m : h ≤ most) (n : w ≤ 1000) (s : Span (exponentEnds c) l h w) where
     pub ratio-encloses : Encloses (ratio c) (ten 9) (ratioEnds c)
     unfolding ratioEnds ten
     ratio-encloses =
         encloses-same ratio-same
-        (encloses-quotient {u = ten 0} (ten 9) (10 ^ 18) refl (span-divisor p s .0) (consistent-exactly (whole 2))
+        (encloses-quotient {u = ten 0} (ten 9) (10 ^ 18) refl (span-divisor (le-trans (lit≤ tt) p) s .0) (consistent-exactly (whole 2))
         (quantity-exponent b .consistent)
         (encloses-whole 2 (ten 0) refl) exponent-encloses)
 
@@ -177,7 +177,7 @@ module _ {c : Case} (b : Bounds c) where
     unfolding restEnds ten
     rest-encloses =
         encloses-difference (one .consistent) (consistent-power b) (encloses-whole 1 (ten 9) refl)
-        (power-encloses p (quantity-exponent b .consistent) s exponent-encloses)
+        (power-encloses p m n (quantity-exponent b .consistent) s exponent-encloses)
 
     offset-encloses : Encloses (offset c) (ten 9) (productOf (restEnds c) (ratioEnds c) (10 ^ 9))
     unfolding _·x_ ten

@@ -17,7 +17,7 @@ within-allowed a b h = record { apart = record { le = omega arith } }
 module _ {c : Case} (b : Bounds c) where
   pub encloses-Df : Encloses (Df c) billionths (factorEnds c)
   unfolding billionths
-  encloses-Df = factor-encloses b (lit≤ tt) (exponent-span b) (square-span b)
+  encloses-Df = factor-encloses b (lit≤ tt) (lit≤ tt) (lit≤ tt) (exponent-span b) (square-span b)
 
   pub factor-reports : Reports (Df c) billionths factorWidth (factorEnds c)
   factor-reports =

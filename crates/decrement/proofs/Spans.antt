@@ -1,5 +1,5 @@
 -- Sizes and widths of the exponent 2tf/Ta, of 2 over it, and of 1 − e^(−2tf/Ta).
-use Prim.Native.Nat.{ℕ, _+_, _-_, _*_, _/_, _^_, _≤_, _<_}
+use Prim.Native.Nat.{ℕ, _+_, _-_, _*_, _/_, _^_, _≤_, _<_, min}
 use mathlib.Core.Path.{_≡_, sym, ap, _∙_}
 use native.Mathlib.{Omega.{arith}, Nat.{mul-le-mul, mul-le-mul-right, le-of-suc-le-suc, lt-of-mul-lt-mul-right}}
 use lib.{Dec.{lit≤, lit<}, IntN.{natAbs}}
@@ -9,7 +9,8 @@ use Rattle.interval.proofs.Natural.{point-natural, natural-difference, natural-
 use Rattle.interval.proofs.{Span.{span-wider, span-scaled, span-outward, span-quotient}, Negated.{span-difference}}
 use Rattle.interval.proofs.{Relatives.{relative-span}, WidePairs.{wide-fits}, Rules.{lits}, NumeralSpans.{numeral-point}}
 use Rattle.enclosure.{specs.Pi.{πBelow, πAbove, πEnds}, proofs.Constants.{π-span}}
-use Rattle.exponential.{specs.Ends.{billion, halvingsOf, endOf, expEnds, expPair}, proofs.{Sizes.{halvings-parts}, Span.{exp-span}}}
+use Rattle.exponential.specs.Ends.{billion, large, halvingsOf, endOf, gapOf, pairOf, nearEnds, expPair}
+use Rattle.exponential.proofs.{Sizes.{halvings-parts}, Span.{exp-span, exp-near}}
 use Rattle.case.specs.{declared.Case.{Case}, Bounds.{Between, Bounds}}
 use Rattle.formulas.proofs.Decrement.{hz-bounds}
 use Rattle.decrement.specs.Ends.{exponentEnds, ratioEnds, restEnds}
@@ -46,9 +47,9 @@ ratio-near a b h k =
         → (2 * w + b * 0) * 10 ^ 18 ≤ 206 * (a * a)
     apart w a h k l = omega arith
 
--- the width of e^−q, 5(b − a) + 20·2^j, by a: p is 2^j
+-- the width of e^−q, b − a + 3·2^j + 1, by a: p is 2^j
 power-near : (a b p : ℕ) → πBelow * b ≤ (πBelow + 1) * a + πBelow * 2 → p * billion ≤ 4 * b + billion
-    → (5 * (b - a) + 20 * p) * billion ≤ 31 * billion + 82 * a
+    → (b - a + 3 * p + 1) * billion ≤ 7 * billion + 13 * a
 power-near a b p h k = omega (arith, h, k)
 
 module _ {c : Case} (h : Bounds c) where
@@ -127,9 +128,9 @@ module _ {c : Case} (h : Bounds c) where
 
   -- the width of e^−q
   pub powerWidth : ℕ
-  powerWidth = 5 * (exponentHigh - exponentLow) + 20 * 2 ^ halvingsOf exponentHigh
+  powerWidth = exponentHigh - exponentLow + 3 * 2 ^ halvingsOf exponentHigh + 1
 
-  pub power-width : powerWidth * billion ≤ 31 * billion + 82 * exponentLow
+  pub power-width : powerWidth * billion ≤ 7 * billion + 13 * exponentLow
   unfolding powerWidth
   power-width = power-near exponentLow exponentHigh (2 ^ halvingsOf exponentHigh) ends-near (halvings-parts exponentHigh)
 
@@ -137,7 +138,7 @@ module _ {c : Case} (h : Bounds c) where
   unfolding expPair natural powerWidth exponentLow exponentHigh
   power-span =
       let s = exponent-span in
-      rw (s .is) (exp-span (omega (arith, s .from)) (s .order) (omega (arith, s .to)))
+      rw (s .is) (exp-span (s .a) (s .b))
 
   pub rest-span : Span (restEnds c) 0 billion powerWidth
   unfolding restEnds
@@ -146,25 +147,30 @@ module _ {c : Case} (h : Bounds c) where
       (omega arith)
       (omega arith)
 
-  -- its upper end is 1 less the lower end of e^−q
-  power-is : expPair (exponentEnds c)
-      ≡ natural (endOf 0 1 (halvingsOf exponentHigh) exponentHigh) (endOf 1 0 (halvingsOf exponentHigh) exponentLow)
-  unfolding expPair expEnds natural exponentLow exponentHigh
-  power-is = rw (exponent-span .is)
+  -- its upper end is 1 less the lower end of e^−q, by the terms where the exponent is below 22
+  powerLow : ℕ
+  powerLow = endOf 0 1 (halvingsOf exponentHigh) exponentHigh / 4
+
+  powerHigh : ℕ
+  powerHigh = min (powerLow + gapOf (halvingsOf exponentHigh) exponentLow exponentHigh + 1) billion
+
+  power-is : exponentLow < large → expPair (exponentEnds c) ≡ natural powerLow powerHigh
+  unfolding expPair nearEnds pairOf natural exponentLow exponentHigh powerLow powerHigh
+  power-is k = let s = exponent-span in rw (s .is, exp-near (s .a) (s .b) k)
 
   pub restHigh : ℕ
   restHigh = rest-span .b
 
-  pub rest-high-is : restHigh ≡ billion - endOf 0 1 (halvingsOf exponentHigh) exponentHigh
-  unfolding restHigh restEnds
-  rest-high-is =
-      let l = endOf 0 1 (halvingsOf exponentHigh) exponentHigh in
-      let u = endOf 1 0 (halvingsOf exponentHigh) exponentLow in
+  pub rest-high-is : exponentLow < large → restHigh ≡ billion - endOf 0 1 (halvingsOf exponentHigh) exponentHigh / 4
+  unfolding restHigh restEnds powerLow
+  rest-high-is k =
+      let l = powerLow in
+      let u = powerHigh in
       let s = power-span in
-      let below : u ≤ billion = rw (ends-are l u power-is s .1) at (s .to) in
-      let order : l ≤ u = rw (ends-are l u power-is s .0, ends-are l u power-is s .1) at (s .order) in
+      let below : u ≤ billion = rw (ends-are l u (power-is k) s .1) at (s .to) in
+      let order : l ≤ u = rw (ends-are l u (power-is k) s .0, ends-are l u (power-is k) s .1) at (s .order) in
       let e : restEnds c ≡ natural (billion - u) (billion - l)
-      = rw (power-is, point-natural billion) (natural-difference billion billion l u below (omega (arith, below, order))) in
+      = rw (power-is k, point-natural billion) (natural-difference billion billion l u below (omega (arith, below, order))) in
       ends-are (billion - u) (billion - l) e rest-span .1
 
   pub rest-high-span : Span (restEnds c) 0 restHigh powerWidth

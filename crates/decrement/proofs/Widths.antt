@@ -8,7 +8,7 @@ use Rattle.whole.proofs.Rounding.{floorDiv-above}
 use Rattle.interval.specs.{Root.{IsRoot}, Operations.{natural, productOf}, Span.{Span}}
 use Rattle.interval.proofs.{Span.{span-natural, span-sum, span-product}, Rules.{lits}, NumeralSpans.{numeral-point, numeral-wider}}
 use Rattle.enclosure.{specs.SquareRoot.{squareRoot}, proofs.SquareRoot.{square-root}}
-use Rattle.exponential.specs.Ends.{billion, halvingsOf, argumentOf, nestedOf, seriesOf, inverseOf, squaredOf, endOf}
+use Rattle.exponential.specs.Ends.{billion, unit, large, halvingsOf, argumentOf, nestedOf, seriesOf, inverseOf, squaredOf, endOf}
 use Rattle.exponential.proofs.Sizes.{halvings-reach, halvings-least, nested-size, series-least}
 use Rattle.case.specs.{declared.Case.{Case}, Bounds.{Bounds}}
 use Rattle.decrement.specs.Ends.{ratioEnds, restEnds, squareEnds, factorEnds}
@@ -18,42 +18,38 @@ use Rattle.decrement.proofs.Spans.{ratio-high, ratio-most, ratio-span, 
 -- ---- the product of 1 − e^−q and 2/q: r is 2/q at the exponent's lower end a
 
 -- its width: that of e^−q, w, grows with q as 2/q falls
-share-near : (a r w : ℕ) → a ≤ 2261946710880 → r * a < 2 * 10 ^ 18 + a → r ≤ 14147106094 → w * billion ≤ 31 * billion + 82 * a
+share-near : (a r w : ℕ) → a ≤ 2261946710880 → r * a < 2 * 10 ^ 18 + a → r ≤ 14147106094 → w * billion ≤ 7 * billion + 13 * a
     → billion * 207 + r * w ≤ 810 * billion
 share-near a r w h p q k = le-of-mul-le-mul-right {k = billion} (omega (arith, h, p, q, mul-le-mul-left r k)) (lit< tt)
 
 -- ---- its size
 
 -- 1 − 1/s is at most s − 1
-inverse-rest : (s : ℕ) → billion ≤ s → billion - (billion * billion / s + 2 * 0) + billion ≤ s
-inverse-rest s h = go (decLe (billion - (billion * billion / s + 2 * 0) + billion) s)
+inverse-rest : (s : ℕ) → unit ≤ s → unit - (unit * unit / s + 2 * 0) + unit ≤ s
+inverse-rest s h = go (decLe (unit - (unit * unit / s + 2 * 0) + unit) s)
   where
-    apart : (u t : ℕ) → u + t ≤ billion → billion * billion < u * (billion + t) → ⊥
-    apart u t p q = let l : u ≤ billion = omega arith in omega (arith, mul-le-mul-left t l)
+    apart : (u t : ℕ) → u + t ≤ unit → unit * unit < u * (unit + t) → ⊥
+    apart u t p q = let l : u ≤ unit = omega arith in omega (arith, mul-le-mul-left t l)
 
-    go : Dec (billion - (billion * billion / s + 2 * 0) + billion ≤ s) → billion - (billion * billion / s + 2 * 0) + billion ≤ s
+    go : Dec (unit - (unit * unit / s + 2 * 0) + unit ≤ s) → unit - (unit * unit / s + 2 * 0) + unit ≤ s
     go (yes p) = p
     go (no p) =
-        let u = billion * billion / s + 1 in
-        let t = s - billion in
-        let e : billion + t ≡ s = omega arith in
-        absurd (apart u t (omega arith) (rw e (omega (arith, floorDiv-above (billion * billion) {d = s} (omega arith)))))
+        let u = unit * unit / s + 1 in
+        let t = s - unit in
+        let e : unit + t ≡ s = omega arith in
+        absurd (apart u t (omega arith) (rw e (omega (arith, floorDiv-above (unit * unit) {d = s} (omega arith)))))
 
--- twelve terms of e^y, less 1, are at most 1.525 y and 2 units
-nested-first : (y : ℕ) → y ≤ 500000001 → nestedOf 1 y 1 10 ≤ 1525000003
-unfolding nestedOf
-nested-first y h = omega (arith, mul-le-mul h (nested-size {up = 1} (lit≤ tt) h 2 9))
-
-series-high : (y : ℕ) → y ≤ 500000001 → seriesOf 1 y * billion ≤ billion * billion + 1525000003 * y + 2 * billion
+-- twelve terms of e^y, less 1, are at most 1.4 y and 2 units
+series-high : (y : ℕ) → y ≤ 2000000001 → seriesOf 1 y * unit ≤ unit * unit + 5600000000 * y + 2 * unit
 unfolding seriesOf nestedOf
-series-high y h = omega (arith, mul-le-mul-left y (nested-first y h))
+series-high y h = omega (arith, mul-le-mul-left y (nested-size {up = 1} (lit≤ tt) h 0 10))
 
 -- for an exponent of at most 1/2, which has no halvings
-rest-small : (b : ℕ) → b ≤ 500000000 → (billion - endOf 0 1 0 b) * billion ≤ 1525000003 * (b + 1) + 2 * billion
+rest-small : (b : ℕ) → b ≤ 500000000 → (billion - endOf 0 1 0 b / 4) * billion ≤ 1525000003 * (b + 1) + 2 * billion
 unfolding endOf squaredOf inverseOf argumentOf
 rest-small b h =
-    let y = b / 2 ^ 0 + 1 in
-    let k : y ≤ b + 1 = omega arith in
+    let y = 4 * b / 2 ^ 0 + 1 in
+    let k : y ≤ 4 * b + 1 = omega arith in
     omega (arith, inverse-rest (seriesOf 1 y) (series-least 1 y), series-high y (omega arith), k)
 
 -- s is 1 − e^−b
@@ -112,7 +108,7 @@ module _ {c : Case} (h : Bounds c) where
           let b : 2 * exponentHigh h ≤ 2 ^ 0 * billion = rw e at (halvings-reach (exponentHigh h)) in
           let l = low-high h in
           small-share (exponentLow h) (exponentHigh h) (ratioHigh h) (restHigh h) (omega (arith, ends-near h, b, l)) (ratio-high h)
-          (omega (arith, b, l)) (ratio-most h) (rw (rest-high-is h, e) (rest-small (exponentHigh h) (omega arith)))
+          (omega (arith, b, l)) (ratio-most h) (rw (rest-high-is h (omega (arith, b, l)), e) (rest-small (exponentHigh h) (omega arith)))
       go (suc j) e =
           let b : billion < 2 * exponentHigh h = lt-of-not-le (λ k. omega (arith, halvings-least (exponentHigh h) 0 (omega arith), e)) in
           let r = large-ratio (exponentLow h) (ratioHigh h) (omega (arith, ends-near h, b)) (ratio-high h) in

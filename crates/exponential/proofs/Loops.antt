@@ -2,9 +2,20 @@
 use Prim.Native.Nat.{ℕ, zero, suc, _+_, _-_, _*_, _/_, _^_, _≤_, _<_}
 use mathlib.Core.Path.{_≡_, refl}
 use native.Mathlib.{Omega.{arith}, Nat.{pow-suc, pow-le-pow-right}, Numerals.{add-one}}
-use lib.Pow.{pow-pos}
-use Rattle.exponential.specs.Ends.{billion, most, levels, halvingsOf, nestedOf}
+use native.Mathlib.Decide.{decLe}
+use borrow.Author.Tests.{lt-ltb, le-ltb}
+use mathlib.Core.Bool.{cond}
+use lib.{Dec.{ltb}, Pow.{pow-pos}}
+use Rattle.exponential.specs.Ends.{billion, unit, most, levels, halvingsOf, nestedOf}
 use Rattle.exponential.proofs.Sizes.{halvings-least, halvings-more, halvings-few}
+
+-- a choice by a test
+pub by-test : {A : Type 0} (P : A → Type 0) (m n : ℕ) {x y : A} → (m < n → P x) → (n ≤ m → P y) → P (cond (ltb m n) x y)
+by-test P m n {x} {y} h k = go (decLe n m)
+  where
+    go : Dec (n ≤ m) → P (cond (ltb m n) x y)
+    go (yes p) = rw (le-ltb m n p) (k p)
+    go (no p) = let l : m < n = omega arith in rw (lt-ltb m n l) (h l)
 
 pub record Halving (q times parts : ℕ) : Type 0 where
   pub is : parts ≡ 2 ^ times
@@ -33,7 +44,7 @@ module _ {q times parts : ℕ} (h : Halving q times parts) where
 -- ---- the terms, from the last to the first
 
 pub nested-again : (up y i : ℕ) {sum : ℕ} → 0 < i → i ≤ levels → sum ≡ nestedOf up y i (levels - i)
-    → billion + (y * sum / (billion * i) + up) ≡ nestedOf up y (i - 1) (levels - (i - 1))
+    → unit + (y * sum / (unit * i) + up) ≡ nestedOf up y (i - 1) (levels - (i - 1))
 unfolding nestedOf
 nested-again up y zero h l e = absurd (omega arith)
 nested-again up y (suc i) h l e =

@@ -3,11 +3,10 @@ use Prim.Native.Nat.{ℕ, zero, suc, _+_, _-_, _*_, _/_, _^_, _≤_, _<_}
 use mathlib.Core.Path.{_≡_, refl}
 use native.Mathlib.Omega.{arith}
 use native.Mathlib.Nat.{lt-of-not-le, div-mul-le-self, le-of-mul-le-mul-right, lt-of-mul-lt-mul-right, mul-le-mul, pow-suc}
-use native.Mathlib.Nat.{pow-le-pow-right}
 use lib.Pow.{pow-pos}
 use Rattle.exact.{specs.{Fraction.{top}, Reported.{ten, over}}, proofs.Powers.{exponent-lt-inv}}
 use Rattle.exact.proofs.Doublings.{doublings-reach, doublings-least}
-use Rattle.exponential.specs.Ends.{billion, most, levels, halvingsOf, nestedOf, seriesOf, inverseOf, squaredOf}
+use Rattle.exponential.specs.Ends.{billion, unit, most, levels, halvingsOf, nestedOf, seriesOf, squaredOf}
 use Rattle.exponential.proofs.Rounded.{parts}
 
 -- ---- halvings
@@ -36,61 +35,49 @@ halvings-parts q = go (halvingsOf q) refl
 pub halvings-few : {q : ℕ} → q ≤ most → halvingsOf q ≤ 14
 halvings-few {q} h = halvings-least q 14 (omega arith)
 
-pub argument-size : {a b : ℕ} → a ≤ b → a / 2 ^ halvingsOf b ≤ 500000000
+pub argument-size : {a b : ℕ} → a ≤ b → 4 * a / 2 ^ halvingsOf b ≤ 2000000000
 argument-size {a} {b} l =
     let p = 2 ^ halvingsOf b in
-    le-of-mul-le-mul-right (omega (arith, l, div-mul-le-self a p, halvings-reach b)) (pow-pos (halvingsOf b))
+    le-of-mul-le-mul-right (omega (arith, l, div-mul-le-self (4 * a) p, halvings-reach b)) (pow-pos (halvingsOf b))
 
 -- ---- sizes
 
-pub nested-least : (up y i n : ℕ) → billion ≤ nestedOf up y i n
+pub nested-least : (up y i n : ℕ) → unit ≤ nestedOf up y i n
 unfolding nestedOf
 nested-least up y i zero = omega arith
 nested-least up y i (suc n) = omega arith
 
--- a level's quotient
-abbrev pub levelOf : ℕ → ℕ → ℕ → ℕ
-levelOf y s i = y * s / (billion * suc i)
-
-pub level-size : {y s : ℕ} (i : ℕ) → y ≤ 500000001 → s ≤ 2100000000 → levelOf y s i ≤ 1060000000
+-- a level's quotient, from the second level on
+pub level-size : {y s : ℕ} (i : ℕ) → y ≤ 2000000001 → s ≤ 5600000000 → y * s / (unit * suc (suc i)) ≤ 1500000000
 level-size {y} {s} i hy hs =
-    let r = levelOf y s i in
-    let l : r * billion ≤ 1060000000 * billion = omega (arith, div-mul-le-self (y * s) (billion * suc i), mul-le-mul hy hs) in
+    let r = y * s / (unit * suc (suc i)) in
+    let l : r * (2 * unit) ≤ 1500000000 * (2 * unit) = omega (arith, div-mul-le-self (y * s) (unit * suc (suc i)), mul-le-mul hy hs) in
     le-of-mul-le-mul-right l (omega arith)
 
-pub nested-size : {up y : ℕ} → up ≤ 1 → y ≤ 500000001 → (i n : ℕ) → nestedOf up y i n ≤ 2100000000
+pub nested-size : {up y : ℕ} → up ≤ 1 → y ≤ 2000000001 → (i n : ℕ) → nestedOf up y (suc i) n ≤ 5600000000
 unfolding nestedOf
 nested-size hu hy i zero = omega arith
 nested-size {up} {y} hu hy i (suc n) = omega (arith, level-size i hy (nested-size {up = up} hu hy (suc i) n))
 
-pub inverse-size : {up s : ℕ} → up ≤ 1 → billion ≤ s → inverseOf up s ≤ 1000000002
-unfolding inverseOf
-inverse-size {up} {s} hu hs =
-    let l : billion * billion / s ≤ billion =
-    le-of-mul-le-mul-right {k = s} (omega (arith, div-mul-le-self (billion * billion) s)) (omega arith) in
-    omega arith
+pub later-size : {up y : ℕ} → up ≤ 1 → y ≤ 2000000001 → (i n : ℕ) → 0 < i → nestedOf up y i n ≤ 5600000000
+later-size hu hy zero n h = absurd (omega arith)
+later-size {up} hu hy (suc i) n h = nested-size {up = up} hu hy i n
 
-pub squared-size : {up v : ℕ} → up ≤ 1 → v ≤ 1000000002 → (m : ℕ) → m ≤ 14 → squaredOf up v m < billion + 3 * 2 ^ m
-unfolding squaredOf
-squared-size hu hv zero hm = omega arith
-squared-size {up} {v} hu hv (suc m) hm =
-    let h = squared-size {up = up} hu hv m (omega arith) in
-    let l : m ≤ 13 = omega arith in
-    let c : 2 ^ m ≤ 2 ^ 13 = pow-le-pow-right (omega arith) l in
-    let d : 2 ^ suc m ≡ 2 ^ m * 2 = pow-suc 2 m in
-    core (squaredOf up v m) (3 * 2 ^ m - 1) (3 * 2 ^ suc m) (omega arith) (omega arith) (omega (arith, pow-pos m))
-  where
-    core : (s t d : ℕ) → s ≤ billion + t → t ≤ 24575 → d ≡ 2 * t + 2 → s * s / billion + up < billion + d
-    core s t d h l e = omega (arith, mul-le-mul h h, mul-le-mul l l)
+pub first-size : {up y : ℕ} → up ≤ 1 → y ≤ 2000000001 → (n : ℕ) → nestedOf up y 0 n ≤ 7000000000
+unfolding nestedOf
+first-size hu hy zero = omega arith
+first-size {up} {y} hu hy (suc n) =
+    let s = nestedOf up y 1 n in
+    omega (arith, div-mul-le-self (y * s) unit, mul-le-mul hy (nested-size {up = up} hu hy 0 n))
 
-pub squared-small : {up v : ℕ} → up ≤ 1 → v ≤ 1000000002 → (m : ℕ) → m ≤ 14 → squaredOf up v m ≤ 1000050000
-squared-small {up} {v} hu hv m hm =
-    let c : 2 ^ m ≤ 2 ^ 14 = pow-le-pow-right (omega arith) hm in
-    omega (arith, squared-size {up = up} hu hv m hm)
-
-pub series-least : (up y : ℕ) → billion ≤ seriesOf up y
+pub series-least : (up y : ℕ) → unit ≤ seriesOf up y
 unfolding seriesOf
 series-least up y = omega (arith, nested-least up y 0 levels)
 
-pub end-size : {up m : ℕ} (down y : ℕ) → up ≤ 1 → m ≤ 14 → squaredOf up (inverseOf up (seriesOf down y)) m < 2 ^ 63
-end-size {up} {m} down y hu hm = omega (arith, squared-small {up = up} hu (inverse-size {up = up} hu (series-least down y)) m hm)
+pub inverse-most : {s : ℕ} → unit ≤ s → unit * unit / s ≤ unit
+inverse-most {s} h = le-of-mul-le-mul-right {k = s} (omega (arith, div-mul-le-self (unit * unit) s)) (omega arith)
+
+pub squared-below : {v : ℕ} → v ≤ unit → (m : ℕ) → squaredOf 0 v m ≤ unit
+unfolding squaredOf
+squared-below h zero = h
+squared-below {v} h (suc m) = omega (arith, mul-le-mul (squared-below h m) (squared-below h m))

@@ -3,9 +3,15 @@ use interval::Interval;
 ghost use mathlib.Core.Path.{_≡_};
 ghost use Prim.Native.Nat.{_≤_};
 ghost use Rattle.interval.specs.Span.{Span};
-ghost use Rattle.exponential.specs.Ends.{most, halvingsOf, seriesOf, inverseOf, squaredOf, expEnds, expPair};
+ghost use Rattle.exponential.specs.Ends.{unit, most, halvingsOf, seriesOf, squaredOf, errorOf, pairOf, nearEnds, expEnds, expPair};
 
 const BILLION: u64 = 1000000000;
+
+// One, in quarters of a billionth.
+const UNIT: u64 = 4000000000;
+
+// 22.
+const LARGE: u64 = 22000000000;
 
 // The least j for which q / 2^j is at most 1/2.
 fn halve(q: u64) -> u64
@@ -21,50 +27,77 @@ fn halve(q: u64) -> u64
     times
 }
 
-// Twelve terms of e^y, from the last to the first.
-fn series(up: u64, y: u64) -> u64
-    requires { ⌜ (up ≤ 1) × (y ≤ 500000001) ⌝ }
-    ensures { λ r. ⌜ r ≡ seriesOf up y ⌝ }
+// Twelve terms of e^y, from the last to the first, rounded up.
+fn series(y: u64) -> u64
+    requires { ⌜ y ≤ 2000000001 ⌝ }
+    ensures { λ r. ⌜ r ≡ seriesOf 1 y ⌝ }
 {
-    let mut sum = BILLION;
+    let mut sum = UNIT;
     let mut i: u64 = 11;
     while i > 0 {
-        sum = BILLION + (y * sum / (BILLION * i) + up);
+        sum = UNIT + (y * sum / (UNIT * i) + 1);
         i -= 1;
     }
-    sum + up
+    sum + 1
 }
 
-// v squared m times.
-fn squared(up: u64, v: u64, m: u64) -> u64
-    requires { ⌜ (up ≤ 1) × ((v ≤ 1000000002) × (m ≤ 14)) ⌝ }
-    ensures { λ r. ⌜ r ≡ squaredOf up v m ⌝ }
+// v squared m times, rounded down.
+fn squared(v: u64, m: u64) -> u64
+    requires { ⌜ (v ≤ unit) × (m ≤ 14) ⌝ }
+    ensures { λ r. ⌜ r ≡ squaredOf 0 v m ⌝ }
 {
     let mut power = v;
     let mut i: u64 = 0;
     while i < m {
-        power = power * power / BILLION + up;
+        power = power * power / UNIT;
         i += 1;
     }
     power
 }
 
-// One over e^y, squared m times: an end of e^-q, for y = q / 2^m.
-fn end(up: u64, down: u64, y: u64, m: u64) -> u64
-    requires { ⌜ (up ≤ 1) × ((down ≤ 1) × ((y ≤ 500000001) × (m ≤ 14))) ⌝ }
-    ensures { λ r. ⌜ r ≡ squaredOf up (inverseOf up (seriesOf down y)) m ⌝ }
+// How far the calculation by j squarings can err, in billionths.
+fn error(j: u64) -> u64
+    ensures { λ r. ⌜ r ≡ errorOf j ⌝ }
 {
-    let s = series(down, y);
-    squared(up, BILLION * BILLION / s + 2 * up, m)
+    if j < 2 { 3 << j } else { 12 }
 }
 
-// The ends of e^-q in billionths, for q from a to b billionths: e^-q falls as q grows. Over 2^j by a shift, which waits for no division.
+// The two ends from the lower one in quarters, and from how far above it the upper one can be.
+fn pair(l: u64, g: u64) -> Interval
+    requires { ⌜ (l ≤ unit) × (g ≤ 1000000000000000) ⌝ }
+    ensures { λ r. ⌜ r ≡ pairOf l g ⌝ }
+{
+    let lower = l / 4;
+    let upper = lower + g + 1;
+    if upper < BILLION {
+        Interval::natural(lower, upper)
+    } else {
+        Interval::natural(lower, BILLION)
+    }
+}
+
+// The ends of e^-q in billionths, for q from a to b billionths: e^-q falls as q grows. One over e^(b/2^j), squared j times, is the
+// lower end. Over 2^j by a shift, which waits for no division.
+fn near_ends(a: u64, b: u64) -> Interval
+    requires { ⌜ (a ≤ b) × (b ≤ most) ⌝ }
+    ensures { λ r. ⌜ r ≡ nearEnds a b ⌝ }
+{
+    let j = halve(b);
+    let s = series((4 * b >> j) + 1);
+    let l = squared(UNIT * UNIT / s, j);
+    pair(l, b - a + error(j))
+}
+
+// The same, below a billionth from 22 on.
 fn exp_ends(a: u64, b: u64) -> Interval
     requires { ⌜ (a ≤ b) × (b ≤ most) ⌝ }
     ensures { λ r. ⌜ r ≡ expEnds a b ⌝ }
 {
-    let j = halve(b);
-    Interval::natural(end(0, 1, (b >> j) + 1, j), end(1, 0, a >> j, j))
+    if a < LARGE {
+        near_ends(a, b)
+    } else {
+        Interval::natural(0, 1)
+    }
 }
 
 // The same for a pair q.

@@ -5,7 +5,7 @@ use native.Mathlib.{Omega.{arith}, Nat.{mul-le-mul-left}}
 use lib.Pow.{pow-pos}
 use borrow.Author.Tests.{lt-ltb, le-ltb}
 use Rattle.interval.specs.Operations.{natural, minusOf}
-use Rattle.logarithm.specs.{Series.{unit}, Ends.{baseOf, argumentOf, endOf, upEnds, downEnds, lnEnds}}
+use Rattle.logarithm.specs.{Series.{unit}, Ends.{gap, baseOf, argumentOf, endOf, upEnds, downEnds, lnEnds, closeEnds}}
 use Rattle.logarithm.proofs.Ratio.{halvings-known}
 
 -- with m halvings: p/q lies from 2^m to 2^(m+1)
@@ -18,11 +18,17 @@ lowBy m p q = endOf 0 m (argumentBy m p q)
 abbrev pub highBy : ℕ → ℕ → ℕ → ℕ
 highBy m p q = endOf 1 m (argumentBy m p q + 1)
 
-pub up-by : (m p : ℕ) {q : ℕ} → 1 ≤ q → q * 2 ^ m ≤ p → p < 2 * (q * 2 ^ m) → upEnds p q ≡ natural (lowBy m p q) (highBy m p q)
-unfolding upEnds argumentOf baseOf
-up-by m p {q} hq l u =
-    let h : q ≤ p = omega (arith, mul-le-mul-left q (pow-pos m)) in
-    rw (halvings-known hq h m l u)
+module _ (m p : ℕ) {q : ℕ} (some : 1 ≤ q) (low : q * 2 ^ m ≤ p) (high : p < 2 * (q * 2 ^ m)) where
+  from : q ≤ p
+  from = omega (arith, mul-le-mul-left q (pow-pos m))
+
+  pub up-by : upEnds p q ≡ natural (lowBy m p q) (lowBy m p q + gap)
+  unfolding upEnds argumentOf baseOf
+  up-by = rw (halvings-known some from m low high)
+
+  pub close-by : closeEnds p q ≡ natural (lowBy m p q) (highBy m p q)
+  unfolding closeEnds argumentOf baseOf
+  close-by = rw (halvings-known some from m low high)
 
 pub ln-up : (p q : ℕ) → q ≤ p → lnEnds p q ≡ upEnds p q
 unfolding lnEnds

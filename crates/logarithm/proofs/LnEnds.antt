@@ -9,9 +9,9 @@ use Rattle.exact.specs.{Fraction.{_<f_, _≈f_, whole, _·f_, inv, _÷f_}, Exac
 use Rattle.exact.{specs.Depth.{workDepth, Within}, proofs.{Quotients.{inv-pos}, Inclusion.{within-trans, within-same}}}
 use Rattle.exact.proofs.{Logarithm.{ln-value, within-ln-down, consistent-ln-of}, Holding.{holds-depth}}
 use Rattle.enclosure.proofs.Sums.{minus-within}
-use Rattle.logarithm.specs.Ends.{Inside, halvingsOf, argumentOf, endOf, upEnds, downEnds, lnEnds}
+use Rattle.logarithm.specs.Ends.{most, gap, Inside, halvingsOf, argumentOf, endOf, upEnds, downEnds, lnEnds}
 use Rattle.logarithm.proofs.{Sizes.{endBound, end-size}, Ratio.{ratio-den, scaled, halvings-small}, ArgumentEnds.{argument-size}}
-use Rattle.logarithm.proofs.{Width.{Close, end-close}, UpEnds.{up-encloses}}
+use Rattle.logarithm.proofs.UpEnds.{up-encloses}
 
 -- minus the ends of ln (q/p), or the ends themselves
 pub ln-cases : (P : Interval → Type 0) (p q : ℕ) → (p < q → P (downEnds p q)) → (q ≤ p → P (upEnds p q)) → P (lnEnds p q)
@@ -40,19 +40,23 @@ module _ {p q : ℕ} (hp : 1 ≤ p) (hq : 1 ≤ q) where
       let e : inv (whole p ÷f whole q) .den ≡ p = omega arith in
       omega (arith, ap (λ t. t * r .den) (ratio-den p hq), scaled q hp q, ap (λ t. q * t) e)
 
-  down-encloses : p < q → Within (lnOf (whole p ÷f whole q) workDepth) (reported (ten 9) (downEnds p q))
-  unfolding downEnds
-  down-encloses l =
+  -- below 1 it is minus the logarithm of the inverse
+  pub turned-encloses : (i : Interval) → p < q → Within (lnOf (whole q ÷f whole p) workDepth) (reported (ten 9) i)
+      → Within (lnOf (whole p ÷f whole q) workDepth) (reported (ten 9) (minusOf i))
+  turned-encloses i l h =
       within-trans
-      (within-ln-down workDepth ratio-positive (ratio-below l)
-      (within-trans (within-same (ln-value (inv-pos _) ratio-turned workDepth)) (up-encloses hp (omega arith))))
-      (minus-within (ten 9) (upEnds q p))
+      (within-ln-down workDepth ratio-positive (ratio-below l) (within-trans (within-same (ln-value (inv-pos _) ratio-turned workDepth)) h))
+      (minus-within (ten 9) i)
+
+  down-encloses : q ≤ most → p < q → Within (lnOf (whole p ÷f whole q) workDepth) (reported (ten 9) (downEnds p q))
+  unfolding downEnds
+  down-encloses k l = turned-encloses (upEnds q p) l (up-encloses hp (omega arith) k)
 
 module _ {p q : ℕ} (hp : Inside p) (hq : Inside q) where
   pub ln-encloses : Within (lnOf (whole p ÷f whole q) workDepth) (reported (ten 9) (lnEnds p q))
   ln-encloses =
-      ln-cases (λ i. Within (lnOf (whole p ÷f whole q) workDepth) (reported (ten 9) i)) p q (down-encloses (hp .low) (hq .low))
-      (up-encloses (hq .low))
+      ln-cases (λ i. Within (lnOf (whole p ÷f whole q) workDepth) (reported (ten 9) i)) p q (down-encloses (hp .low) (hq .low) (hq .high))
+      (λ l. up-encloses (hq .low) l (hp .high))
 
   pub ln-holds : Holds (reported (ten 9) (lnEnds p q)) (lnOf (whole p ÷f whole q))
   ln-holds = holds-depth (consistent-ln-of (ratio-positive (hp .low) (hq .low))) (omega arith) ln-encloses
@@ -63,12 +67,8 @@ module _ {p q : ℕ} (hp : Inside p) (hq : Inside q) (l : q ≤ p) where
   halvings-few : halvingsOf p q ≤ 49
   halvings-few = halvings-small (hq .low) l (hp .high)
 
-  up-close : Close 11 (endOf 0 (halvingsOf p q) (argumentOf p q)) (endOf 1 (halvingsOf p q) (argumentOf p q + 1))
-  up-close = end-close (argumentOf p q) (argument-size (hq .low) l) halvings-few
-
-  -- of the upper end, and so of both
-  up-size : endOf 1 (halvingsOf p q) (argumentOf p q + 1) < endBound
-  up-size = end-size (omega arith) halvings-few (omega (arith, argument-size (hq .low) l))
+  pub up-size : endOf 0 (halvingsOf p q) (argumentOf p q) + gap < endBound
+  up-size = end-size {up = 0} (omega arith) halvings-few (omega (arith, argument-size (hq .low) l))
 
 -- what is asked of a pair of ends
 pub record Tight (i : Interval) : Type 0 where
@@ -79,7 +79,6 @@ pub record Tight (i : Interval) : Type 0 where
 pub up-tight : {p q : ℕ} → Inside p → Inside q → q ≤ p → Tight (upEnds p q)
 unfolding upEnds natural size
 up-tight {p} {q} hp hq l =
-    let c = up-close hp hq l in
     record {
       ordered = record { ordered = halves-le _ _ (omega arith) };
       narrow = record { narrow = omega arith };

@@ -1,45 +1,50 @@
 -- The logarithm of a pair of counts over a number: its ends, and what they enclose.
 use Prim.Native.Nat.{ℕ, _*_, _≤_, _<_}
-use mathlib.Core.Path.{_≡_, sym, ap, _∙_}
-use native.Mathlib.Omega.{arith}
+use mathlib.Core.Path.{ap}
+use native.Mathlib.{Omega.{arith}, Nat.{le-trans}}
 use lib.{Dec.{lit≤}, IntN.{pos}}
 use Rattle.whole.proofs.Choice.{le-pos}
 use Rattle.interval.specs.Operations.{natural, minusOf}
-use Rattle.exact.specs.{Fraction.{_<f_, _≈f_, whole, inv, _·f_, _÷f_}, Exact.{Exact, exactly, _÷x_}, Logarithm.{ln}}
-use Rattle.exact.specs.{Depth.{Consistent, Proper, Positive, PositiveAt}, Reported.{Scale, ten, over, reported}}
+use Rattle.exact.specs.{Fraction.{_<f_, _≈f_, whole, inv, _·f_, _÷f_}, Exact.{Exact, exactly, _÷x_}, Logarithm.{ln, lnOf}}
+use Rattle.exact.specs.{Depth.{workDepth, Consistent, Proper, Positive, PositiveAt, Within}, Reported.{Scale, ten, over, reported}}
 use Rattle.exact.proofs.{Order.{refl≤, refl≈, sym≈, trans≈, whole-pos, nonneg}, Products.{whole-mul}, Divisors.{cong÷, expand}}
 use Rattle.exact.proofs.Consistency.{consistent-exactly, consistent-quotient}
 use Rattle.exact.proofs.{Inclusion.{within-refl, within-trans, within-same, within-quotient}, KnownEnds.{quotient-ends}}
 use Rattle.exact.proofs.{Logarithm.{ln-within}, Quotients.{clamped}}
 use Rattle.enclosure.{specs.Enclosure.{Encloses}, proofs.Basics.{encloses-proper}}
-use Rattle.logarithm.specs.Ends.{Inside, lnEnds, lnPair}
-use Rattle.logarithm.proofs.{KnownHalvings.{ln-up, ln-down}, LnEnds.{ln-encloses, ratio-positive}}
+use Rattle.logarithm.specs.Ends.{closeEnds, lnPair}
+use Rattle.logarithm.proofs.{UpEnds.{close-encloses}, LnEnds.{ratio-positive, turned-encloses}}
 
 -- a of a unit over one
 count-ratio : (a : ℕ) (u : Scale) → over (pos a) u ≈f whole a ÷f whole (u .count)
 unfolding over whole inv _÷f_ _·f_
 count-ratio a u = omega (arith, ap (λ t. a * t) (clamped (u .positive)))
 
-module _ {a b : ℕ} (u : Scale) (ha : Inside a) (hb : Inside b) (hu : Inside (u .count)) where
-  -- of a value between a and b of the unit
+module _ {a b : ℕ} (u : Scale) (from : u .count ≤ a) (order : a ≤ b) where
+  -- of a value between a and b of the unit, which is not below 1
   pub ln-pair-encloses : {x : Exact} → Consistent x → Encloses x u (natural a b) → Encloses (ln x) (ten 9) (lnPair (natural a b) (u .count))
   unfolding lnPair natural reported
   ln-pair-encloses c e =
       record {
         within =
-            ln-within (record { positive = ratio-positive (ha .low) (hu .low) }) c (lit≤ tt)
+            ln-within (record { positive = ratio-positive (le-trans (u .pos) from) (u .pos) }) c (lit≤ tt)
             (within-trans (e .within) (within-same (record { lowers = count-ratio a u; uppers = count-ratio b u })))
-            (ln-encloses ha hu) (ln-encloses hb hu);
+            (close-encloses (u .pos) from) (close-encloses (u .pos) (le-trans from order));
       }
 
 -- n over a value of a unit, which is above n: minus the logarithm of the value over n
-module _ (n : ℕ) {c d : ℕ} (u : Scale) (hc : Inside c) (hd : Inside d) (hn : Inside (n * u .count)) (below : n * u .count < c)
-    (order : c ≤ d) where
+module _ (n : ℕ) {c d : ℕ} (u : Scale) (some : 1 ≤ n * u .count) (below : n * u .count < c) (order : c ≤ d) where
   abbrev q : ℕ
   q = n * u .count
 
-  turned : {p : ℕ} → q < p → lnEnds q p ≡ minusOf (lnEnds p q)
-  turned {p} l = ln-down q p l ∙ ap minusOf (sym (ln-up p q (omega arith)))
+  hc : 1 ≤ c
+  hc = omega (arith, below)
+
+  hd : 1 ≤ d
+  hd = le-trans hc order
+
+  turned : {p : ℕ} → q < p → Within (lnOf (whole q ÷f whole p) workDepth) (reported (ten 9) (minusOf (closeEnds p q)))
+  turned {p} l = turned-encloses some (omega arith) (closeEnds p q) l (close-encloses some (omega arith))
 
   over-pos : {p : ℕ} → 1 ≤ p → whole 0 <f over (pos p) u
   unfolding whole over
@@ -59,15 +64,14 @@ module _ (n : ℕ) {c d : ℕ} (u : Scale) (hc : Inside c) (hd : Inside d) (hn :
       → Encloses (ln (exactly (whole n) ÷x y)) (ten 9) (minusOf (lnPair (natural c d) q))
   unfolding lnPair natural minusOf reported exactly
   ln-over-encloses {y} cy py e =
-      let positive : Positive (reported u (natural c d)) = record { positive = over-pos (hc .low) } in
+      let positive : Positive (reported u (natural c d)) = record { positive = over-pos hc } in
       let proper : Proper (reported u (natural c d)) = encloses-proper cy e in
       let ratios = within-trans
       (within-quotient (consistent-exactly (whole n)) cy (lit≤ tt) (within-refl _) (e .within) positive)
       (within-trans (within-same (quotient-ends (record { proper = refl≤ (whole n) }) proper (nonneg n) positive))
-      (within-same (record { lowers = quotient-is (hd .low); uppers = quotient-is (hc .low) }))) in
+      (within-same (record { lowers = quotient-is hd; uppers = quotient-is hc }))) in
       record {
         within =
-            rw (turned {p = d} (omega (arith, below, order)), turned {p = c} below) at
-            (ln-within (record { positive = ratio-positive (hn .low) (hd .low) })
-            (consistent-quotient py (consistent-exactly (whole n)) cy) (lit≤ tt) ratios (ln-encloses hn hd) (ln-encloses hn hc));
+            ln-within (record { positive = ratio-positive some hd }) (consistent-quotient py (consistent-exactly (whole n)) cy) (lit≤ tt)
+            ratios (turned {p = d} (omega (arith, below, order))) (turned {p = c} below);
       }

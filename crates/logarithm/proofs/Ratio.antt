@@ -1,8 +1,8 @@
 -- p / q at least 1, its halvings m and the base b = q · 2^m, which doubling finds: b ≤ p < 2 b.
-use Prim.Native.Nat.{ℕ, suc, _+_, _*_, _^_, _≤_, _<_}
-use mathlib.Core.Path.{_≡_, ap}
-use native.Mathlib.{Omega.{arith}, Nat.{mul-le-mul-left, mul-le-mul-right, mul-pos, pow-suc, pow-zero}, Numerals.{add-one}}
-use lib.Pow.{pow-pos}
+use Prim.Native.Nat.{ℕ, zero, suc, _+_, _-_, _*_, _/_, _^_, _≤_, _<_}
+use mathlib.Core.Path.{_≡_, refl, ap, _∙_}
+use native.Mathlib.{Omega.{arith}, Nat.{mul-le-mul-left, mul-le-mul-right, mul-pos, mul-lt-mul-of-pos-right, pow-suc}}
+use lib.Pow.{pow-pos, pow-add}
 use Rattle.exact.{specs.Fraction.{_≤f_, whole, _·f_, inv, _÷f_, top}, proofs.Powers.{exponent-lt-inv}}
 use Rattle.exact.proofs.Halvings.{halvings-below, halvings-above, halvings-unique}
 use Rattle.logarithm.specs.Ends.{most, halvingsOf, baseOf}
@@ -53,22 +53,49 @@ module _ {p q : ℕ} (hq : 1 ≤ q) (h : q ≤ p) where
   unfolding baseOf
   base-pos = mul-pos hq (pow-pos (halvingsOf p q))
 
--- ---- the loop that doubles
+-- ---- by the lengths m and n of q and p in bits
 
-pub record Doubled (p q m b : ℕ) : Type 0 where
-  pub is : b ≡ q * 2 ^ m
-  pub below : b ≤ p
+-- a length in bits: 2^m is above x and not above 2x
+pub record Length (x m : ℕ) : Type 0 where
+  pub above : x < 2 ^ m
+  pub below : 2 ^ m ≤ 2 * x
 
-pub doubled-start : {p q : ℕ} → q ≤ p → Doubled p q 0 q
-doubled-start h = record { is = simp pow-zero (omega arith); below = h }
+pub length-is : {x : ℕ} (m : ℕ) → 1 ≤ x → x < 2 ^ m → 2 ^ m ≤ 2 * x + 1 → Length x m
+length-is zero h a b = absurd (omega arith)
+length-is (suc m) h a b = record { above = a; below = omega (arith, b, pow-suc 2 m) }
 
-pub doubled-again : {p q m b : ℕ} → Doubled p q m b → 2 * b ≤ p → Doubled p q (m + 1) (2 * b)
-doubled-again {m = m} d h = record { is = rw (add-one, pow-suc) (omega (arith, ap (λ t. 2 * t) (d .is))); below = h }
+pub length-pos : {x m : ℕ} → 1 ≤ x → Length x m → 1 ≤ m
+length-pos {m = zero} h a = absurd (omega (arith, a .above))
+length-pos {m = suc m} h a = omega arith
 
-module _ {p q m b : ℕ} (hq : 1 ≤ q) (d : Doubled p q m b) (h : p < 2 * b) where
-  pub doubled-times : halvingsOf p q ≡ m
-  doubled-times = halvings-known hq (omega (arith, d .is, d .below, mul-le-mul-left q (pow-pos m))) m (omega arith) (omega arith)
+module _ {p q m n : ℕ} (hq : 1 ≤ q) (l : q ≤ p) (a : Length q m) (b : Length p n) where
+  pub length≤ : m ≤ n
+  length≤ =
+      let s : 2 ^ m < 2 ^ suc n = omega (arith, a .below, b .above, pow-suc 2 n) in
+      let k : m < suc n = exponent-lt-inv 2 (omega arith) s in
+      omega arith
 
-  pub doubled-base : baseOf p q ≡ b
+  -- as long as p
+  pub raised : q * 2 ^ (n - m) < 2 ^ n × (p < 2 * (q * 2 ^ (n - m)))
+  raised =
+      let e : 2 ^ n ≡ 2 ^ m * 2 ^ (n - m) = ap (λ t. 2 ^ t) (omega (arith, length≤)) ∙ pow-add 2 m (n - m) in (
+        omega (arith, e, mul-lt-mul-of-pos-right (a .above) (pow-pos (n - m))),
+        omega (arith, e, b .above, mul-le-mul-right (2 ^ (n - m)) (a .below)),
+      )
+
+  -- where that is not above p
+  pub whole-known : q * 2 ^ (n - m) ≤ p → (halvingsOf p q ≡ n - m) × (baseOf p q ≡ q * 2 ^ (n - m))
   unfolding baseOf
-  doubled-base = rw doubled-times (cc)
+  whole-known k = let e = halvings-known hq l (n - m) k (raised .1) in (e, rw e)
+
+  -- else one doubling fewer
+  pub half-known : p < q * 2 ^ (n - m) → (1 ≤ n - m) × ((halvingsOf p q ≡ n - m - 1) × (baseOf p q ≡ q * 2 ^ (n - m) / 2))
+  unfolding baseOf
+  half-known k = go (n - m) refl
+    where
+      go : (t : ℕ) → n - m ≡ t → (1 ≤ n - m) × ((halvingsOf p q ≡ n - m - 1) × (q * 2 ^ halvingsOf p q ≡ q * 2 ^ (n - m) / 2))
+      go zero e = absurd (omega (arith, k, l, ap (λ t. q * 2 ^ t) e))
+      go (suc t) e =
+          let d : q * 2 ^ (n - m) ≡ 2 * (q * 2 ^ t) = rw (e, pow-suc) (omega arith) in
+          let s = halvings-known hq l t (omega (arith, d, raised .0, b .below)) (omega (arith, d, k)) in
+          (omega arith, (omega (arith, s), rw (s, d) (omega arith)))

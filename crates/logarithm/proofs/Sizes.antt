@@ -1,7 +1,7 @@
 -- How large the powers and the sums of the series get, for z up to 3·10^9 units: all products stay within 64 bits.
 use Prim.Native.Nat.{ℕ, zero, suc, _+_, _*_, _/_, _≤_, _<_}
 use native.Mathlib.{Omega.{arith}, Nat.{mul-le-mul, mul-le-mul-left, div-mul-le-self, div-le-self}}
-use Rattle.logarithm.specs.{Series.{unit, termCount, squareOf, powerOf, termOf, termsOf}, Ends.{ln2, doublings, nearOf, endOf}}
+use Rattle.logarithm.specs.{Series.{unit, termCount, squareOf, powerOf, termOf, termsOf}, Ends.{ln2, gap, doublings, nearOf, endOf}}
 
 -- the largest argument, and the largest square
 abbrev pub largest : ℕ
@@ -47,6 +47,6 @@ module _ {up m z : ℕ} (hu : up ≤ 1) (hm : m ≤ 49) (hz : z ≤ largest) whe
       let l : ln2 + up ≤ ln2 + 1 = omega arith in
       mul-le-mul hm l
 
-  pub end-size : endOf up m z < endBound
+  pub end-size : endOf up m z + gap < endBound
   unfolding endOf doublings nearOf
   end-size = omega (arith, near-size, doublings-size)

@@ -1,18 +1,20 @@
 -- The ends of ln (p/q) for q ≤ p enclose the exact ones at the depth of code: m ln 2 and ln r, each rounded outward.
 use Prim.Native.Nat.{ℕ, _+_, _≤_}
 use mathlib.Core.Path.{refl}
+use native.Mathlib.Omega.{arith}
 use lib.Dec.{lit<}
 use Rattle.interval.specs.Operations.{natural}
 use Rattle.exact.specs.{Fraction.{Fraction, _≤f_, whole, _+f_, _·f_, _÷f_}, Logarithm.{argument, terms, lnNear, lnOf}}
-use Rattle.exact.{specs.{Reported.{ten, reported}, Depth.{workDepth, Within}}, proofs.Order.{refl≤, trans≤, refl≈, nonneg}}
+use Rattle.exact.{specs.{Reported.{ten, over, reported}, Depth.{workDepth, Within}}, proofs.Order.{refl≤, trans≤, refl≈, nonneg}}
 use Rattle.exact.proofs.{Sums.{mono+, add-zero}, Products.{mul-left≤}, Inclusion.{within-trans, within-same}, LogArgument.{argument-nonneg}}
 use Rattle.exact.proofs.{LogUp.{up-ends}, Logarithm.{ln-at-least-one}, Computed.{within-ln2}}
 use Rattle.exact.proofs.Rounding.{units, Toward, from-below, from-above, toward-trans, toward-same, toward-sum, units-zero, units-sum}
 use Rattle.exact.proofs.Rounding.{rounded}
-use Rattle.logarithm.specs.{Series.{termCount, termsOf}, Ends.{halvingsOf, argumentOf, ln2, doublings, nearOf, endOf, upEnds}}
-use Rattle.logarithm.proofs.{Ratio.{ratio-low}, Rounding.{binary, billionths-are, multiple-is}, SeriesEnds.{terms-toward}}
-use Rattle.logarithm.proofs.Rest.{rest-below, terms-below}
-use Rattle.logarithm.proofs.ArgumentEnds.{reduced, reduced-least, argument-third, argument-low, argument-high}
+use Rattle.logarithm.specs.Series.{termCount, termsOf}
+use Rattle.logarithm.specs.Ends.{most, halvingsOf, argumentOf, ln2, doublings, nearOf, endOf, upEnds, closeEnds}
+use Rattle.logarithm.proofs.{Ratio.{ratio-low, halvings-small}, Rounding.{binary, billionths-are, multiple-is}}
+use Rattle.logarithm.proofs.{SeriesEnds.{terms-toward}, Rest.{rest-below, terms-below}, Width.{end-close}}
+use Rattle.logarithm.proofs.ArgumentEnds.{reduced, reduced-least, argument-third, argument-low, argument-high, argument-size}
 
 -- m ln 2
 doublings-toward : (up m : ℕ) {x : Fraction} → Toward up (units (ten 12) (ln2 + up)) x
@@ -46,6 +48,10 @@ ln2-high : lnNear (whole 2) workDepth .upper ≤f units (ten 12) (ln2 + 1)
 unfolding reported
 ln2-high = within-ln2 .high
 
+billionths≤ : {a b : ℕ} → a ≤ b → units (ten 9) a ≤f units (ten 9) b
+unfolding over ten
+billionths≤ l = omega arith
+
 module _ {p q : ℕ} (hq : 1 ≤ q) (l : q ≤ p) where
   abbrev m : ℕ
   m = halvingsOf p q
@@ -70,8 +76,14 @@ module _ {p q : ℕ} (hq : 1 ≤ q) (l : q ≤ p) where
       trans≤ (mono+ (refl≤ _) (rest-below nx (argument-third hq l)))
       (end-toward nx 1 m (argumentOf p q + 1) (from-above ln2-high) (from-above (argument-high hq l)) .upward (lit< tt))
 
-  pub up-encloses : Within (lnOf (whole p ÷f whole q) workDepth) (reported (ten 9) (upEnds p q))
-  unfolding upEnds natural reported halvingsOf
-  up-encloses =
+  pub close-encloses : Within (lnOf (whole p ÷f whole q) workDepth) (reported (ten 9) (closeEnds p q))
+  unfolding closeEnds natural reported halvingsOf
+  close-encloses =
       rw (ln-at-least-one (ratio-low hq l))
       (within-trans (within-same (up-ends (ratio-low hq l) workDepth)) (record { low = end-below; high = end-above }))
+
+  pub up-encloses : p ≤ most → Within (lnOf (whole p ÷f whole q) workDepth) (reported (ten 9) (upEnds p q))
+  unfolding upEnds closeEnds natural reported
+  up-encloses k =
+      let c = end-close (argumentOf p q) (argument-size hq l) (halvings-small hq l k) in
+      within-trans close-encloses (record { low = refl≤ _; high = billionths≤ (c .high) })

@@ -41,9 +41,15 @@ nearOf up z = (termsOf up z termCount + up) * 1000000000 / unit + up
 unfoldable pub endOf : ℕ → ℕ → ℕ → ℕ
 endOf up m z = doublings up m + nearOf up z
 
+-- how far above the lower end at z the upper end at z + 1 can be, in billionths
+abbrev pub gap : ℕ
+gap = 6
+
 -- for q ≤ p: the argument lies between z and z + 1
 unfoldable pub upEnds : ℕ → ℕ → Interval
-upEnds p q = natural (endOf 0 (halvingsOf p q) (argumentOf p q)) (endOf 1 (halvingsOf p q) (argumentOf p q + 1))
+upEnds p q =
+    let e = endOf 0 (halvingsOf p q) (argumentOf p q) in
+    natural e (e + gap)
 
 -- for p < q: minus those of q/p
 unfoldable pub downEnds : ℕ → ℕ → Interval
@@ -52,6 +58,10 @@ downEnds p q = minusOf (upEnds q p)
 unfoldable pub lnEnds : ℕ → ℕ → Interval
 lnEnds p q = cond (ltb p q) (downEnds p q) (upEnds p q)
 
--- of a pair x over q: from the lower end at x's lower end to the upper end at its upper end
+-- for q ≤ p, both ends by the terms: closer, for what is computed once and kept in a table
+unfoldable pub closeEnds : ℕ → ℕ → Interval
+closeEnds p q = natural (endOf 0 (halvingsOf p q) (argumentOf p q)) (endOf 1 (halvingsOf p q) (argumentOf p q + 1))
+
+-- of a pair x over q, which is not above it: from the lower end at x's lower end to the upper end at its upper end
 unfoldable pub lnPair : Interval → ℕ → Interval
-lnPair x q = record { lower = lnEnds (natAbs (x .lower)) q .lower; upper = lnEnds (natAbs (x .upper)) q .upper }
+lnPair x q = record { lower = closeEnds (natAbs (x .lower)) q .lower; upper = closeEnds (natAbs (x .upper)) q .upper }

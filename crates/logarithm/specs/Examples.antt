@@ -15,17 +15,17 @@ unfolding whole _·f_ inv _÷f_ top choose decLe greatestBelow halvings natural 
 ends = 0
 
 -- ln 10 is 2.302585092994..
-ln-ten : lnEnds 10 1 ≡ record { lower = pos 2302585091; upper = pos 2302585095 }
+ln-ten : lnEnds 10 1 ≡ record { lower = pos 2302585091; upper = pos 2302585097 }
 unfolding ends
 ln-ten = refl
 
 -- ln (1/10), below one
-ln-tenth : lnEnds 1 10 ≡ record { lower = negsuc 2302585094; upper = negsuc 2302585090 }
+ln-tenth : lnEnds 1 10 ≡ record { lower = negsuc 2302585096; upper = negsuc 2302585090 }
 unfolding ends
 ln-tenth = refl
 
 -- ln of G = 5000/7
-ln-mesh : lnEnds 5000 7 ≡ record { lower = pos 6571283041; upper = pos 6571283045 }
+ln-mesh : lnEnds 5000 7 ≡ record { lower = pos 6571283041; upper = pos 6571283047 }
 unfolding ends
 ln-mesh = refl
 

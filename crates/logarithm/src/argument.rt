@@ -10,18 +10,21 @@ struct Halved {
     base: u64,
 }
 
-// By doubling q while it does not pass p.
+// By the lengths of p and q in bits: so many doublings make q as long as p, and one fewer where it is then above p.
 fn halve(p: u64, q: u64) -> Halved
     requires { ⌜ Inside p × (Inside q × (q ≤ p)) ⌝ }
     ensures { λ r. ⌜ r ≡ record { times = halvingsOf p q; base = baseOf p q } ⌝ }
 {
-    let mut times: u64 = 0;
-    let mut base = q;
-    while 2 * base <= p {
-        base = 2 * base;
-        times += 1;
+    let times = (u64::leading_zeros(q) - u64::leading_zeros(p)) as u64;
+    let base = q << times;
+    if base <= p {
+        Halved { times, base }
+    } else {
+        Halved {
+            times: times - 1,
+            base: base / 2,
+        }
     }
-    Halved { times, base }
 }
 
 // n / d in units of 2^-33, rounded down: long division in three digits of 11 bits.

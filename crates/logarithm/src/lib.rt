@@ -2,8 +2,8 @@
 use interval::Interval;
 use interval::Pair;
 ghost use mathlib.Core.Path.{_≡_};
-ghost use Prim.Native.Nat.{_+_, _≤_};
-ghost use Rattle.logarithm.specs.Ends.{most, Inside, halvingsOf, argumentOf, endOf, upEnds, lnEnds, lnPair};
+ghost use Prim.Native.Nat.{_≤_};
+ghost use Rattle.logarithm.specs.Ends.{Inside, upEnds, lnEnds};
 ghost use Rattle.logarithm.specs.Asked.{inside, Answered};
 
 mod argument;
@@ -11,6 +11,9 @@ mod terms;
 
 // The largest number of a fraction: 10^15.
 const MOST: u64 = 1000000000000000;
+
+// How far above the lower end the upper one can be, in billionths.
+const GAP: u64 = 6;
 
 // The refusal of a number out of its range.
 const OUT_OF_RANGE: u32 = 5;
@@ -21,10 +24,8 @@ fn up_ends(p: u64, q: u64) -> Interval
     ensures { λ r. ⌜ r ≡ upEnds p q ⌝ }
 {
     let r = argument::reduce(p, q);
-    Interval::natural(
-        terms::end(0, r.times, r.argument),
-        terms::end(1, r.times, r.argument + 1),
-    )
+    let low = terms::end(r.times, r.argument);
+    Interval::natural(low, low + GAP)
 }
 
 // The ends of ln (p/q), in billionths: below 1 it is minus ln (q/p).

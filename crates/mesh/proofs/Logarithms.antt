@@ -6,7 +6,7 @@ use lib.{Dec.{lit≤, lit<}, IntN.{pos}, Signed.{_≤ℤ_}}
 use Rattle.whole.proofs.Choice.{le-pos}
 use Rattle.interval.specs.{Operations.{natural}, Span.{Span}}
 use Rattle.logarithm.specs.Series.{squareOf, powerOf, termOf, termsOf}
-use Rattle.logarithm.specs.Ends.{Inside, halvingsOf, argumentOf, doublings, nearOf, endOf, upEnds, lnEnds}
+use Rattle.logarithm.specs.Ends.{gap, Inside, halvingsOf, argumentOf, doublings, nearOf, endOf, upEnds, lnEnds}
 use Rattle.logarithm.proofs.{KnownHalvings.{up-by, ln-up}, Growth.{ln-grows}, LnEnds.{up-tight}}
 use Rattle.case.specs.{declared.Case.{Case}, Bounds.{Bounds}}
 use Rattle.mesh.specs.Factor.{argumentTop, argumentBottom, argumentLog}
@@ -15,11 +15,11 @@ use Rattle.mesh.proofs.Argument.{argument-low, argument-high, top-insid
 inside : (n : ℕ) → 1 ≤ n → n ≤ 65536 → Inside n
 inside n l h = record { low = l; high = le-trans h (lit≤ tt) }
 
-ln-25 : lnEnds 25 1 ≡ natural 3218875824 3218875827
+ln-25 : lnEnds 25 1 ≡ natural 3218875824 3218875830
 unfolding squareOf powerOf termOf termsOf doublings nearOf endOf
 ln-25 = ln-up 25 1 (lit≤ tt) ∙ up-by 4 25 (lit≤ tt) (lit≤ tt) (lit< tt)
 
-ln-65536 : lnEnds 65536 1 ≡ natural 11090354888 11090354891
+ln-65536 : lnEnds 65536 1 ≡ natural 11090354888 11090354894
 unfolding squareOf powerOf termOf termsOf doublings nearOf endOf
 ln-65536 = ln-up 65536 1 (lit≤ tt) ∙ up-by 16 65536 (lit≤ tt) (lit≤ tt) (lit< tt)
 
@@ -35,11 +35,11 @@ argument-span {c} b =
     let one = inside 1 (lit≤ tt) (lit≤ tt) in
     let from : pos 3218875824 ≤ℤ upEnds p q .upper =
     rw (ln-25, ln-up p q above) at (ln-grows (inside 25 (lit≤ tt) (lit≤ tt)) one hp hq (omega (arith, argument-low b))) in
-    let to : upEnds p q .lower ≤ℤ pos 11090354891 =
+    let to : upEnds p q .lower ≤ℤ pos 11090354894 =
     rw (ln-65536, ln-up p q above) at (ln-grows hp hq (inside 65536 (lit≤ tt) (lit≤ tt)) one (omega (arith, argument-high b))) in
     record {
       a = endOf 0 (halvingsOf p q) (argumentOf p q);
-      b = endOf 1 (halvingsOf p q) (argumentOf p q + 1);
+      b = endOf 0 (halvingsOf p q) (argumentOf p q) + gap;
       is = ln-up p q above;
       from = omega (arith, le-pos from, t .narrow .narrow);
       order = le-pos (t .ordered .ordered);

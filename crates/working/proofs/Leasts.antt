@@ -8,7 +8,8 @@ use Rattle.interval.{specs.{declared.Interval.{Interval}, Operations.{natural, 
 use Rattle.interval.proofs.{Span.{span-sum, span-divide, span-lower}, Rules.{lits}}
 use Rattle.interval.proofs.NumeralSpans.{numeral-point, numeral-quotient, numeral-wider}
 use Rattle.enclosure.proofs.Constants.{π-span}
-use Rattle.exponential.specs.Ends.{halvingsOf, argumentOf, nestedOf, seriesOf, inverseOf, squaredOf, endOf, expEnds, expPair}
+use Rattle.exponential.specs.Ends.{unit, halvingsOf, argumentOf, nestedOf, seriesOf, inverseOf, squaredOf, endOf, closeEnds}
+use Rattle.exponential.specs.Ends.{closePair}
 use Rattle.exponential.proofs.Sizes.{halvings-least, argument-size, nested-size, series-least}
 use Rattle.case.specs.{declared.Case.{Case}, Bounds.{Bounds}}
 use Rattle.formulas.proofs.Conductors.{by-place}
@@ -27,53 +28,49 @@ span-from {m = m} {k} e least s =
 
 -- ---- e^−q for q up to 1.4 is at least 0.1
 
--- twelve terms of e^y, y at most a half, are at most 1.763
-module _ (y : ℕ) (h : y ≤ 500000001) where
-  inner-level : nestedOf 1 y 1 10 ≤ 1525000003
-  unfolding nestedOf
-  inner-level =
-      let s = nestedOf 1 y 2 9 in
-      omega (arith, div-mul-le-self (y * s) 2000000000, mul-le-mul h (nested-size {up = 1} (lit≤ tt) h 2 9))
-
-  series-most : seriesOf 1 y ≤ 1763000000
+-- in quarters of a billionth, twelve terms of e^y, y at most a half, are at most 1.701
+module _ (y : ℕ) (h : y ≤ 2000000001) where
+  series-most : seriesOf 1 y ≤ 6804000000
   unfolding seriesOf nestedOf
-  series-most = let s = nestedOf 1 y 1 10 in omega (arith, div-mul-le-self (y * s) 1000000000, mul-le-mul h inner-level)
+  series-most =
+      let s = nestedOf 1 y 1 10 in
+      omega (arith, div-mul-le-self (y * s) unit, mul-le-mul h (nested-size {up = 1} (lit≤ tt) h 0 10))
 
-  inverse-least : 567000000 ≤ inverseOf 0 (seriesOf 1 y)
+  inverse-least : 2350000000 ≤ inverseOf 0 (seriesOf 1 y)
   unfolding inverseOf
   inverse-least =
       let s = seriesOf 1 y in
       let p : 0 < s = omega (arith, series-least 1 y) in
-      omega (arith, floorDiv-by (10 ^ 18) {w = 567000000} p (omega (arith, series-most)))
+      omega (arith, floorDiv-by (unit * unit) {w = 2350000000} p (omega (arith, series-most)))
 
--- its inverse is at least 0.567, that squared at least 0.321, and that squared at least 0.1
-once : {v : ℕ} → 567000000 ≤ v → 321000000 ≤ v * v / 1000000000
+-- its inverse is at least 0.5875, that squared at least 0.345, and that squared at least 0.1
+once : {v : ℕ} → 2350000000 ≤ v → 1380000000 ≤ v * v / unit
 once h = floorDiv-by _ (lit< tt) (omega (arith, mul-le-mul h h))
 
-twice : {v : ℕ} → 321000000 ≤ v → 100000000 ≤ v * v / 1000000000
+twice : {v : ℕ} → 1380000000 ≤ v → 400000000 ≤ v * v / unit
 twice h = floorDiv-by _ (lit< tt) (omega (arith, mul-le-mul h h))
 
-squared-least : {v : ℕ} → 567000000 ≤ v → (m : ℕ) → m ≤ 2 → 100000000 ≤ squaredOf 0 v m
+squared-least : {v : ℕ} → 2350000000 ≤ v → (m : ℕ) → m ≤ 2 → 400000000 ≤ squaredOf 0 v m
 unfolding squaredOf
 squared-least h zero k = omega arith
 squared-least h (suc zero) k = omega (arith, once h)
 squared-least h (suc (suc zero)) k = omega (arith, twice (once h))
 squared-least h (suc (suc (suc m))) k = absurd (omega arith)
 
-power-least : (b : ℕ) → b ≤ 1400000000 → 100000000 ≤ endOf 0 1 (halvingsOf b) b
+power-least : (b : ℕ) → b ≤ 1400000000 → 400000000 ≤ endOf 0 1 (halvingsOf b) b
 unfolding endOf argumentOf
 power-least b h =
     let few : halvingsOf b ≤ 2 = halvings-least b 2 (omega arith) in
-    let y : b / 2 ^ halvingsOf b + 1 ≤ 500000001 = omega (arith, argument-size {a = b} {b = b} (omega arith)) in
+    let y : 4 * b / 2 ^ halvingsOf b + 1 ≤ 2000000001 = omega (arith, argument-size {a = b} {b = b} (omega arith)) in
     squared-least (inverse-least _ y) (halvingsOf b) few
 
 -- ---- Kii
 
 -- of unequal counts
-power-span : {i : Interval} {l w width : ℕ} → Span i l 1400000000 w → Span (expPair i) 0 1000000000 width
-    → Span (expPair i) 100000000 1000000000 width
-unfolding expPair expEnds natural
-power-span s e = span-from (ap (λ j. expPair j .lower) (s .is)) (power-least (s .b) (s .to)) e
+power-span : {i : Interval} {l w width : ℕ} → Span i l 1400000000 w → Span (closePair i) 0 1000000000 width
+    → Span (closePair i) 100000000 1000000000 width
+unfolding closePair closeEnds natural
+power-span s e = span-from (ap (λ j. closePair j .lower) (s .is)) (omega (arith, power-least (s .b) (s .to))) e
 
 one-span : Span (point (pos 1000000000)) 1000000000 1000000000 0
 one-span = numeral-point 1000000000 (lits tt)

@@ -2,25 +2,28 @@
 use Prim.Native.Nat.{_-_, _*_, _/_, _≤_}
 use mathlib.Core.Path.{_≡_, refl}
 use native.Mathlib.{Omega.{arith}, Nat.{mul-le-mul, div-le-self}}
-use Rattle.exponential.specs.Ends.{billion, levels, nestedOf, seriesOf}
-use Rattle.exponential.proofs.{Sizes.{nested-size}, Loops.{nested-again}, series.Statement.{statement}}
+use lib.Dec.{lit≤}
+use Rattle.exponential.specs.Ends.{unit, levels, nestedOf, seriesOf}
+use Rattle.exponential.proofs.{Sizes.{later-size, first-size}, Loops.{nested-again}, series.Statement.{statement}}
 use Rattle.exponential.proofs.series.Tie as tie
 
 abbrev Inv-loop : tie.InvT-loop
-Inv-loop up y sum₀ i₀ sum i = (sum ≡ nestedOf up y i (levels - i)) × (i ≤ levels)
+Inv-loop y sum₀ i₀ sum i = (sum ≡ nestedOf 1 y i (levels - i)) × (i ≤ levels)
 
 abbrev μ-loop : tie.MeasureT-loop
-μ-loop up y sum₀ i₀ sum i = i
+μ-loop y sum₀ i₀ sum i = i
 
 loop-holds : tie.Need-loop-holds Inv-loop μ-loop
 unfolding nestedOf
 loop-holds c = (refl, omega arith)
 
-sum-size : (c : tie.At-loop Inv-loop μ-loop) → c .loop .sum ≤ 2100000000
-sum-size c = rw (c .loop .inv .0) (nested-size (c .before .pre .0) (c .before .pre .1) (c .loop .i) (levels - c .loop .i))
+sum-size : (c : tie.In-loop Inv-loop μ-loop) → c .before .loop .sum ≤ 5600000000
+sum-size c =
+    let l = c .before .loop in
+    rw (l .inv .0) (later-size (lit≤ tt) (c .before .before .pre) (l .i) (levels - l .i) (c .loop-test .taken))
 
 mul-sum : tie.Need-mul-sum Inv-loop μ-loop
-mul-sum c = omega (arith, mul-le-mul (c .before .before .pre .1) (sum-size (c .before)))
+mul-sum c = omega (arith, mul-le-mul (c .before .before .pre) (sum-size c))
 
 mul-sum-2 : tie.Need-mul-sum-2 Inv-loop μ-loop
 mul-sum-2 c = omega arith
@@ -31,11 +34,11 @@ div-sum c = omega arith
 -- a level's quotient
 level-small : (c : tie.In-loop Inv-loop μ-loop)
     → let l = c .before .loop in
-    c .before .before .args .y * l .sum / (billion * l .i) ≤ 1100000000000000000
+    c .before .before .args .y * l .sum / (unit * l .i) ≤ 12000000000000000000
 level-small c =
     let l = c .before .loop in
     let p = c .before .before .args .y * l .sum in
-    omega (arith, div-le-self p (billion * l .i), mul-le-mul (c .before .before .pre .1) (sum-size (c .before)))
+    omega (arith, div-le-self p (unit * l .i), mul-le-mul (c .before .before .pre) (sum-size c))
 
 add-sum : tie.Need-add-sum Inv-loop μ-loop
 add-sum c = omega (arith, level-small c)
@@ -52,15 +55,17 @@ loop-less c = omega arith
 loop-again : tie.Need-loop-again Inv-loop μ-loop
 loop-again c = (nested-again _ _ _ (c .loop-test .taken) (c .before .loop .inv .1) (c .before .loop .inv .0), omega arith)
 
+last : (c : tie.After-loop Inv-loop μ-loop) → c .before .loop .sum ≡ nestedOf 1 (c .before .before .args .y) 0 levels
+last c =
+    let e : c .before .loop .i ≡ 0 = omega arith in
+    rw e at (c .before .loop .inv .0)
+
 add-result : tie.Need-add-result Inv-loop μ-loop
-add-result c = omega (arith, sum-size (c .before))
+add-result c = rw (last c) (omega (arith, first-size {up = 1} (lit≤ tt) (c .before .before .pre) levels))
 
 returns : tie.Need-returns Inv-loop μ-loop
 unfolding seriesOf
-returns c =
-    let e : c .before .loop .i ≡ 0 = omega arith in
-    let s = rw e at (c .before .loop .inv .0) in
-    rw s
+returns c = rw (last c)
 
 pub series-spec : {M : Type 1} → statement M
 series-spec =

@@ -1,7 +1,7 @@
 -- `logarithm::up_ends` meets its contract: its numbers are those of the definition, and small enough.
-use native.Mathlib.{Omega.{arith}, Nat.{add-zero}}
+use Prim.Native.Nat.{_+_, _<_}
+use native.Mathlib.Omega.{arith}
 use borrow.Author.Needs.{needs}
-use Rattle.interval.specs.Operations.{natural}
 use Rattle.logarithm.specs.Ends.{upEnds}
 use Rattle.logarithm.proofs.{EndBounds.{Small, small, end-fits}, up_ends.Statement.{statement}}
 use Rattle.logarithm.proofs.up_ends.Tie as tie
@@ -12,31 +12,22 @@ bounds c =
     rw (c .reduce .ensures) (small (s .pre .0) (s .pre .1 .0) (s .pre .1 .1))
 
 end-requires : tie.Need-end-requires
-end-requires c κs = (omega arith, (bounds c .times, omega (arith, bounds c .argument)))
+end-requires c κs = (bounds c .times, omega (arith, bounds c .argument))
 
-add-end : tie.Need-add-end
-add-end c = omega (arith, bounds (c .before .before) .argument)
+fits : (c : tie.After-end) → c .end .result + 6 < 9223372036854775808
+fits c =
+    let s = c .before .before in
+    rw (c .end .ensures, c .before .reduce .ensures) (end-fits (s .pre .0) (s .pre .1 .0) (s .pre .1 .1))
 
-end-requires-2 : tie.Need-end-requires-2
-end-requires-2 c κs =
-    let b = bounds (c .before .before) in
-    (omega arith, (b .times, omega (arith, b .argument)))
+add-natural : tie.Need-add-natural
+add-natural c = omega (arith, fits c)
 
 natural-requires : tie.Need-natural-requires
-natural-requires c κs =
-    let e = c .before .before in
-    let s = e .before .before in
-    rw (e .end .ensures, c .end2 .ensures, e .before .reduce .ensures) (
-      rw add-zero at (end-fits {up = 0} (omega arith) (s .pre .0) (s .pre .1 .0) (s .pre .1 .1)),
-      end-fits {up = 1} (omega arith) (s .pre .0)
-          (s .pre .1 .0) (s .pre .1 .1),
-    )
+natural-requires c κs = (omega (arith, fits c), omega (arith, fits c))
 
 returns : tie.Need-returns
-unfolding upEnds natural
-returns c =
-    let e = c .before .before .before in
-    rw (c .natural .ensures, e .end .ensures, c .before .end2 .ensures, e .before .reduce .ensures)
+unfolding upEnds
+returns c = rw (c .natural .ensures, c .before .end .ensures, c .before .before .reduce .ensures)
 
 pub up-ends-spec : {M : Type 1} → statement M
-up-ends-spec = tie.close (tie.spec (λ c κs. search needs) end-requires add-end end-requires-2 natural-requires returns)
+up-ends-spec = tie.close (tie.spec (λ c κs. search needs) end-requires add-natural natural-requires returns)

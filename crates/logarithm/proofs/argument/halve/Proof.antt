@@ -1,39 +1,80 @@
--- `logarithm::argument::halve` meets its contract: the base is q · 2^times and does not pass p.
-use Prim.Native.Nat.{_-_, _<_}
-use native.Mathlib.Omega.{arith}
-use Rattle.logarithm.proofs.Ratio.{Doubled, doubled-start, doubled-again, doubled-times, doubled-base}
+-- `logarithm::argument::halve` meets its contract: the leading zeros of q and of p tell how much longer p is.
+use Prim.Native.Nat.{ℕ, _+_, _-_, _*_, _/_, _%_, _^_, _≤_, _<_}
+use mathlib.Core.Path.{_≡_, ap, _∙_}
+use native.Mathlib.{Omega.{arith}, Nat.{mod-eq-of-lt, pow-le-pow-right}}
+use lib.Count.{leadingZeros, leading-length}
+use Rattle.logarithm.specs.Ends.{Inside, halvingsOf, baseOf}
+use Rattle.logarithm.proofs.Ratio.{Length, length-is, length-pos, length≤, raised, whole-known, half-known}
 use Rattle.logarithm.proofs.argument.halve.Statement.{statement}
 use Rattle.logarithm.proofs.argument.halve.Tie as tie
 
-abbrev Inv-loop : tie.InvT-loop
-Inv-loop p q times₀ base₀ times base = Doubled p q times base × (times < base)
+-- the length of a number inside the range
+lengthOf : {x : ℕ} → Inside x → (m : ℕ) × ((leadingZeros 64 x + m ≡ 64) × Length x m)
+lengthOf {x} h =
+    let l = leading-length 64 x (omega (arith, h .high)) in
+    (l .0, (l .1, length-is (l .0) (h .low) (l .2) (l .3)))
 
-abbrev μ-loop : tie.MeasureT-loop
-μ-loop p q times₀ base₀ times base = p - base
+module _ (s : tie.Start) where
+  abbrev p : ℕ
+  p = s .args .p
 
-loop-holds : tie.Need-loop-holds Inv-loop μ-loop
-loop-holds c = (doubled-start (c .pre .1 .1), c .pre .1 .0 .low)
+  abbrev q : ℕ
+  q = s .args .q
 
-mul-loop : tie.Need-mul-loop Inv-loop μ-loop
-mul-loop c = omega arith
+  abbrev shift : ℕ
+  shift = leadingZeros 64 q - leadingZeros 64 p
 
-mul-base : tie.Need-mul-base Inv-loop μ-loop
-mul-base c = omega arith
+  m : (m : ℕ) × ((leadingZeros 64 q + m ≡ 64) × Length q m)
+  m = lengthOf (s .pre .1 .0)
 
-add-times : tie.Need-add-times Inv-loop μ-loop
-add-times c = omega arith
+  n : (n : ℕ) × ((leadingZeros 64 p + n ≡ 64) × Length p n)
+  n = lengthOf (s .pre .0)
 
-loop-less : tie.Need-loop-less Inv-loop μ-loop
-loop-less c = omega arith
+  longer : m .0 ≤ n .0
+  longer = length≤ (s .pre .1 .0 .low) (s .pre .1 .1) (m .1 .1) (n .1 .1)
 
-loop-again : tie.Need-loop-again Inv-loop μ-loop
-loop-again c = (doubled-again (c .before .loop .inv .0) (c .loop-test .taken), omega arith)
+  shift-is : shift ≡ n .0 - m .0
+  shift-is = omega (arith, m .1 .0, n .1 .0, longer)
 
-returns : tie.Need-returns Inv-loop μ-loop
+  shift-few : shift < 64
+  shift-few = omega (arith, shift-is, n .1 .0, length-pos (s .pre .1 .0 .low) (m .1 .1))
+
+  base-is : q * 2 ^ shift % 18446744073709551616 ≡ q * 2 ^ (n .0 - m .0)
+  base-is =
+      let few : n .0 ≤ 64 = omega (arith, n .1 .0) in
+      let room : 2 ^ n .0 ≤ 2 ^ 64 = pow-le-pow-right (omega arith) few in
+      rw shift-is (mod-eq-of-lt (omega (arith, raised (s .pre .1 .0 .low) (s .pre .1 .1) (m .1 .1) (n .1 .1) .0, room)))
+
+sub-times : tie.Need-sub-times
+sub-times c = omega (arith, m c .1 .0, n c .1 .0, longer c)
+
+cast-times : tie.Need-cast-times
+cast-times c = omega (arith, shift-few c)
+
+shl-base : tie.Need-shl-base
+shl-base c = shift-few c
+
+half : (c : tie.Else1)
+    → let s = c .before in
+    let k = n s .0 - m s .0 in
+    (1 ≤ k) × ((halvingsOf (p s) (q s) ≡ k - 1) × (baseOf (p s) (q s) ≡ q s * 2 ^ k / 2))
+half c =
+    let s = c .before in
+    half-known (s .pre .1 .0 .low) (s .pre .1 .1) (m s .1 .1) (n s .1 .1) (rw (base-is s) at (c .if1 .left))
+
+sub-t10 : tie.Need-sub-t10
+sub-t10 c = omega (arith, shift-is (c .before), half c .0)
+
+returns : tie.Need-returns
 returns c =
-    let d = c .before .loop .inv .0 in
-    let hq = c .before .before .pre .1 .0 .low in
-    rw (doubled-times hq d (c .loop-test .left), doubled-base hq d (c .loop-test .left))
+    let s = c .before in
+    let w = whole-known (s .pre .1 .0 .low) (s .pre .1 .1) (m s .1 .1) (n s .1 .1) (rw (base-is s) at (c .if1 .taken)) in
+    cc (shift-is s, base-is s, w .0, w .1)
+
+returns-2 : tie.Need-returns-2
+returns-2 c =
+    let s = c .before in
+    cc (shift-is s, base-is s, half c .1 .0, half c .1 .1)
 
 pub halve-spec : {M : Type 1} → statement M
-halve-spec = tie.close (tie.spec Inv-loop μ-loop loop-holds mul-loop mul-base add-times loop-less loop-again returns)
+halve-spec = tie.close (tie.spec sub-times cast-times shl-base sub-t10 returns returns-2)

@@ -2,32 +2,28 @@
 use Prim.Native.Nat.{_+_, _-_, _*_, _/_, _≤_}
 use mathlib.Core.Path.{_≡_}
 use native.Mathlib.{Omega.{arith}, Nat.{mul-le-mul, div-le-self}}
-use Rattle.logarithm.specs.Series.{unit, squareOf}
-use Rattle.logarithm.proofs.{Sizes.{square-size}, Sums.{Summed, Fitting, summed-start, summed-again, fitting}}
+use Rattle.logarithm.specs.Series.{unit}
+use Rattle.logarithm.proofs.{Sums.{Summed, Fitting, summed-start, summed-again, fitting}}
 use Rattle.logarithm.proofs.terms.series.Statement.{statement}
 use Rattle.logarithm.proofs.terms.series.Tie as tie
 
 abbrev Inv-loop : tie.InvT-loop
-Inv-loop up z square power₀ sum₀ i₀ power sum i = Summed up z square i power sum × (i ≤ 9)
+Inv-loop z square power₀ sum₀ i₀ power sum i = Summed z square i power sum × (i ≤ 9)
 
 abbrev μ-loop : tie.MeasureT-loop
-μ-loop up z square power₀ sum₀ i₀ power sum i = 9 - i
+μ-loop z square power₀ sum₀ i₀ power sum i = 9 - i
 
 mul-square : tie.Need-mul-square Inv-loop μ-loop
-mul-square c = omega (arith, mul-le-mul (c .pre .1) (c .pre .1))
-
-add-square : tie.Need-add-square Inv-loop μ-loop
-unfolding squareOf
-add-square c = omega (arith, square-size (c .pre .0) (c .pre .1))
+mul-square c = omega (arith, mul-le-mul (c .pre) (c .pre))
 
 loop-holds : tie.Need-loop-holds Inv-loop μ-loop
-loop-holds c = (summed-start _ _, omega arith)
+loop-holds c = (summed-start _, omega arith)
 
 fits : (c : tie.In-loop Inv-loop μ-loop)
     → let a = c .before .before .args in
     let l = c .before .loop in
-    Fitting (a .z * a .z / unit + a .up) (l .i) (l .power) (l .sum)
-fits c = fitting (c .before .loop .inv .0) (c .before .before .pre .0) (c .before .before .pre .1)
+    Fitting (a .z * a .z / unit) (l .i) (l .power) (l .sum)
+fits c = fitting (c .before .loop .inv .0) (c .before .before .pre)
 
 mul-sum : tie.Need-mul-sum Inv-loop μ-loop
 mul-sum c = omega (arith, fits c)
@@ -44,14 +40,8 @@ div-sum c = omega arith
 add-sum-2 : tie.Need-add-sum-2 Inv-loop μ-loop
 add-sum-2 c = omega (arith, fits c, div-le-self (2 * c .before .loop .power) (2 * c .before .loop .i + 1))
 
-add-sum-3 : tie.Need-add-sum-3 Inv-loop μ-loop
-add-sum-3 c = omega (arith, fits c, div-le-self (2 * c .before .loop .power) (2 * c .before .loop .i + 1))
-
 mul-power : tie.Need-mul-power Inv-loop μ-loop
 mul-power c = omega (arith, fits c)
-
-add-power : tie.Need-add-power Inv-loop μ-loop
-add-power c = omega (arith, fits c)
 
 add-i : tie.Need-add-i Inv-loop μ-loop
 add-i c = omega arith
@@ -69,5 +59,5 @@ returns c =
 
 pub series-spec : {M : Type 1} → statement M
 series-spec =
-    tie.close (tie.spec Inv-loop μ-loop mul-square add-square loop-holds mul-sum mul-sum-2 add-sum div-sum add-sum-2 add-sum-3 mul-power
-    add-power add-i loop-less loop-again returns)
+    tie.close (tie.spec Inv-loop μ-loop mul-square loop-holds mul-sum mul-sum-2 add-sum div-sum add-sum-2 mul-power add-i loop-less
+    loop-again returns)
