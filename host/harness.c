@@ -2,7 +2,8 @@
  *
  *     harness random SEED COUNT    random sheets, sound and damaged: what must hold of every answer
  *     harness serve                sheets in and answers out, with their lengths, for a judge
- *     harness time SHEET           nanoseconds a row, beside the same rows in doubles
+ *     harness time SHEET           nanoseconds a row, next to the same rows in doubles
+ *     harness ask QUESTION SHEET   rows, doubles, headroom or release of the sheet, once: for a count of instructions
  *     harness stack                the stack that a call of each entry takes on the longest sheet
  *     harness edges                null pointers with length 0, and numbers read from bytes made by hand
  *
@@ -35,11 +36,13 @@ int main(int count, char **words) {
         serve();
     else if (count == 3 && strcmp(words[1], "time") == 0)
         run_times(words[2]);
+    else if (count == 4 && strcmp(words[1], "ask") == 0)
+        run_ask(words[2], words[3]);
     else if (count == 2 && strcmp(words[1], "stack") == 0)
         run_stack();
     else if (count == 2 && strcmp(words[1], "edges") == 0)
         run_edges();
     else
-        stop("random SEED COUNT, serve, time SHEET, stack, or edges");
+        stop("random SEED COUNT, serve, time SHEET, ask QUESTION SHEET, stack, or edges");
     return 0;
 }

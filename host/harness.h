@@ -26,6 +26,7 @@ void make_trial(struct chance *c, struct trial *t);
 void run_random(uint64_t seed, long count);
 void serve(void);
 void run_times(const char *path);
+void run_ask(const char *question, const char *path);
 void run_stack(void);
 void run_edges(void);
 

@@ -1,88 +1,101 @@
-"""Counts the instructions that the program `verdict` takes for a line of a sheet.
+"""Counts the instructions that the library takes for a line of a sheet, next to the same rows in doubles.
 
-    rt check verdict
-    python3 tests/cost.py [--program target/bin/verdict] [--beside target/bin/summary] [--sheet FILE] [--lines N]
+    make harness
+    python3 tests/cost.py [--harness target/host/harness] [--lines 256] [--seed 1]
 
-It needs valgrind. The stored sheet has squares only; it is measured as it is, and with unequal counts
-in their place. Each figure is a difference of two runs, on the whole sheet and on its first two lines,
-so that the program's start and the line of names do not count. A sheet whose last line repeats the
-first one's station and season is judged to its end and not written, which tells judging from working.
-The second figure has the line's text in it. With --beside the whole of a line by another program is told too,
-and how many times the first it is.
+It needs valgrind. Three sheets are counted: the stored one, which has squares only, with its lines over and
+over; the same with unequal counts in their place; and one of random cases. Each figure is a difference of two
+runs, on the whole sheet and on its first two lines, so that the line of names does not count. A sheet whose
+last line repeats the first one's station and season is judged to its end and no row is computed, which tells
+judging from rows. Headroom and release have the judging of a line in them.
 """
 
 import argparse
+import random
 import re
 import subprocess
 import tempfile
 from pathlib import Path
 
-PROGRAM = "target/bin/verdict"
+from sheets import random_case
+
+HARNESS = "target/host/harness"
 SHEET = Path(__file__).parents[1] / "crates" / "rows" / "stdin"
 SHORT = 2  # lines; fewer cannot repeat one
 APART, MIDDLE = 12, 14  # unequal counts are so far apart; from the middle on along is below across
+MOST_STATION = 65535
 
 
-def instructions(program, lines):
-    """All instructions of a run on a sheet."""
-    with tempfile.NamedTemporaryFile() as profile:
-        run = ("valgrind", "--tool=callgrind", f"--callgrind-out-file={profile.name}", program)
-        subprocess.run(run, input=b"\n".join(lines) + b"\n", capture_output=True, check=True)
+def instructions(harness, question, lines):
+    """The instructions of a question of a sheet, without what the harness does around it."""
+    with tempfile.NamedTemporaryFile() as profile, tempfile.NamedTemporaryFile() as sheet:
+        Path(sheet.name).write_bytes(b"\n".join(lines) + b"\n")
+        counted = ("--toggle-collect=work_doubles", "--toggle-collect=hocsimbur_*")
+        run = ("valgrind", "--tool=callgrind", *counted, f"--callgrind-out-file={profile.name}", harness, "ask", question, sheet.name)
+        subprocess.run(run, capture_output=True, check=True)
         return int(re.search(r"^totals: (\d+)", Path(profile.name).read_text(), flags=re.MULTILINE)[1])
+
+
+def with_values(lines, change):
+    """The sheet with the values of each line changed, by a function of their place and a dictionary."""
+    names, *values = (line.split(b",") for line in lines)
+    changed = (change(i, dict(zip(names, value))) for i, value in enumerate(values))
+    return [lines[0], *(b",".join(value[name] for name in names) for value in changed)]
 
 
 def repeated(lines, count):
     """The sheet with its value lines over and over up to a count, each with its own station."""
-    names, *values = (line.split(b",") for line in lines)
-    at = names.index(b"station")
-    values = [values[i % len(values)] for i in range(count)]
-    values = [[*v[:at], b"%d" % (10001 + i), *v[at + 1 :]] for i, v in enumerate(values)]
-    return [lines[0], *map(b",".join, values)]
+    lines = [lines[0], *(lines[1 + i % (len(lines) - 1)] for i in range(count))]
+    return with_values(lines, lambda i, value: value | {b"station": b"%d" % (10001 + i)})
 
 
-def rectangles(lines):
-    """The sheet with across as it is and along so far from it."""
-    names, *values = (line.split(b",") for line in lines)
-    across, along = map(names.index, (b"across", b"along"))
-    for value in values:
-        count = int(value[across])
-        value[along] = b"%d" % (count + APART if count < MIDDLE else count - APART)
-    return [lines[0], *map(b",".join, values)]
+def rectangle(_, value):
+    """Across as it is, and along so far from it."""
+    count = int(value[b"across"])
+    return value | {b"along": b"%d" % (count + APART if count < MIDDLE else count - APART)}
+
+
+def random_lines(names, count, seed):
+    """Random cases, in no order of their stations."""
+    rng = random.Random(seed)
+    stations = rng.sample(range(1, MOST_STATION + 1), count)
+    cases = (random_case(rng)._replace(station=station)._asdict() for station in stations)
+    return [names, *(",".join(str(case[name]) for name in names.decode().split(",")).encode() for case in cases)]
 
 
 def refused_at_the_end(lines):
     """The sheet with the first line's station and season in its last line."""
-    names, first, *_, last = (line.split(b",") for line in lines)
-    for at in map(names.index, (b"station", b"season")):
-        last[at] = first[at]
-    return [*lines[:-1], b",".join(last)]
+    first = dict(zip(lines[0].split(b","), lines[1].split(b",")))
+    key = {name: first[name] for name in (b"station", b"season")}
+    return with_values(lines, lambda i, value: value | key if i == len(lines) - 2 else value)
 
 
-def a_line(program, lines, change):
+def a_line(harness, question, lines, change=list):
     """Instructions for one value line more."""
     short = lines[: 1 + SHORT]
-    more = instructions(program, change(lines)) - instructions(program, change(short))
+    more = instructions(harness, question, change(lines)) - instructions(harness, question, change(short))
     return more / (len(lines) - len(short))
 
 
 def main():
     parser = argparse.ArgumentParser(description=__doc__.split("\n")[0])
-    parser.add_argument("--program", default=PROGRAM)
-    parser.add_argument("--beside", help="another program, for the whole of a line")
-    parser.add_argument("--sheet", default=SHEET, type=Path)
-    parser.add_argument("--lines", type=int, help="repeat the sheet's lines up to so many")
+    parser.add_argument("--harness", default=HARNESS)
+    parser.add_argument("--lines", type=int, default=256)
+    parser.add_argument("--seed", type=int, default=1)
     asked = parser.parse_args()
-    lines = asked.sheet.read_bytes().split(b"\n")[:-1]
-    if asked.lines:
-        lines = repeated(lines, asked.lines)
-    for what, sheet in (("as stored", lines), ("with unequal counts", rectangles(lines))):
-        judged = a_line(asked.program, sheet, refused_at_the_end)
-        whole = a_line(asked.program, sheet, list)
-        print(f"{what}: {judged:.0f} instructions to judge a line, "
-              f"{whole - judged:.0f} to work out and write its row")
-        if asked.beside:
-            other = a_line(asked.beside, sheet, list)
-            print(f"{what}: {other:.0f} instructions a line by {asked.beside}, {other / whole:.3f} times {whole:.0f}")
+    stored = SHEET.read_bytes().split(b"\n")[:-1]
+    squares = repeated(stored, asked.lines)
+    sheets = {
+        "squares": squares,
+        "rectangles": with_values(squares, rectangle),
+        "random": random_lines(stored[0], asked.lines, asked.seed),
+    }
+    print("sheet,judging,row,row_in_doubles,headroom,release")
+    for name, lines in sheets.items():
+        judging = a_line(asked.harness, "rows", lines, refused_at_the_end)
+        others = (a_line(asked.harness, question, lines) for question in ("rows", "doubles", "headroom", "release"))
+        rows, doubles, headroom, release = others
+        print(f"{name},{judging:.0f},{rows - judging:.0f},{doubles:.0f},{headroom:.0f},{release:.0f}")
 
 
 if __name__ == "__main__":
