@@ -12,10 +12,10 @@ unfoldable pub stationCount : Summed → Answer
 stationCount (summed.Summary rows stations) = Rows stations
 stationCount (summed.Refused number line column) = Refused number line column
 
--- the count of pairs
-unfoldable pub pairCount : Released → Answer
-pairCount (released.Pairs count) = Rows count
-pairCount (released.Refused number line column) = Refused number line column
+-- the count of stations in a licence
+unfoldable pub entryCount : Released → Answer
+entryCount (released.Stations count) = Rows count
+entryCount (released.Refused number line column) = Refused number line column
 
 -- the count of bytes
 unfoldable pub byteCount : Carried → Answer

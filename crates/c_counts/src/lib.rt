@@ -1,6 +1,6 @@
 // The answers of operations as a count or a refusal.
 ghost use mathlib.Core.Path.{_≡_};
-ghost use Rattle.c_counts.specs.Counts.{stationCount, pairCount, byteCount};
+ghost use Rattle.c_counts.specs.Counts.{stationCount, entryCount, byteCount};
 use conversion::Carried;
 use release::Released;
 use sheet::Answer;
@@ -16,12 +16,12 @@ pub fn station_count(summed: Summed) -> Answer
     }
 }
 
-// The count of pairs.
-pub fn pair_count(released: Released) -> Answer
-    ensures { λ r. ⌜ r ≡ pairCount released ⌝ }
+// The count of stations in a licence.
+pub fn entry_count(released: Released) -> Answer
+    ensures { λ r. ⌜ r ≡ entryCount released ⌝ }
 {
     match released {
-        Released::Pairs(count) => Answer::Rows(count),
+        Released::Stations(count) => Answer::Rows(count),
         Released::Refused(number, line, column) => Answer::Refused(number, line, column),
     }
 }

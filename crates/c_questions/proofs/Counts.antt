@@ -19,11 +19,11 @@ use Rattle.station_sums.specs.Summary.{stations, stationLength}
 use Rattle.stations.specs.{declared.Summed.{Summed}, Answer.{sheetRows, summaryRefused, answerAfter, summaryAnswer, SummaryAnswered}}
 use Rattle.stations.specs.declared.Summed.the-variants as summed
 use Rattle.release.specs.declared.{licence.Wrong.{Wrong, the-variants.{At, Nothing}}, Released.{Released}}
-use Rattle.release.specs.{Licence.{pairsOf, badCount, firstWrong}, Pair.{pairLength}}
-use Rattle.release.specs.Answer.{roomAnswer, afterPairs, licenceAnswer, afterSheet, releaseAnswer, ReleaseAnswered}
+use Rattle.release.specs.{Licence.{entriesOf, badCount, firstWrong}, Entry.{entryLength}}
+use Rattle.release.specs.Answer.{roomAnswer, afterEntries, licenceAnswer, afterSheet, releaseAnswer, ReleaseAnswered}
 use Rattle.release.specs.declared.Released.the-variants as released
 use Rattle.c_tell.specs.Room.{Few}
-use Rattle.c_counts.specs.Counts.{stationCount, pairCount, byteCount}
+use Rattle.c_counts.specs.Counts.{stationCount, entryCount, byteCount}
 
 -- ---- stations
 
@@ -51,43 +51,43 @@ stations-few (summed.Refused k l c) h p = tt
 
 -- ---- pairs
 
-room-pairs : (room count k : ℕ) → released.Pairs k ≡ roomAnswer room count → pairLength * k ≤ room
+room-entries : (room count k : ℕ) → released.Stations k ≡ roomAnswer room count → entryLength * k ≤ room
 unfolding roomAnswer
-room-pairs room count k e = go (ltb room (pairLength * count)) refl e
+room-entries room count k e = go (ltb room (entryLength * count)) refl e
   where
-    go : (b : Bool) → ltb room (pairLength * count) ≡ b → released.Pairs k ≡ cond b (released.Refused 23 0 0) (released.Pairs count)
-        → pairLength * k ≤ room
+    go : (b : Bool) → ltb room (entryLength * count) ≡ b → released.Stations k ≡ cond b (released.Refused 23 0 0) (released.Stations count)
+        → entryLength * k ≤ room
     go true q h = clash cc
-    go false q h = let z : k ≡ count = cc in omega (arith, z, ltb-false room (pairLength * count) q)
+    go false q h = let z : k ≡ count = cc in omega (arith, z, ltb-false room (entryLength * count) q)
 
-after-pairs : (room count k : ℕ) (w : Wrong) → released.Pairs k ≡ afterPairs (roomAnswer room count) w → pairLength * k ≤ room
-unfolding afterPairs
-after-pairs room count k (At place column) e = clash cc
-after-pairs room count k Nothing e = room-pairs room count k e
+after-entries : (room count k : ℕ) (w : Wrong) → released.Stations k ≡ afterEntries (roomAnswer room count) w → entryLength * k ≤ room
+unfolding afterEntries
+after-entries room count k (At place column) e = clash cc
+after-entries room count k Nothing e = room-entries room count k e
 
-licence-pairs : (licence : List ℕ) (room k : ℕ) → released.Pairs k ≡ licenceAnswer licence room → pairLength * k ≤ room
+licence-entries : (licence : List ℕ) (room k : ℕ) → released.Stations k ≡ licenceAnswer licence room → entryLength * k ≤ room
 unfolding licenceAnswer
-licence-pairs licence room k e = go (badCount (length licence)) e
+licence-entries licence room k e = go (badCount (length licence)) e
   where
     rest : Released
-    rest = afterPairs (roomAnswer room (length (pairsOf licence))) (firstWrong [] 1 (pairsOf licence))
+    rest = afterEntries (roomAnswer room (length (entriesOf licence))) (firstWrong [] 1 (entriesOf licence))
 
-    go : (b : Bool) → released.Pairs k ≡ cond b (released.Refused 21 0 0) rest → pairLength * k ≤ room
+    go : (b : Bool) → released.Stations k ≡ cond b (released.Refused 21 0 0) rest → entryLength * k ≤ room
     go true h = clash cc
-    go false h = after-pairs room (length (pairsOf licence)) k (firstWrong [] 1 (pairsOf licence)) h
+    go false h = after-entries room (length (entriesOf licence)) k (firstWrong [] 1 (entriesOf licence)) h
 
-sheet-pairs : (licence : List ℕ) (room k : ℕ) (j : Judgement) → released.Pairs k ≡ afterSheet (licenceAnswer licence room) j
-    → pairLength * k ≤ room
+sheet-entries : (licence : List ℕ) (room k : ℕ) (j : Judgement) → released.Stations k ≡ afterSheet (licenceAnswer licence room) j
+    → entryLength * k ≤ room
 unfolding afterSheet
-sheet-pairs licence room k (judged.Lines n) e = licence-pairs licence room k e
-sheet-pairs licence room k (judged.Refused number line column) e = clash cc
+sheet-entries licence room k (judged.Lines n) e = licence-entries licence room k e
+sheet-entries licence room k (judged.Refused number line column) e = clash cc
 
-pub pairs-few : {s licence : List ℕ} {before after : List ℤ} (a : Released) → length before < 2 ^ 64
-    → ReleaseAnswered s licence before after a → Few (pairCount a)
-unfolding Few pairCount releaseAnswer
-pairs-few {s} {licence} {before} (released.Pairs k) h p =
-    omega (arith, sheet-pairs licence (length before) k (judgement columns s) (p .answer-is))
-pairs-few (released.Refused k l c) h p = tt
+pub entries-few : {s licence : List ℕ} {before after : List ℤ} (a : Released) → length before < 2 ^ 64
+    → ReleaseAnswered s licence before after a → Few (entryCount a)
+unfolding Few entryCount releaseAnswer
+entries-few {s} {licence} {before} (released.Stations k) h p =
+    omega (arith, sheet-entries licence (length before) k (judgement columns s) (p .answer-is))
+entries-few (released.Refused k l c) h p = tt
 
 -- ---- bytes: a carried sheet is no longer than a sheet may be
 

@@ -9,7 +9,7 @@ use Rattle.conversion.specs.Answer as conversion
 use Rattle.stations.specs.{declared.Summed.{Summed}, Answer.{SummaryAnswered}}
 use Rattle.release.specs.{declared.Released.{Released}, Answer.{ReleaseAnswered}}
 use Rattle.c_tell.specs.Told.{Told}
-use Rattle.c_counts.specs.Counts.{stationCount, pairCount, byteCount}
+use Rattle.c_counts.specs.Counts.{stationCount, entryCount, byteCount}
 
 -- Two wrong programs: one that answers the count of rows breaks `told`; one that writes a row before a refusal breaks `asked`.
 pub record SummaryTold (s : List ℕ) (rowsBefore rowsAfter before after : List ℤ) (place pointed : List ℕ) (r : ℤ) : Type 0 where
@@ -22,7 +22,7 @@ pub record SummaryTold (s : List ℕ) (rowsBefore rowsAfter before after : List 
 pub record ReleaseTold (s licence : List ℕ) (before after : List ℤ) (place pointed : List ℕ) (r : ℤ) : Type 0 where
   pub answer : Released
   pub asked : ReleaseAnswered s licence before after answer
-  pub told : Told (pairCount answer) place pointed r
+  pub told : Told (entryCount answer) place pointed r
 
 -- a sheet carried over to a form. Two wrong programs: one that carries to the other form breaks `asked`; one that answers the buffer's
 -- length breaks `told`.

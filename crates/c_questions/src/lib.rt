@@ -6,15 +6,15 @@ ghost use Rattle.case.specs.declared.Form.the-variants.{Present, Former};
 ghost use Rattle.c_questions.specs.Operations.{SummaryTold, ReleaseTold, CarryTold};
 ghost use Rattle.c_questions.specs.Reports.{SoilTold, SplitTold, FewestTold};
 use c_counts::byte_count;
-use c_counts::pair_count;
+use c_counts::entry_count;
 use c_counts::station_count;
 use c_reply::put_fewest;
 use c_reply::put_soil;
 use c_reply::put_split;
 use one_line::fewest_of_sheet;
 
-// Ten thousand times the first number of the version, a hundred times the second, and the third: 1.1.0.
-const VERSION: u32 = 10100;
+// Ten thousand times the first number of the version, a hundred times the second, and the third: 2.0.0.
+const VERSION: u32 = 20000;
 
 // The count of stations. The rows and the summary of the stations are in their tables, as `summary` puts them.
 #[no_mangle]
@@ -31,7 +31,8 @@ pub extern "C" fn hocsimbur_summary(
     tell(answer, place)
 }
 
-// The count of pairs of the licence, a station and its seasons in turn. Eight numbers a pair are in the table, as `release` puts them.
+// The count of stations of the licence: a station, its seasons and its conductor's own cross-section in kcmil, or 0, in turn. Eight numbers
+// a station are in the table, as `release` puts them.
 #[no_mangle]
 pub extern "C" fn hocsimbur_release<'a>(
     s: &'a [u8],
@@ -42,7 +43,7 @@ pub extern "C" fn hocsimbur_release<'a>(
     ensures { λ r. ⌜ ReleaseTold (now (s .entry)) (now (licence .entry)) (now (table .entry)) (now (table .exit)) (now (place .entry))
         (now (place .exit)) r ⌝ }
 {
-    let answer = pair_count(release::release(s, licence, table));
+    let answer = entry_count(release::release(s, licence, table));
     tell(answer, place)
 }
 
@@ -89,7 +90,7 @@ pub extern "C" fn hocsimbur_split(parts: &[i64], numbers: &mut [i64], place: &mu
 // The version of the library.
 #[no_mangle]
 pub extern "C" fn hocsimbur_version() -> u32
-    ensures { λ r. ⌜ r ≡ 10100 ⌝ }
+    ensures { λ r. ⌜ r ≡ 20000 ⌝ }
 {
     VERSION
 }

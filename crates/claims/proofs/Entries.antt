@@ -17,7 +17,7 @@ use Rattle.stations.specs.declared.Summed.the-variants as summed
 use Rattle.release.specs.declared.Released.{Released}
 use Rattle.release.specs.declared.Released.the-variants as released
 use Rattle.c_tell.specs.{Answer.{signedAnswer}, Place.{placeAfter}, Told.{Told}}
-use Rattle.c_counts.specs.Counts.{stationCount, pairCount, byteCount}
+use Rattle.c_counts.specs.Counts.{stationCount, entryCount, byteCount}
 use Rattle.c_questions.specs.Operations.{SummaryTold, ReleaseTold, CarryTold}
 use Rattle.claims.specs.Summary as summary
 use Rattle.claims.specs.Releases as releases
@@ -83,17 +83,17 @@ module _ {s licence : List ℕ} {before after : List ℤ} where
       → 1 ≤ number
   release-number (releases.rule b u) = rule-number columns s b
   release-number (releases.count e p u) = omega arith
-  release-number (releases.pair e p k w b u) = omega arith
+  release-number (releases.entry e p k w b u) = omega arith
   release-number (releases.table e p w l u) = omega arith
 
   pub release-in-c : {place told : List ℕ} {r : ℤ} → ReleaseTold s licence before after place told r
       → ReleaseInC s licence before after place told r
-  unfolding Says pairCount
+  unfolding Says entryCount
   release-in-c {place} {told} {r} t = go (t .answer) (licences.release (t .asked)) (t .told)
     where
-      go : (a : Released) → releases.ReleaseOutcome s licence before after a → Told (pairCount a) place told r
+      go : (a : Released) → releases.ReleaseOutcome s licence before after a → Told (entryCount a) place told r
           → ReleaseInC s licence before after place told r
-      go (released.Pairs m) o t = in-c (answer.Rows m) t o
+      go (released.Stations m) o t = in-c (answer.Rows m) t o
       go (released.Refused k l c) o t = in-c (answer.Refused k l c) t (release-number o, o)
 
 held-number : {s : List ℕ} {i number : ℕ} → carrying.Held s i number → 1 ≤ number

@@ -24,7 +24,7 @@ use Rattle.hocsimbur.specs.declared.SizeAnswer.the-variants as sized
 use Rattle.hocsimbur.specs.declared.Tolerable.the-variants as tolerable
 use Rattle.claims.specs.Record.{RecordRefused, RecordSound, FirstOutside, out-of-range, surface, rods}
 use Rattle.claims.specs.{Carried.{AcceptedIn, Held, FirstHeld}, Measured.{FirstPair}, Answers.{OneAnswer, OneAnswers}}
-use Rattle.claims.specs.Releases.{InPairs, PairWrong, PairSound, at-station, at-seasons}
+use Rattle.claims.specs.Releases.{InEntries, EntryWrong, EntrySound, at-station, at-seasons, at-area}
 use Rattle.claims.specs.Record as record′
 use Rattle.claims.specs.Workings as workings
 use Rattle.claims.specs.Later as later
@@ -151,50 +151,56 @@ module _ {form : Form} {s : List ℕ} where
 -- ---- release
 
 module _ {licence : List ℕ} where
-  one-column : {k c d : ℕ} → PairWrong licence k c → PairWrong licence k d → c ≡ d
+  one-column : {k c d : ℕ} → EntryWrong licence k c → EntryWrong licence k d → c ≡ d
   one-column (at-station a) (at-station b) = refl
   one-column (at-station a) (at-seasons b c) = absurd (a b)
+  one-column (at-station a) (at-area b c d) = absurd (a b)
   one-column (at-seasons a c) (at-station b) = absurd (b a)
   one-column (at-seasons a c) (at-seasons b d) = refl
+  one-column (at-seasons a c) (at-area b d e) = absurd (c d)
+  one-column (at-area a c d) (at-station b) = absurd (b a)
+  one-column (at-area a c d) (at-seasons b e) = absurd (e c)
+  one-column (at-area a c d) (at-area b e f) = refl
 
-  wrong-sound : {k c : ℕ} → PairWrong licence k c → PairSound licence k → ⊥
+  wrong-sound : {k c : ℕ} → EntryWrong licence k c → EntrySound licence k → ⊥
   wrong-sound (at-station a) s = a (s .0)
   wrong-sound (at-seasons a c) s = c (s .1)
+  wrong-sound (at-area a c d) s = d (s .2)
 
-  one-count : {m n : ℕ} → InPairs licence m → InPairs licence n → m ≡ n
-  one-count a b = omega (arith, a .two-each, b .two-each)
+  one-count : {m n : ℕ} → InEntries licence m → InEntries licence n → m ≡ n
+  one-count a b = omega (arith, a .three-each, b .three-each)
 
   module _ {s : List ℕ} {before after : List ℤ} where
     one-release : {n l k n′ l′ k′ : ℕ} → releases.ReleaseOutcome s licence before after (released.Refused n l k)
         → releases.ReleaseOutcome s licence before after (released.Refused n′ l′ k′) → Same n l k n′ l′ k′
     one-release (releases.rule a u) (releases.rule b v) = one-judged a b
     one-release (releases.rule a u) (releases.count b c v) = absurd (accepted-refused b a)
-    one-release (releases.rule a u) (releases.pair b p h w f v) = absurd (accepted-refused b a)
+    one-release (releases.rule a u) (releases.entry b p h w f v) = absurd (accepted-refused b a)
     one-release (releases.rule a u) (releases.table b p f h v) = absurd (accepted-refused b a)
     one-release (releases.count a c u) (releases.rule b v) = absurd (accepted-refused a b)
     one-release (releases.count a c u) (releases.count b d v) = (refl, refl, refl)
-    one-release (releases.count a c u) (releases.pair b p h w f v) = absurd (c _ p)
+    one-release (releases.count a c u) (releases.entry b p h w f v) = absurd (c _ p)
     one-release (releases.count a c u) (releases.table b p f h v) = absurd (c _ p)
-    one-release (releases.pair a p h w f u) (releases.rule b v) = absurd (accepted-refused a b)
-    one-release (releases.pair a p h w f u) (releases.count b c v) = absurd (c _ p)
-    one-release (releases.pair {k = i} a p h w f u) (releases.pair {k = j} b q g x e v) =
+    one-release (releases.entry a p h w f u) (releases.rule b v) = absurd (accepted-refused a b)
+    one-release (releases.entry a p h w f u) (releases.count b c v) = absurd (c _ p)
+    one-release (releases.entry {k = i} a p h w f u) (releases.entry {k = j} b q g x e v) =
         let same : i ≡ j = neither-less (λ m. wrong-sound w (e i m)) (λ m. wrong-sound x (f j m)) in
         (refl, ap (λ n. n + 1) same, one-column (rw same at w) x)
-    one-release (releases.pair {k = i} a p h w f u) (releases.table b q g l v) =
+    one-release (releases.entry {k = i} a p h w f u) (releases.table b q g l v) =
         absurd (wrong-sound w (g i (omega (arith, h, one-count p q))))
     one-release (releases.table a p f h u) (releases.rule b v) = absurd (accepted-refused a b)
     one-release (releases.table a p f h u) (releases.count b c v) = absurd (c _ p)
-    one-release (releases.table a p f h u) (releases.pair {k = i} b q g w e v) =
+    one-release (releases.table a p f h u) (releases.entry {k = i} b q g w e v) =
         absurd (wrong-sound w (f i (omega (arith, g, one-count p q))))
     one-release (releases.table a p f h u) (releases.table b q g l v) = (refl, refl, refl)
 
-    refused-pairs : {n l k m : ℕ} → releases.ReleaseOutcome s licence before after (released.Refused n l k)
-        → releases.ReleaseOutcome s licence before after (released.Pairs m) → ⊥
-    refused-pairs (releases.rule a u) (releases.pairs b p f h t r z) = accepted-refused b a
-    refused-pairs (releases.count a c u) (releases.pairs b p f h t r z) = c _ p
-    refused-pairs (releases.pair {k = i} a p h w f u) (releases.pairs b q g l t r z) =
+    refused-entries : {n l k m : ℕ} → releases.ReleaseOutcome s licence before after (released.Refused n l k)
+        → releases.ReleaseOutcome s licence before after (released.Stations m) → ⊥
+    refused-entries (releases.rule a u) (releases.entries b p f h t r z) = accepted-refused b a
+    refused-entries (releases.count a c u) (releases.entries b p f h t r z) = c _ p
+    refused-entries (releases.entry {k = i} a p h w f u) (releases.entries b q g l t r z) =
         wrong-sound w (g i (omega (arith, h, one-count p q)))
-    refused-pairs (releases.table a p f h u) (releases.pairs b q g l t r z) = omega (arith, h, l, one-count p q)
+    refused-entries (releases.table a p f h u) (releases.entries b q g l t r z) = omega (arith, h, l, one-count p q)
 
 -- ---- the questions: each of a record is refused by the checks, or answered of a sound case
 
@@ -284,5 +290,5 @@ one-answers =
       soil = λ numbers. record { one-refusal = one-soil; not-both = λ a b. refused-soil a (b .1) };
       split = λ s. record { one-refusal = one-split; not-both = λ a b. refused-grid a (b .3) };
       carry = λ form s before after. record { one-refusal = one-carry; not-both = λ a b. refused-carried a (b .1) };
-      release = λ s licence before after. record { one-refusal = one-release; not-both = λ a b. refused-pairs a (b .1) };
+      release = λ s licence before after. record { one-refusal = one-release; not-both = λ a b. refused-entries a (b .1) };
     }

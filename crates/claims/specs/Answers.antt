@@ -49,4 +49,4 @@ pub record OneAnswers : Type 0 where
       ((count : ℕ) × CarryOutcome form s before after (carried.Bytes count))
   pub release : (s licence : List ℕ) (before after : List ℤ)
       → OneAnswer (λ n l k. ReleaseOutcome s licence before after (released.Refused n l k))
-      ((m : ℕ) × ReleaseOutcome s licence before after (released.Pairs m))
+      ((m : ℕ) × ReleaseOutcome s licence before after (released.Stations m))

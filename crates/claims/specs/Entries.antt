@@ -52,7 +52,7 @@ SummaryInC s rowsBefore rows before after =
 
 abbrev pub ReleaseInC : List ℕ → List ℕ → List ℤ → List ℤ → List ℕ → List ℕ → ℤ → Type 0
 ReleaseInC s licence before after =
-    InC (λ m. ReleaseOutcome s licence before after (released.Pairs m))
+    InC (λ m. ReleaseOutcome s licence before after (released.Stations m))
     (λ number line column. ReleaseOutcome s licence before after (released.Refused number line column))
 
 abbrev pub CarryInC : Form → List ℕ → List ℕ → List ℕ → List ℕ → List ℕ → ℤ → Type 0

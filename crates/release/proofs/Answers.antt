@@ -7,11 +7,11 @@ use Rattle.case.specs.{declared.Case.{Case}, Columns.{columns}}
 use Rattle.judgement.specs.declared.Judgement.the-variants as judged
 use Rattle.judgement.specs.Sheet.{judgement}
 use Rattle.sheet.specs.Answer.{cases}
-use Rattle.release.specs.declared.{licence.Wrong.the-variants.{At, Nothing}, Released.{Released, the-variants.{Pairs, Refused}}}
-use Rattle.release.specs.{Licence.{pairsOf, badCount, firstWrong}, Pair.{pairLength, releaseOf}}
-use Rattle.release.specs.Answer.{roomAnswer, afterPairs, licenceAnswer, afterSheet, releaseAnswer, Filled, TableAfter, LinesReleased}
+use Rattle.release.specs.declared.{licence.Wrong.the-variants.{At, Nothing}, Released.{Released, the-variants.{Stations, Refused}}}
+use Rattle.release.specs.{Licence.{entriesOf, badCount, firstWrong}, Entry.{entryLength, releaseOf}}
+use Rattle.release.specs.Answer.{roomAnswer, afterEntries, licenceAnswer, afterSheet, releaseAnswer, Filled, TableAfter, LinesReleased}
 use Rattle.release.specs.Answer.{ReleaseAnswered}
-use Rattle.release.proofs.Pairs.{pair-count}
+use Rattle.release.proofs.Entries.{entry-count}
 
 -- ---- the licence
 
@@ -21,26 +21,26 @@ module _ (cs : List Case) (licence : List ℕ) (t : List ℤ) where
   count-refused e = record { answer-is = rw e; table-is = refl }
 
   module _ (sound : badCount (length licence) ≡ false) where
-    pub pair-refused : {place column : ℕ} → firstWrong [] 1 (pairsOf licence) ≡ At place column
+    pub entry-refused : {place column : ℕ} → firstWrong [] 1 (entriesOf licence) ≡ At place column
         → LinesReleased cs licence t t (Refused 22 place column)
-    unfolding licenceAnswer afterPairs TableAfter
-    pair-refused e = record { answer-is = rw (sound, e); table-is = refl }
+    unfolding licenceAnswer afterEntries TableAfter
+    entry-refused e = record { answer-is = rw (sound, e); table-is = refl }
 
-    module _ (right : firstWrong [] 1 (pairsOf licence) ≡ Nothing) where
-      pub room-refused : length t < pairLength * (length licence / 2) → LinesReleased cs licence t t (Refused 23 0 0)
-      unfolding licenceAnswer afterPairs roomAnswer TableAfter
+    module _ (right : firstWrong [] 1 (entriesOf licence) ≡ Nothing) where
+      pub room-refused : length t < entryLength * (length licence / 3) → LinesReleased cs licence t t (Refused 23 0 0)
+      unfolding licenceAnswer afterEntries roomAnswer TableAfter
       room-refused h =
           record {
-            answer-is = rw (sound, right, pair-count licence, lt-ltb (length t) (pairLength * (length licence / 2)) h);
+            answer-is = rw (sound, right, entry-count licence, lt-ltb (length t) (entryLength * (length licence / 3)) h);
             table-is = refl;
           }
 
-      pub pairs-released : {u : List ℤ} → pairLength * (length licence / 2) ≤ length t → Filled (releaseOf (pairsOf licence) cs) t u
-          → LinesReleased cs licence t u (Pairs (length licence / 2))
-      unfolding licenceAnswer afterPairs roomAnswer TableAfter
-      pairs-released h f =
+      pub entries-released : {u : List ℤ} → entryLength * (length licence / 3) ≤ length t → Filled (releaseOf (entriesOf licence) cs) t u
+          → LinesReleased cs licence t u (Stations (length licence / 3))
+      unfolding licenceAnswer afterEntries roomAnswer TableAfter
+      entries-released h f =
           record {
-            answer-is = rw (sound, right, pair-count licence, le-ltb (length t) (pairLength * (length licence / 2)) h);
+            answer-is = rw (sound, right, entry-count licence, le-ltb (length t) (entryLength * (length licence / 3)) h);
             table-is = f;
           }
 

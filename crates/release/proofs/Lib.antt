@@ -1,6 +1,6 @@
-pub mod Pairs
+pub mod Entries
 pub mod Tables
 pub mod Answers
-pub mod CountedPairs
+pub mod CountedEntries
 pub mod StationMeaning
 pub mod ReleasedStations

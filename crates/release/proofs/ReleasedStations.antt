@@ -8,12 +8,12 @@ use borrow.Author.Tests.{eqb-true, eq-eqb}
 use Rattle.tables.specs.Parts.{partAt}
 use Rattle.case.specs.declared.Case.{Case}
 use Rattle.sheet.specs.Answer.{cases}
-use Rattle.release.specs.{declared.Released.the-variants.{Pairs}, Licence.{pairsOf}}
-use Rattle.release.specs.{Pair.{pairLength, numbersOf, stationNumbers, releaseOf}, Answer.{Filled, TableAfter, ReleaseAnswered}}
-use Rattle.release.specs.Meaning.{numberAt, stationAt, seasonsAt, ReleasedStation, FaultReported, NothingFound}
+use Rattle.release.specs.{declared.Released.the-variants.{Stations}, Licence.{entriesOf}}
+use Rattle.release.specs.{Entry.{entryLength, numbersOf, stationNumbers, releaseOf}, Answer.{Filled, TableAfter, ReleaseAnswered}}
+use Rattle.release.specs.Meaning.{answerAt, licensedStation, licensedSeasons, licensedArea, ReleasedStation, FaultReported, NothingFound}
 use Rattle.tally.specs.Lines.{linesOf, countOf, missing, answeredUnsafe, answeredUndecided, otherYard, tooSmall, firstLine}
 use Rattle.tally.specs.Tally.{released, EveryBounds}
-use Rattle.release.proofs.{Tables.{release-count, release-at}, CountedPairs.{Counted, counted, cases-bounds}}
+use Rattle.release.proofs.{Tables.{release-count, release-at}, CountedEntries.{Counted, counted, cases-bounds}}
 use Rattle.release.proofs.StationMeaning.{station-released, fault-reported}
 
 -- ---- the numbers in the table
@@ -41,61 +41,61 @@ choice {z} a b c d e h = go (eqb (a + b + c + d + e) 0) h
 zero-is : {a : ℕ} → pos a ≡ pos 0 → a ≡ 0
 zero-is e = cc
 
-module _ {s licence : List ℕ} {before after : List ℤ} {n : ℕ} (a : ReleaseAnswered s licence before after (Pairs n)) (k : ℕ)
+module _ {s licence : List ℕ} {before after : List ℤ} {n : ℕ} (a : ReleaseAnswered s licence before after (Stations n)) (k : ℕ)
     (h : k < n) where
   known : Counted s licence n
   known = counted s licence (length before) n (sym (a .answer-is))
 
   abbrev own : List Case
-  own = linesOf (stationAt licence k) (cases s)
+  own = linesOf (licensedStation licence k) (cases s)
 
-  filled : Filled (releaseOf (pairsOf licence) (cases s)) before after
+  filled : Filled (releaseOf (entriesOf licence) (cases s)) before after
   unfolding TableAfter
   filled = a .table-is
 
-  numbers-are : partAt pairLength after k ≡ numbersOf (stationAt licence k) (seasonsAt licence k) own
+  numbers-are : partAt entryLength after k ≡ numbersOf (licensedStation licence k) (licensedSeasons licence k) (licensedArea licence k) own
   unfolding stationNumbers
   numbers-are =
-      let l : k < length licence / 2 = omega (arith, known .count) in
+      let l : k < length licence / 3 = omega (arith, known .count) in
       filled .parts k (omega (arith, release-count licence (cases s), known .count)) ∙ release-at licence (cases s) k l
 
-  number-is : (place : ℕ) → numberAt after k place ≡ getD (numbersOf (stationAt licence k) (seasonsAt licence k) own) place (pos 0)
+  number-is : (place : ℕ) → answerAt after k place ≡ getD (numbersOf (licensedStation licence k) (licensedSeasons licence k) (licensedArea licence k) own) place (pos 0)
   number-is place = ap (λ (l : List ℤ). getD l place (pos 0)) numbers-are
 
   bounded-cases : EveryBounds (cases s)
   bounded-cases = cases-bounds s (known .lines) (known .read)
 
   -- all eight
-  pub pair-numbers : partAt pairLength after k ≡ stationNumbers (stationAt licence k) (seasonsAt licence k) (cases s)
+  pub entry-numbers : partAt entryLength after k ≡ stationNumbers (licensedStation licence k) (licensedSeasons licence k) (licensedArea licence k) (cases s)
   unfolding stationNumbers
-  pair-numbers = numbers-are
+  entry-numbers = numbers-are
 
   -- the first number
-  pub pair-station : numberAt after k 0 ≡ pos (stationAt licence k)
+  pub entry-station : answerAt after k 0 ≡ pos (licensedStation licence k)
   unfolding numbersOf
-  pair-station = number-is 0
+  entry-station = number-is 0
 
-  sum-is-none : numberAt after k 1 ≡ pos 1
-      → missing (seasonsAt licence k) own + countOf answeredUnsafe own + countOf answeredUndecided own
-      + countOf (otherYard (firstLine own)) own + countOf tooSmall own
+  sum-is-none : answerAt after k 1 ≡ pos 1
+      → missing (licensedSeasons licence k) own + countOf answeredUnsafe own + countOf answeredUndecided own
+      + countOf (otherYard (firstLine own)) own + countOf (tooSmall (licensedArea licence k)) own
       ≡ 0
   unfolding numbersOf
   sum-is-none e = sum-none _ _ _ _ _ (sym (number-is 1) ∙ e)
 
   -- "1 released or 2 held"
-  pub one-or-two : (numberAt after k 1 ≡ pos 1) ⊎ (numberAt after k 1 ≡ pos 2)
+  pub one-or-two : (answerAt after k 1 ≡ pos 1) ⊎ (answerAt after k 1 ≡ pos 2)
   unfolding numbersOf
   one-or-two = choice _ _ _ _ _ (number-is 1)
 
   -- of a released station
-  pub released-means : numberAt after k 1 ≡ pos 1 → ReleasedStation s (stationAt licence k) (seasonsAt licence k)
+  pub released-means : answerAt after k 1 ≡ pos 1 → ReleasedStation s (licensedStation licence k) (licensedSeasons licence k) (licensedArea licence k)
   released-means e =
       let z = sum-is-none e in
-      station-released s (stationAt licence k) bounded-cases (seasonsAt licence k) (omega arith) (omega arith) (omega arith) (omega arith)
+      station-released s (licensedStation licence k) bounded-cases (licensedSeasons licence k) (licensedArea licence k) (omega arith) (omega arith) (omega arith) (omega arith)
       (omega arith)
 
   -- "Released exactly when the five counts are 0"
-  pub released-none : numberAt after k 1 ≡ pos 1 → NothingFound after k
+  pub released-none : answerAt after k 1 ≡ pos 1 → NothingFound after k
   unfolding numbersOf
   released-none e =
       let z = sum-is-none e in
@@ -107,7 +107,7 @@ module _ {s licence : List ℕ} {before after : List ℤ} {n : ℕ} (a : Release
         no-small-wire = number-is 6 ∙ ap pos (omega arith);
       }
 
-  pub none-released : NothingFound after k → numberAt after k 1 ≡ pos 1
+  pub none-released : NothingFound after k → answerAt after k 1 ≡ pos 1
   unfolding numbersOf
   none-released f =
       let p = zero-is (sym (number-is 2) ∙ f .no-season) in
@@ -118,6 +118,6 @@ module _ {s licence : List ℕ} {before after : List ℤ} {n : ℕ} (a : Release
       number-is 1 ∙ none-sum _ _ _ _ _ (omega arith)
 
   -- the fault current
-  pub fault-means : FaultReported s (stationAt licence k) (natAbs (numberAt after k 7))
+  pub fault-means : FaultReported s (licensedStation licence k) (natAbs (answerAt after k 7))
   unfolding numbersOf
-  fault-means = rw (number-is 7) (fault-reported s (stationAt licence k) bounded-cases)
+  fault-means = rw (number-is 7) (fault-reported s (licensedStation licence k) bounded-cases)

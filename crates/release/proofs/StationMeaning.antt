@@ -97,9 +97,9 @@ module _ (s : List ℕ) (station : ℕ) (bounded : EveryBounds (cases s)) where
 
   -- ---- nothing found
 
-  module _ (seasons : ℕ) (no-season : missing seasons lines ≡ 0) (no-unsafe : countOf answeredUnsafe lines ≡ 0)
+  module _ (seasons area : ℕ) (no-season : missing seasons lines ≡ 0) (no-unsafe : countOf answeredUnsafe lines ≡ 0)
       (no-undecided : countOf answeredUndecided lines ≡ 0) (no-other : countOf (otherYard (firstLine lines)) lines ≡ 0)
-      (no-small : countOf tooSmall lines ≡ 0) where
+      (no-small : countOf (tooSmall area) lines ≡ 0) where
     safe-at : (j : ℕ) → LineOf s station j → rowOf (lineAt s j) .verdict ≡ Safe
     unfolding answeredUnsafe answeredUndecided
     safe-at j l =
@@ -109,7 +109,7 @@ module _ (s : List ℕ) (station : ℕ) (bounded : EveryBounds (cases s)) where
     first-yard : (j : ℕ) → LineOf s station j → OneYard (firstLine lines) (lineAt s j)
     first-yard j l = yard-is (firstLine lines) (lineAt s j) (same-first _ _ (not-passed (otherYard (firstLine lines)) no-other j l))
 
-    pub station-released : ReleasedStation s station seasons
+    pub station-released : ReleasedStation s station seasons area
     unfolding tooSmall
     station-released =
         record {
@@ -117,7 +117,7 @@ module _ (s : List ℕ) (station : ℕ) (bounded : EveryBounds (cases s)) where
           one-yard = λ i j l m. both-yard (first-yard i l) (first-yard j m);
           mesh = λ j l. let r = right-row (bounds-at j l) in r .safe-true (sym (r .verdict) ∙ safe-at j l) .0;
           step = λ j l. let r = right-row (bounds-at j l) in r .safe-true (sym (r .verdict) ∙ safe-at j l) .1;
-          wire = λ j l. ltb-false _ _ (not-passed tooSmall no-small j l);
+          wire = λ j l. ltb-false _ _ (not-passed (tooSmall area) no-small j l);
         }
 
   -- ---- the fault current

@@ -1,4 +1,4 @@
--- The table: eight numbers a pair, one pair after the other.
+-- The table: eight numbers an entry, one entry after the other.
 use Prim.Native.Nat.{ℕ, zero, suc, _+_, _*_, _-_, _/_, _≤_, _<_}
 use mathlib.Core.{Path.{_≡_, refl, _∙_}, List.{List, [], _∷_}}
 use native.Mathlib.Omega.{arith}
@@ -8,10 +8,10 @@ use Rattle.tables.{specs.Parts.{Written}, proofs.Writing.{put-written}}
 use Rattle.case.specs.declared.Case.{Case}
 use Rattle.tally.specs.{declared.Tally.{Tally}, Lines.{missing, without, firstLine}, Fault.{stationFault}}
 use Rattle.tally.specs.Tally.{tallyOf, lacks, missingBy}
-use Rattle.release.specs.{Licence.{pairsOf}, Pair.{eight, numbersOf, pairLength, stationNumbers, releaseOf}}
-use Rattle.release.proofs.Pairs.{pair-count}
+use Rattle.release.specs.{Licence.{entriesOf}, Entry.{eight, numbersOf, entryLength, stationNumbers, releaseOf}}
+use Rattle.release.proofs.Entries.{entry-count}
 
-pub eight-set : (l : List ℤ) (a b c d e f g h : ℤ) → length l ≡ pairLength
+pub eight-set : (l : List ℤ) (a b c d e f g h : ℤ) → length l ≡ entryLength
     → set (set (set (set (set (set (set (set l 0 a) 1 b) 2 c) 3 d) 4 e) 5 f) 6 g) 7 h ≡ a ∷ b ∷ c ∷ d ∷ e ∷ f ∷ g ∷ h ∷ []
 eight-set [] a b c d e f g h m = absurd (omega arith)
 eight-set (s ∷ []) a b c d e f g h m = absurd (omega arith)
@@ -24,36 +24,38 @@ eight-set (s ∷ t ∷ u ∷ v ∷ w ∷ x ∷ y ∷ []) a b c d e f g h m = abs
 eight-set (s ∷ t ∷ u ∷ v ∷ w ∷ x ∷ y ∷ z ∷ []) a b c d e f g h m = refl
 eight-set (s ∷ t ∷ u ∷ v ∷ w ∷ x ∷ y ∷ z ∷ r ∷ l) a b c d e f g h m = absurd (omega arith)
 
-eight-long : (station noLine : ℕ) (t : Tally) → length (eight station noLine t) ≡ pairLength
+eight-long : (station noLine : ℕ) (t : Tally) → length (eight station noLine t) ≡ entryLength
 unfolding eight
 eight-long station noLine t = refl
 
--- eight numbers put in the place of pair i
-pub pair-written : (i : ℕ) (t part : List ℤ) (station noLine : ℕ) (y : Tally) → pairLength * i + pairLength ≤ length t
+-- eight numbers put in the place of entry i
+pub entry-written : (i : ℕ) (t part : List ℤ) (station noLine : ℕ) (y : Tally) → entryLength * i + entryLength ≤ length t
     → part ≡ eight station noLine y
-    → Written pairLength i (eight station noLine y) t (putMid (pairLength * i) (pairLength * i + pairLength - pairLength * i) t part)
-pair-written i t part station noLine y h e = rw e (put-written pairLength i t (eight station noLine y) h (eight-long station noLine y))
+    → Written entryLength i (eight station noLine y) t (putMid (entryLength * i) (entryLength * i + entryLength - entryLength * i) t part)
+entry-written i t part station noLine y h e = rw e (put-written entryLength i t (eight station noLine y) h (eight-long station noLine y))
 
 -- ---- the eight numbers by what is counted
 
-pub eight-is : (station seasons : ℕ) (cs : List Case)
-    → eight station (missingBy seasons (tallyOf (firstLine cs) cs)) (tallyOf (firstLine cs) cs) ≡ numbersOf station seasons cs
+pub eight-is : (station seasons area : ℕ) (cs : List Case)
+    → eight station (missingBy seasons (tallyOf (firstLine cs) area cs)) (tallyOf (firstLine cs) area cs) ≡ numbersOf station seasons area cs
 unfolding eight numbersOf missingBy missing lacks without tallyOf stationFault
-eight-is station seasons cs = refl
+eight-is station seasons area cs = refl
 
--- ---- the numbers of pair k
+-- ---- the numbers of entry k
 
-pub release-count : (s : List ℕ) (cs : List Case) → length (releaseOf (pairsOf s) cs) ≡ length s / 2
+pub release-count : (s : List ℕ) (cs : List Case) → length (releaseOf (entriesOf s) cs) ≡ length s / 3
 unfolding releaseOf
-release-count s cs = length-map (pairsOf s) (λ p. stationNumbers (p .station) (p .seasons) cs) ∙ pair-count s
+release-count s cs = length-map (entriesOf s) (λ p. stationNumbers (p .station) (p .seasons) (p .area) cs) ∙ entry-count s
 
-pub release-at : (s : List ℕ) (cs : List Case) (k : ℕ) → k < length s / 2
-    → getD (releaseOf (pairsOf s) cs) k [] ≡ stationNumbers (getD s (2 * k) 0) (getD s (2 * k + 1) 0) cs
-unfolding releaseOf pairsOf
+pub release-at : (s : List ℕ) (cs : List Case) (k : ℕ) → k < length s / 3
+    → getD (releaseOf (entriesOf s) cs) k [] ≡ stationNumbers (getD s (3 * k) 0) (getD s (3 * k + 1) 0) (getD s (3 * k + 2) 0) cs
+unfolding releaseOf entriesOf
 release-at [] cs k h = absurd (omega arith)
 release-at (a ∷ []) cs k h = absurd (omega arith)
-release-at (a ∷ b ∷ s) cs zero h = refl
-release-at (a ∷ b ∷ s) cs (suc k) h =
-    let e : 2 * suc k ≡ suc (suc (2 * k)) = omega arith in
-    let f : 2 * suc k + 1 ≡ suc (suc (2 * k + 1)) = omega arith in
-    rw (f, e) (release-at s cs k (omega arith))
+release-at (a ∷ b ∷ []) cs k h = absurd (omega arith)
+release-at (a ∷ b ∷ d ∷ s) cs zero h = refl
+release-at (a ∷ b ∷ d ∷ s) cs (suc k) h =
+    let e : 3 * suc k ≡ suc (suc (suc (3 * k))) = omega arith in
+    let f : 3 * suc k + 1 ≡ suc (suc (suc (3 * k + 1))) = omega arith in
+    let g : 3 * suc k + 2 ≡ suc (suc (suc (3 * k + 2))) = omega arith in
+    rw (g, f, e) (release-at s cs k (omega arith))

@@ -8,23 +8,23 @@ use Rattle.judgement.specs.{declared.Judgement.{Judgement}, Sheet.{judgement}}
 use Rattle.judgement.specs.declared.Judgement.the-variants as judged
 use Rattle.sheet.specs.Answer.{cases}
 use Rattle.release.specs.declared.{licence.Wrong.{Wrong, the-variants.{At, Nothing}}, Released.{Released}}
-use Rattle.release.specs.{declared.Released.the-variants.{Pairs, Refused}, Licence.{pairsOf, badCount, firstWrong}}
-use Rattle.release.specs.Pair.{pairLength, releaseOf}
+use Rattle.release.specs.{declared.Released.the-variants.{Stations, Refused}, Licence.{entriesOf, badCount, firstWrong}}
+use Rattle.release.specs.Entry.{entryLength, releaseOf}
 
--- "last 23, 0, 0 when the table is shorter than eight numbers a pair"; "The answer is the count of pairs"
+-- last 23, 0, 0 when the table is shorter than eight numbers an entry; the answer is the count of entries
 unfoldable pub roomAnswer : ℕ → ℕ → Released
-roomAnswer room count = cond (ltb room (pairLength * count)) (Refused 23 0 0) (Pairs count)
+roomAnswer room count = cond (ltb room (entryLength * count)) (Refused 23 0 0) (Stations count)
 
--- "22 with the first such pair's place from 1 as line", else what comes next
-unfoldable pub afterPairs : Released → Wrong → Released
-afterPairs next (At place column) = Refused 22 place column
-afterPairs next Nothing = next
+-- 22 with the first wrong entry's place from 1 as line, else what comes next
+unfoldable pub afterEntries : Released → Wrong → Released
+afterEntries next (At place column) = Refused 22 place column
+afterEntries next Nothing = next
 
--- "then over the whole licence 21, 0, 0 when the count of numbers is 0, odd or above 512; 22 ..; last 23"
+-- then over the whole licence 21, 0, 0 when the count of numbers is 0, no multiple of three or above 768; 22; last 23
 unfoldable pub licenceAnswer : List ℕ → ℕ → Released
 licenceAnswer licence room =
     cond (badCount (length licence)) (Refused 21 0 0)
-    (afterPairs (roomAnswer room (length (pairsOf licence))) (firstWrong [] 1 (pairsOf licence)))
+    (afterEntries (roomAnswer room (length (entriesOf licence))) (firstWrong [] 1 (entriesOf licence)))
 
 -- "Refusals: the sheet's own 1 to 7; then"
 unfoldable pub afterSheet : Released → Judgement → Released
@@ -35,13 +35,13 @@ afterSheet next (judged.Refused number line column) = Refused number line column
 unfoldable pub releaseAnswer : List ℕ → List ℕ → ℕ → Released
 releaseAnswer s licence room = afterSheet (licenceAnswer licence room) (judgement columns s)
 
--- "For each pair in the licence's order eight numbers"; "numbers past the last keep what they held"
+-- for each entry in the licence's order eight numbers; "numbers past the last keep what they held"
 abbrev pub Filled : List (List ℤ) → List ℤ → List ℤ → Type 0
-Filled pairs before after = parts.Filled pairLength (λ i part. part ≡ getD pairs i []) (length pairs) before after
+Filled entries before after = parts.Filled entryLength (λ i part. part ≡ getD entries i []) (length entries) before after
 
 -- the numbers of the cases of a sheet; "any refusal leaves the table"
 unfoldable pub TableAfter : List Case → List ℕ → List ℤ → List ℤ → Released → Type 0
-TableAfter cs licence before after (Pairs count) = Filled (releaseOf (pairsOf licence) cs) before after
+TableAfter cs licence before after (Stations count) = Filled (releaseOf (entriesOf licence) cs) before after
 TableAfter cs licence before after (Refused number line column) = after ≡ before
 
 -- the same of the cases of a sheet that was read
@@ -49,8 +49,8 @@ pub record LinesReleased (cs : List Case) (licence : List ℕ) (before after : L
   pub answer-is : r ≡ licenceAnswer licence (length before)
   pub table-is : TableAfter cs licence before after r
 
--- the answer and what it leaves in the table. Two wrong programs: one whose refusal writes breaks `table-is`; one that refuses a wrong pair
--- with 21 breaks `answer-is`.
+-- the answer and what it leaves in the table. Two wrong programs: one whose refusal writes breaks `table-is`; one that refuses a wrong
+-- entry with 21 breaks `answer-is`.
 pub record ReleaseAnswered (s licence : List ℕ) (before after : List ℤ) (r : Released) : Type 0 where
   pub answer-is : r ≡ releaseAnswer s licence (length before)
   pub table-is : TableAfter (cases s) licence before after r

@@ -4,9 +4,9 @@ use mathlib.Core.{Path.{_≡_, refl}, List.{List, [], _∷_, map}}
 use Rattle.whole.specs.Count.{one}
 use Rattle.case.specs.{declared.Case.{Case}, Case.{caseOf}}
 use Rattle.tally.specs.{Lines.{licensed, linesOf, countOf, hasLine, without, missing, sameYard, otherYard, firstLine}, Tally.{released}}
-use Rattle.release.specs.declared.Released.{Released, the-variants.{Pairs, Refused}}
-use Rattle.release.specs.Licence.{pairsOf, badCount, among, wrongStation, wrongSeasons, firstWrong}
-use Rattle.release.specs.Answer.{roomAnswer, afterPairs, licenceAnswer}
+use Rattle.release.specs.declared.Released.{Released, the-variants.{Stations, Refused}}
+use Rattle.release.specs.Licence.{entriesOf, badCount, among, wrongStation, wrongSeasons, wrongArea, firstWrong}
+use Rattle.release.specs.Answer.{roomAnswer, afterEntries, licenceAnswer}
 
 -- a licence, the length of the table, and the answer
 record Example : Type 0 where
@@ -19,24 +19,27 @@ row licence room answered = record { licence = licence; room = room; answered = 
 
 examples : List Example
 examples =
-    row (7 ∷ 3 ∷ []) 8 (Pairs 1)
-    ∷ row (7 ∷ 15 ∷ 65535 ∷ 1 ∷ []) 20 (Pairs 2)
-    -- 21: none, odd
+    row (7 ∷ 3 ∷ 0 ∷ []) 8 (Stations 1)
+    ∷ row (7 ∷ 15 ∷ 211 ∷ 65535 ∷ 1 ∷ 2000 ∷ []) 20 (Stations 2)
+    -- 21: none, no multiple of three
     ∷ row [] 8 (Refused 21 0 0)
-    ∷ row (7 ∷ 3 ∷ 9 ∷ []) 8 (Refused 21 0 0)
-    -- 22: the station, the seasons, the station of an earlier pair; the station of a pair before its seasons, the first such pair
-    ∷ row (0 ∷ 3 ∷ []) 8 (Refused 22 1 1)
-    ∷ row (65536 ∷ 0 ∷ []) 8 (Refused 22 1 1)
-    ∷ row (7 ∷ 16 ∷ []) 8 (Refused 22 1 2)
-    ∷ row (9 ∷ 1 ∷ 7 ∷ 3 ∷ 9 ∷ 2 ∷ []) 24 (Refused 22 3 1)
-    ∷ row (7 ∷ 0 ∷ 0 ∷ 1 ∷ []) 16 (Refused 22 1 2)
+    ∷ row (7 ∷ 3 ∷ []) 8 (Refused 21 0 0)
+    ∷ row (7 ∷ 3 ∷ 0 ∷ 9 ∷ []) 8 (Refused 21 0 0)
+    -- 22: the station, the seasons, the cross-section, the station of an earlier entry; the station before the seasons before the
+    -- cross-section, the first such entry
+    ∷ row (0 ∷ 3 ∷ 0 ∷ []) 8 (Refused 22 1 1)
+    ∷ row (65536 ∷ 0 ∷ 0 ∷ []) 8 (Refused 22 1 1)
+    ∷ row (7 ∷ 16 ∷ 2001 ∷ []) 8 (Refused 22 1 2)
+    ∷ row (7 ∷ 15 ∷ 2001 ∷ []) 8 (Refused 22 1 3)
+    ∷ row (9 ∷ 1 ∷ 0 ∷ 7 ∷ 3 ∷ 0 ∷ 9 ∷ 2 ∷ 0 ∷ []) 24 (Refused 22 3 1)
+    ∷ row (7 ∷ 0 ∷ 0 ∷ 0 ∷ 1 ∷ 0 ∷ []) 16 (Refused 22 1 2)
     -- 23 comes last
-    ∷ row (7 ∷ 3 ∷ []) 7 (Refused 23 0 0)
-    ∷ row (0 ∷ 3 ∷ []) 7 (Refused 22 1 1)
+    ∷ row (7 ∷ 3 ∷ 0 ∷ []) 7 (Refused 23 0 0)
+    ∷ row (0 ∷ 3 ∷ 0 ∷ []) 7 (Refused 22 1 1)
     ∷ []
 
 right : map (λ e. licenceAnswer (e .licence) (e .room)) examples ≡ map (λ e. e .answered) examples
-unfolding examples pairsOf badCount among wrongStation wrongSeasons firstWrong roomAnswer afterPairs licenceAnswer
+unfolding examples entriesOf badCount among wrongStation wrongSeasons wrongArea firstWrong roomAnswer afterEntries licenceAnswer
 right = refl
 
 -- document 01's sample station in seasons 1 and 2, and another station

@@ -1,6 +1,6 @@
 pub mod Licence
 pub mod Earlier
-pub mod Pair
+pub mod Entry
 pub mod Answer
 pub mod Meaning
 pub mod Examples

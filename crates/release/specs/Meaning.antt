@@ -11,19 +11,22 @@ use Rattle.formulas.specs.Step
 use Rattle.row.specs.Ends.{rowOf}
 use Rattle.headroom.specs.Headroom.{InRange, SafeWith}
 use Rattle.sheet.specs.Answer.{cases}
-use Rattle.tally.specs.Lines.{licensed}
-use Rattle.release.specs.Pair.{pairLength}
+use Rattle.tally.specs.Lines.{licensed, areaOf}
+use Rattle.release.specs.Entry.{entryLength}
 
--- number `place`, from 0, of the pair with index k
-abbrev pub numberAt : List ℤ → ℕ → ℕ → ℤ
-numberAt table k place = getD (partAt pairLength table k) place (pos 0)
+-- number `place`, from 0, of the entry with index k
+abbrev pub answerAt : List ℤ → ℕ → ℕ → ℤ
+answerAt table k place = getD (partAt entryLength table k) place (pos 0)
 
--- the station and the seasons of the pair with index k
-abbrev pub stationAt : List ℕ → ℕ → ℕ
-stationAt licence k = getD licence (2 * k) 0
+-- the station, the seasons and the conductor's cross-section of the entry with index k
+abbrev pub licensedStation : List ℕ → ℕ → ℕ
+licensedStation licence k = getD licence (3 * k) 0
 
-abbrev pub seasonsAt : List ℕ → ℕ → ℕ
-seasonsAt licence k = getD licence (2 * k + 1) 0
+abbrev pub licensedSeasons : List ℕ → ℕ → ℕ
+licensedSeasons licence k = getD licence (3 * k + 1) 0
+
+abbrev pub licensedArea : List ℕ → ℕ → ℕ
+licensedArea licence k = getD licence (3 * k + 2) 0
 
 -- the case of value line j
 abbrev pub lineAt : List ℕ → ℕ → Case
@@ -54,12 +57,12 @@ pub record OneYard (c d : Case) : Type 0 where
 
 -- "of a released station every season of the licence has a line, and in every line of it, for one and the same yard, the exact mesh and
 -- step voltages are at or below what is tolerable"; and no conductor is too small for the row's size
-pub record ReleasedStation (s : List ℕ) (station seasons : ℕ) : Type 0 where
+pub record ReleasedStation (s : List ℕ) (station seasons area : ℕ) : Type 0 where
   pub every-season : (i : ℕ) → 1 ≤ i → i ≤ 4 → licensed i seasons ≡ true → SeasonLine s station i
   pub one-yard : (i j : ℕ) → LineOf s station i → LineOf s station j → OneYard (lineAt s i) (lineAt s j)
   pub mesh : (j : ℕ) → LineOf s station j → AtOrBelow (Mesh.mesh (lineAt s j)) (Tolerable.tolerableTouch (lineAt s j))
   pub step : (j : ℕ) → LineOf s station j → AtOrBelow (Step.step (lineAt s j)) (Tolerable.tolerableStep (lineAt s j))
-  pub wire : (j : ℕ) → LineOf s station j → 64516 * natAbs (rowOf (lineAt s j) .size) ≤ 1000 * (lineAt s j .dia * lineAt s j .dia)
+  pub wire : (j : ℕ) → LineOf s station j → natAbs (rowOf (lineAt s j) .size) ≤ areaOf area (lineAt s j)
 
 -- put into every line of the station, a fault current leaves every line answered safe
 abbrev pub SafeThroughout : List ℕ → ℕ → ℕ → Type 0
@@ -75,8 +78,8 @@ pub record FaultReported (s : List ℕ) (station F : ℕ) : Type 0 where
 
 -- "Released exactly when the five counts are 0"
 pub record NothingFound (table : List ℤ) (k : ℕ) : Type 0 where
-  pub no-season : numberAt table k 2 ≡ pos 0
-  pub no-unsafe : numberAt table k 3 ≡ pos 0
-  pub no-undecided : numberAt table k 4 ≡ pos 0
-  pub no-other-yard : numberAt table k 5 ≡ pos 0
-  pub no-small-wire : numberAt table k 6 ≡ pos 0
+  pub no-season : answerAt table k 2 ≡ pos 0
+  pub no-unsafe : answerAt table k 3 ≡ pos 0
+  pub no-undecided : answerAt table k 4 ≡ pos 0
+  pub no-other-yard : answerAt table k 5 ≡ pos 0
+  pub no-small-wire : answerAt table k 6 ≡ pos 0

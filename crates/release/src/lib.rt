@@ -16,21 +16,21 @@ use judgement::read;
 use licence::Wrong;
 use licence::bad_count;
 use licence::first_wrong;
-use put::put_pairs;
+use put::put_entries;
 
-// How many numbers a pair of the licence has in the table.
-pub const PAIR_LENGTH: usize = 8;
+// How many numbers an entry of the licence has in the table.
+pub const ENTRY_LENGTH: usize = 8;
 
-// The refusals of a licence by their numbers: its count, a pair of it, a table without room for the pairs.
+// The refusals of a licence by their numbers: its count, an entry of it, a table without room for the entries.
 const WRONG_COUNT: u32 = 21;
 
-const WRONG_PAIR: u32 = 22;
+const WRONG_ENTRY: u32 = 22;
 
 const TABLE_SHORT: u32 = 23;
 
-// The count of pairs, or a refusal with number, line and column.
+// The count of stations in the licence, or a refusal with number, line and column.
 pub enum Released {
-    Pairs(usize),
+    Stations(usize),
     Refused(u32, usize, usize),
 }
 
@@ -46,14 +46,14 @@ fn release_lines<'a>(values: &'a [u32], n: usize, licence: &'a [u32], table: &mu
         return Released::Refused(WRONG_COUNT, 0, 0);
     }
     match first_wrong(licence) {
-        Wrong::At(place, column) => Released::Refused(WRONG_PAIR, place, column),
+        Wrong::At(place, column) => Released::Refused(WRONG_ENTRY, place, column),
         Wrong::Nothing => {
-            let pairs = licence.len() / 2;
-            if table.len() < PAIR_LENGTH * pairs {
+            let entries = licence.len() / 3;
+            if table.len() < ENTRY_LENGTH * entries {
                 return Released::Refused(TABLE_SHORT, 0, 0);
             }
-            put_pairs(values, n, licence, table);
-            Released::Pairs(pairs)
+            put_entries(values, n, licence, table);
+            Released::Stations(entries)
         }
     }
 }
@@ -74,7 +74,8 @@ fn release_by<'a>(
     }
 }
 
-// The answer to a sheet and a licence, a station and its seasons in turn, and eight numbers a pair in the table.
+// The answer to a sheet and a licence: a station, its seasons and its conductor's cross-section in turn, and eight numbers an entry in the
+// table.
 pub fn release<'a>(s: &'a [u8], licence: &'a [u32], table: &mut [i64]) -> Released
     ensures { λ r. ⌜ ReleaseAnswered (now (s .entry)) (now (licence .entry)) (now (table .entry)) (now (table .exit)) r ⌝ }
 {

@@ -1,4 +1,4 @@
-// The eight numbers of each pair into the table.
+// The eight numbers of each entry into the table.
 ghost use mathlib.Core.Path.{_≡_};
 ghost use Prim.Native.Nat.{_≤_, _<_, _+_, _*_, _/_};
 ghost use lib.ListN.{length};
@@ -6,12 +6,12 @@ ghost use Rattle.tables.specs.Parts.{Written};
 ghost use Rattle.case.specs.Columns.{nameCount};
 ghost use Rattle.judgement.specs.Limits.{mostLines};
 ghost use Rattle.table_rows.specs.Rows.{StoredBounds, storedCases};
-ghost use Rattle.release.specs.Licence.{pairsOf};
+ghost use Rattle.release.specs.Licence.{entriesOf};
 ghost use Rattle.whole.specs.Count.{one};
-ghost use Rattle.release.specs.Pair.{pairLength, releaseOf, stationNumbers, eight};
+ghost use Rattle.release.specs.Entry.{entryLength, releaseOf, stationNumbers, eight};
 ghost use Rattle.tally.specs.Tally.{Small};
 ghost use Rattle.release.specs.Answer.{Filled};
-use crate::PAIR_LENGTH;
+use crate::ENTRY_LENGTH;
 use tally::Tally;
 use tally::count_lines;
 use tally::first_line;
@@ -22,7 +22,7 @@ use tally::reported_fault;
 fn put_numbers(station: u32, without: u32, t: Tally, part: &mut [i64])
     requires { ⌜ without ≤ 4 ⌝ }
     requires { ⌜ Small t ⌝ }
-    requires { ⌜ length (now part) ≡ pairLength ⌝ }
+    requires { ⌜ length (now part) ≡ entryLength ⌝ }
     ensures { λ _. ⌜ now (part .exit) ≡ eight station without t ⌝ }
 {
     let first = station as i64;
@@ -43,38 +43,47 @@ fn put_numbers(station: u32, without: u32, t: Tally, part: &mut [i64])
     part[7] = fault;
 }
 
-// The pair with index i.
-fn put_pair(values: &[u32], n: usize, station: u32, seasons: u32, table: &mut [i64], i: usize)
+// The entry with index i.
+fn put_entry(
+    values: &[u32],
+    n: usize,
+    station: u32,
+    seasons: u32,
+    area: u32,
+    table: &mut [i64],
+    i: usize,
+)
     requires { ⌜ n ≤ mostLines ⌝ }
     requires { ⌜ StoredBounds (now values) n ⌝ }
     requires { ⌜ nameCount * n ≤ length (now values) ⌝ }
-    requires { ⌜ pairLength * i + pairLength ≤ length (now table) ⌝ }
-    ensures { λ _. ⌜ Written pairLength i (stationNumbers station seasons (storedCases (now (values .entry)) n)) (now (table .entry))
+    requires { ⌜ entryLength * i + entryLength ≤ length (now table) ⌝ }
+    ensures { λ _. ⌜ Written entryLength i (stationNumbers station seasons area (storedCases (now (values .entry)) n)) (now (table .entry))
         (now (table .exit)) ⌝ }
 {
     let yard = first_line(values, n, station);
-    let t = count_lines(values, n, station, yard);
+    let t = count_lines(values, n, station, yard, area);
     let without = missing_seasons(seasons, t);
-    let a = PAIR_LENGTH * i;
-    let b = a + PAIR_LENGTH;
+    let a = ENTRY_LENGTH * i;
+    let b = a + ENTRY_LENGTH;
     put_numbers(station, without, t, &mut table[a..b]);
 }
 
-// Every pair of the licence, one after the other.
-pub fn put_pairs<'a>(values: &'a [u32], n: usize, licence: &'a [u32], table: &mut [i64])
+// Every entry of the licence, one after the other.
+pub fn put_entries<'a>(values: &'a [u32], n: usize, licence: &'a [u32], table: &mut [i64])
     requires { ⌜ n ≤ mostLines ⌝ }
     requires { ⌜ StoredBounds (now values) n ⌝ }
     requires { ⌜ nameCount * n ≤ length (now values) ⌝ }
-    requires { ⌜ pairLength * (length (now licence) / 2) ≤ length (now table) ⌝ }
-    ensures { λ _. ⌜ Filled (releaseOf (pairsOf (now (licence .entry))) (storedCases (now (values .entry)) n)) (now (table .entry))
+    requires { ⌜ entryLength * (length (now licence) / 3) ≤ length (now table) ⌝ }
+    ensures { λ _. ⌜ Filled (releaseOf (entriesOf (now (licence .entry))) (storedCases (now (values .entry)) n)) (now (table .entry))
         (now (table .exit)) ⌝ }
 {
-    let pairs = licence.len() / 2;
+    let entries = licence.len() / 3;
     let mut i: usize = 0;
-    while i < pairs {
-        let station = licence[2 * i];
-        let seasons = licence[2 * i + 1];
-        put_pair(values, n, station, seasons, table, i);
+    while i < entries {
+        let station = licence[3 * i];
+        let seasons = licence[3 * i + 1];
+        let area = licence[3 * i + 2];
+        put_entry(values, n, station, seasons, area, table, i);
         i += 1;
     }
 }

@@ -5,7 +5,7 @@
 // rows                     every row, as numbers and as verdicts, in a table with room for all rows and in one with room for two
 // summary,ROWS,STATIONS    the stations and rows, in tables of these lengths
 // carry,LENGTH,LENGTH..    the sheet carried on and carried back, in a buffer of each length
-// release,LENGTH           the pairs of the licence in the next line, in a table of this length
+// release,LENGTH           the licence in the next line, in a table of this length
 //
 // tests/stored.py gathers the sheets; test_batch.py, test_summary.py, test_carry.py and test_release.py judge the answers.
 mod carried;

@@ -1,4 +1,4 @@
-// Which stations of a licence may be released, in a table of pairs.
+// Which stations of a licence may be released, in a table of eight numbers a station.
 use crate::length::length;
 use crate::listed::Listing;
 use crate::listed::lines;
@@ -13,16 +13,16 @@ use gate::numbers_kept;
 use gate::read;
 use gate::refused;
 use gate::unknown;
-use release::PAIR_LENGTH;
+use release::ENTRY_LENGTH;
 use release::Released;
 use release::release;
 ghost use Prim.Native.Nat.{_≤_};
 
-// More than the most pairs need.
+// More than the most stations need.
 const TABLE: usize = 2080;
 
 // More numbers than a licence may have.
-const NUMBERS: usize = 520;
+const NUMBERS: usize = 780;
 
 // The rows of the sheet, by its own question.
 fn sheet_rows(s: &[u8]) {
@@ -33,11 +33,11 @@ fn sheet_rows(s: &[u8]) {
 fn answer<'a>(s: &'a [u8], licence: &'a [u32], table: &mut [i64]) {
     let a = release(s, licence, table);
     match a {
-        Released::Pairs(count) => {
+        Released::Stations(count) => {
             bytes(b"released,");
             number(count as u64);
             bytes(b"\n");
-            lines(Listing::Numbers, table, PAIR_LENGTH, count);
+            lines(Listing::Numbers, table, ENTRY_LENGTH, count);
             sheet_rows(s);
         }
         Released::Refused(why, line, column) => refused(why, line, column),

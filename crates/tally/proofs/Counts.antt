@@ -11,7 +11,7 @@ use Rattle.formulas.specs.Size as Size
 use Rattle.current.specs.Ends.{upperFactor}
 use Rattle.row.specs.Ends.{rowOf}
 use Rattle.tally.specs.declared.Tally.{Tally}
-use Rattle.tally.specs.Lines.{licensed, countOf, hasLine, answeredUnsafe, answeredUndecided, otherYard, tooSmall}
+use Rattle.tally.specs.Lines.{licensed, countOf, hasLine, answeredUnsafe, answeredUndecided, otherYard, areaOf, tooSmall}
 use Rattle.tally.specs.Tally.{EveryBounds, tallyOf, addLine, Small, lacks, missingBy}
 use Rattle.tally.proofs.Faults.{common-none, common-step}
 
@@ -26,7 +26,7 @@ count-most test (c ∷ cs) = omega (arith, one-most (test c), count-most test cs
 
 -- ---- the counts of some lines
 
-pub tally-none : (yard : Case) → tallyOf yard []
+pub tally-none : (yard : Case) (area : ℕ) → tallyOf yard area []
     ≡ record {
       lines = 0;
       first = false;
@@ -40,24 +40,24 @@ pub tally-none : (yard : Case) → tallyOf yard []
       fault = 80000;
     }
 unfolding tallyOf countOf hasLine
-tally-none yard = rw common-none
+tally-none yard area = rw common-none
 
-pub tally-step : (yard : Case) {c : Case} (cs : List Case) → Bounds c → EveryBounds cs
-    → tallyOf yard (c ∷ cs) ≡ addLine yard c (tallyOf yard cs)
+pub tally-step : (yard : Case) (area : ℕ) {c : Case} (cs : List Case) → Bounds c → EveryBounds cs
+    → tallyOf yard area (c ∷ cs) ≡ addLine yard area c (tallyOf yard area cs)
 unfolding tallyOf addLine countOf hasLine
-tally-step yard {c} cs b d =
+tally-step yard area {c} cs b d =
     let l : suc (length cs) ≡ 1 + length cs = omega arith in
     rw (common-step cs b d, l)
 
-pub tally-small : (yard : Case) (cs : List Case) → length cs ≤ mostLines → Small (tallyOf yard cs)
+pub tally-small : (yard : Case) (area : ℕ) (cs : List Case) → length cs ≤ mostLines → Small (tallyOf yard area cs)
 unfolding tallyOf
-tally-small yard cs h =
+tally-small yard area cs h =
     record {
       lines = omega arith;
       not-safe = omega (arith, count-most answeredUnsafe cs);
       undecided = omega (arith, count-most answeredUndecided cs);
       other = omega (arith, count-most (otherYard yard) cs);
-      small = omega (arith, count-most tooSmall cs);
+      small = omega (arith, count-most (tooSmall area) cs);
     }
 
 -- ---- the seasons without a line
@@ -78,14 +78,7 @@ missing-most seasons t =
 pub square-most : {c : Case} → Bounds c → c .dia * c .dia ≤ 90000
 square-most {c} b = omega (arith, mul-le-mul (b .dia .high) (b .dia .high))
 
-pub small-test : (a k : ℕ) → ltb (a / 64516) k ≡ ltb a (64516 * k)
-small-test a k = go (ltb (a / 64516) k) refl
-  where
-    go : (t : Bool) → ltb (a / 64516) k ≡ t → t ≡ ltb a (64516 * k)
-    go true e = sym (lt-ltb a (64516 * k) (omega (arith, ltb-true (a / 64516) k e)))
-    go false e = sym (le-ltb a (64516 * k) (omega (arith, ltb-false (a / 64516) k e)))
-
--- the quotient is below the row's size
-pub small-is : (c : Case) (size : ℤ) → size ≡ rowOf c .size → ltZ (pos (1000 * (c .dia * c .dia) / 64516)) size ≡ tooSmall c
+-- the cross-section is below the row's size
+pub small-is : (c : Case) (area : ℕ) (size : ℤ) → size ≡ rowOf c .size → ltZ (pos (areaOf area c)) size ≡ tooSmall area c
 unfolding tooSmall rowOf
-small-is c size e = rw e (small-test (1000 * (c .dia * c .dia)) (Size.size c (upperFactor c)))
+small-is c area size e = rw e

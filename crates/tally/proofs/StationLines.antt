@@ -90,14 +90,14 @@ first-end {values} {n} {station} {i} a h = let e : i ≡ 0 = omega arith in rw e
 
 -- ---- what is counted of them
 
-pub record Counting (values : List ℕ) (n station : ℕ) (yard : Case) (i : ℕ) (t : Tally) : Type 0 where
+pub record Counting (values : List ℕ) (n station : ℕ) (yard : Case) (area i : ℕ) (t : Tally) : Type 0 where
   pub within : i ≤ n
   pub few : i + length (linesFrom values n station i) ≤ n
   pub bounded : EveryBounds (linesFrom values n station i)
-  pub is : t ≡ tallyOf yard (linesFrom values n station i)
+  pub is : t ≡ tallyOf yard area (linesFrom values n station i)
 
-pub counting-start : (values : List ℕ) (n station : ℕ) (yard : Case)
-    → Counting values n station yard n
+pub counting-start : (values : List ℕ) (n station : ℕ) (yard : Case) (area : ℕ)
+    → Counting values n station yard area n
     (record {
       lines = 0;
       first = false;
@@ -111,13 +111,13 @@ pub counting-start : (values : List ℕ) (n station : ℕ) (yard : Case)
       fault = 80000;
     })
 unfolding EveryBounds
-counting-start values n station yard =
+counting-start values n station yard area =
     let e = lines-end values n station in
-    record { within = omega arith; few = rw e (omega arith); bounded = rw e tt; is = rw e (sym (tally-none yard)) }
+    record { within = omega arith; few = rw e (omega arith); bounded = rw e tt; is = rw e (sym (tally-none yard area)) }
 
-module _ {values : List ℕ} {n station : ℕ} {yard : Case} {i : ℕ} {t : Tally} (a : Counting values n station yard i t) where
+module _ {values : List ℕ} {n station : ℕ} {yard : Case} {area i : ℕ} {t : Tally} (a : Counting values n station yard area i t) where
   pub counting-small : n ≤ mostLines → Small t
-  counting-small h = rw (a .is) (tally-small yard (linesFrom values n station i) (omega (arith, a .few)))
+  counting-small h = rw (a .is) (tally-small yard area (linesFrom values n station i) (omega (arith, a .few)))
 
   module _ (h : 0 < i) where
     next : suc (i - 1) ≡ i
@@ -127,7 +127,7 @@ module _ {values : List ℕ} {n station : ℕ} {yard : Case} {i : ℕ} {t : Tall
     inside = omega (arith, a .within)
 
     pub counting-own : {c : Case} → Bounds c → getD values (nameCount * (i - 1)) 0 ≡ station → c ≡ caseOf (partAt nameCount values (i - 1))
-        → Counting values n station yard (i - 1) (addLine yard c t)
+        → Counting values n station yard area (i - 1) (addLine yard area c t)
     unfolding EveryBounds
     counting-own {c} b e q =
         let l : linesFrom values n station (i - 1) ≡ c ∷ linesFrom values n station i =
@@ -136,15 +136,15 @@ module _ {values : List ℕ} {n station : ℕ} {yard : Case} {i : ℕ} {t : Tall
           within = omega (arith, a .within);
           few = rw l (omega (arith, a .few));
           bounded = rw l (b, a .bounded);
-          is = rw (l, tally-step yard (linesFrom values n station i) b (a .bounded), a .is);
+          is = rw (l, tally-step yard area (linesFrom values n station i) b (a .bounded), a .is);
         }
 
-    pub counting-other : (getD values (nameCount * (i - 1)) 0 ≡ station → ⊥) → Counting values n station yard (i - 1) t
+    pub counting-other : (getD values (nameCount * (i - 1)) 0 ≡ station → ⊥) → Counting values n station yard area (i - 1) t
     counting-other e =
         let l : linesFrom values n station (i - 1) ≡ linesFrom values n station i =
         lines-other values n station (i - 1) inside e ∙ rw next in
         record { within = omega (arith, a .within); few = rw l (omega (arith, a .few)); bounded = rw l (a .bounded); is = rw l (a .is) }
 
-pub counting-end : {values : List ℕ} {n station : ℕ} {yard : Case} {i : ℕ} {t : Tally} → Counting values n station yard i t → i ≤ 0
-    → t ≡ tallyOf yard (linesOf station (storedCases values n))
-counting-end {values} {n} {station} {yard} {i} a h = let e : i ≡ 0 = omega arith in rw e at (a .is)
+pub counting-end : {values : List ℕ} {n station : ℕ} {yard : Case} {area i : ℕ} {t : Tally} → Counting values n station yard area i t
+    → i ≤ 0 → t ≡ tallyOf yard area (linesOf station (storedCases values n))
+counting-end {values} {n} {station} {yard} {area} {i} a h = let e : i ≡ 0 = omega arith in rw e at (a .is)

@@ -53,9 +53,14 @@ sameYard c d =
 unfoldable pub otherYard : Case → Case → Bool
 otherYard yard c = not (sameYard yard c)
 
--- "a conductor too small for the row's size, solid and round: 1000·dia² < 64,516·kcmil (254² = 64,516; dia in tenths of a mm)"
-unfoldable pub tooSmall : Case → Bool
-tooSmall c = ltb (1000 * (c .dia * c .dia)) (64516 * natAbs (rowOf c .size))
+-- the conductor's cross-section in whole kcmil, rounded down: "the conductor's own", or with 0 that of a solid round wire of the line's
+-- diameter, 1000·dia²/64,516 (254² = 64,516; dia in tenths of a mm)
+unfoldable pub areaOf : ℕ → Case → ℕ
+areaOf own c = cond (eqb own 0) (1000 * (c .dia * c .dia) / 64516) own
+
+-- "a conductor too small for the row's size"
+unfoldable pub tooSmall : ℕ → Case → Bool
+tooSmall own c = ltb (areaOf own c) (natAbs (rowOf c .size))
 
 -- "its first line"
 abbrev pub firstLine : List Case → Case

@@ -13,9 +13,9 @@ unfoldable pub EveryBounds : List Case → Type 0
 EveryBounds [] = Unit {0}
 EveryBounds (c ∷ cs) = Bounds c × EveryBounds cs
 
--- of some lines, whose yard is compared with that of a case
-unfoldable pub tallyOf : Case → List Case → Tally
-tallyOf yard lines =
+-- of some lines, whose yard is compared with that of a case, and whose conductor has this cross-section of its own, or 0
+unfoldable pub tallyOf : Case → ℕ → List Case → Tally
+tallyOf yard area lines =
     record {
       lines = length lines;
       first = hasLine 1 lines;
@@ -25,13 +25,13 @@ tallyOf yard lines =
       «not_safe» = countOf answeredUnsafe lines;
       undecided = countOf answeredUndecided lines;
       other = countOf (otherYard yard) lines;
-      small = countOf tooSmall lines;
+      small = countOf (tooSmall area) lines;
       fault = commonFault lines;
     }
 
 -- one line more
-unfoldable pub addLine : Case → Case → Tally → Tally
-addLine yard c t =
+unfoldable pub addLine : Case → ℕ → Case → Tally → Tally
+addLine yard area c t =
     record {
       lines = 1 + t .lines;
       first = eqb (c .season) 1 || t .first;
@@ -41,7 +41,7 @@ addLine yard c t =
       «not_safe» = one (answeredUnsafe c) + t .«not_safe»;
       undecided = one (answeredUndecided c) + t .undecided;
       other = one (otherYard yard c) + t .other;
-      small = one (tooSmall c) + t .small;
+      small = one (tooSmall area c) + t .small;
       fault = min (commonFault (c ∷ [])) (t .fault);
     }
 

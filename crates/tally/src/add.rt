@@ -8,7 +8,7 @@ ghost use Rattle.case.specs.Bounds.{Bounds};
 ghost use Rattle.decision.specs.Verdict.{verdictNumber};
 ghost use Rattle.row.specs.Ends.{rowOf};
 ghost use Rattle.whole.specs.Count.{one};
-ghost use Rattle.tally.specs.Lines.{sameYard, otherYard, tooSmall};
+ghost use Rattle.tally.specs.Lines.{sameYard, otherYard, areaOf, tooSmall};
 ghost use Rattle.tally.specs.Fault.{commonFault};
 ghost use Rattle.tally.specs.Tally.{addLine, Small};
 use crate::Tally;
@@ -71,14 +71,24 @@ fn count_other(yard: Case, c: Case) -> u32
     1
 }
 
-// 1 where the conductor is too small for the size in kcmil: the quotient rounded down is below the size where 1000·dia² is below 64,516
-// times it.
-fn count_small(c: Case, size: i64) -> u32
+// The conductor's cross-section in whole kcmil, rounded down: its own, or with 0 that of a solid round wire of the line's diameter.
+fn area_of(c: Case, area: u32) -> u32
+    requires { ⌜ Bounds c ⌝ }
+    ensures { λ r. ⌜ r ≡ areaOf area c ⌝ }
+{
+    if area != 0 {
+        return area;
+    }
+    THOUSAND * (c.dia * c.dia) / KCMIL
+}
+
+// 1 where the conductor is too small for the size in kcmil.
+fn count_small(c: Case, area: u32, size: i64) -> u32
     requires { ⌜ Bounds c ⌝ }
     requires { ⌜ size ≡ rowOf c .size ⌝ }
-    ensures { λ r. ⌜ r ≡ one (tooSmall c) ⌝ }
+    ensures { λ r. ⌜ r ≡ one (tooSmall area c) ⌝ }
 {
-    let kcmil = THOUSAND * (c.dia * c.dia) / KCMIL;
+    let kcmil = area_of(c, area);
     if below(kcmil as i64, size) {
         return 1;
     }
@@ -109,18 +119,18 @@ fn has(season: u32, which: u32, before: bool) -> bool
     before
 }
 
-// A line whose yard is compared with that of the first.
-pub fn add(yard: Case, c: Case, t: Tally) -> Tally
+// A line whose yard is compared with that of the first, and whose conductor has this cross-section of its own in kcmil, or 0.
+pub fn add(yard: Case, area: u32, c: Case, t: Tally) -> Tally
     requires { ⌜ Bounds c ⌝ }
     requires { ⌜ Small t ⌝ }
-    ensures { λ r. ⌜ r ≡ addLine yard c t ⌝ }
+    ensures { λ r. ⌜ r ≡ addLine yard area c t ⌝ }
 {
     let row = work_row(c);
     let verdict = row.verdict;
     let not_safe = count_unsafe(verdict) + t.not_safe;
     let undecided = count_undecided(verdict) + t.undecided;
     let other = count_other(yard, c) + t.other;
-    let small = count_small(c, row.size) + t.small;
+    let small = count_small(c, area, row.size) + t.small;
     Tally {
         lines: 1 + t.lines,
         first: has(c.season, 1, t.first),

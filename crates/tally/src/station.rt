@@ -34,12 +34,13 @@ pub fn first_line(values: &[u32], n: usize, station: u32) -> Case
     first
 }
 
-// What is counted of the lines of a station, whose yards are compared with that of a case.
-pub fn count_lines(values: &[u32], n: usize, station: u32, yard: Case) -> Tally
+// What is counted of the lines of a station, whose yards are compared with that of a case, and whose conductor has this cross-section of
+// its own in kcmil, or 0.
+pub fn count_lines(values: &[u32], n: usize, station: u32, yard: Case, area: u32) -> Tally
     requires { ⌜ n ≤ mostLines ⌝ }
     requires { ⌜ StoredBounds (now values) n ⌝ }
     requires { ⌜ nameCount * n ≤ length (now values) ⌝ }
-    ensures { λ r. ⌜ r ≡ tallyOf yard (linesOf station (storedCases (now (values .entry)) n)) ⌝ }
+    ensures { λ r. ⌜ r ≡ tallyOf yard area (linesOf station (storedCases (now (values .entry)) n)) ⌝ }
 {
     let mut t = Tally {
         lines: 0,
@@ -57,7 +58,7 @@ pub fn count_lines(values: &[u32], n: usize, station: u32, yard: Case) -> Tally
     while 0 < i {
         i -= 1;
         if values[NAMES * i] == station {
-            t = add(yard, line_case(values, i), t);
+            t = add(yard, area, line_case(values, i), t);
         }
     }
     t

@@ -1,17 +1,17 @@
--- `first_wrong` goes through the pairs: the search of proofs/Pairs.antt.
+-- `first_wrong` goes through the entries: the search of proofs/Entries.antt.
 use Prim.Native.Nat.{_-_}
 use mathlib.Core.Path.{sym, _∙_}
 use native.Mathlib.Omega.{arith}
 use borrow.Author.Needs.{needs}
-use Rattle.release.proofs.Pairs.{Searching, searching-start, searching-found, searching-step, searching-end}
+use Rattle.release.proofs.Entries.{Searching, searching-start, searching-found, searching-step, searching-end}
 use Rattle.release.proofs.licence.first_wrong.Statement.{statement}
 use Rattle.release.proofs.licence.first_wrong.Tie as tie
 
 abbrev Inv-loop : tie.InvT-loop
-Inv-loop licence pairs k₀ k = Searching licence k
+Inv-loop licence entries k₀ k = Searching licence k
 
 abbrev μ-loop : tie.MeasureT-loop
-μ-loop licence pairs k₀ k = pairs - k
+μ-loop licence entries k₀ k = entries - k
 
 loop-holds : tie.Need-loop-holds Inv-loop μ-loop
 loop-holds c = searching-start _

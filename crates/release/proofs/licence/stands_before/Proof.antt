@@ -4,7 +4,7 @@ use mathlib.Core.Path.{_≡_}
 use native.Mathlib.Omega.{arith}
 use borrow.Author.Needs.{needs}
 use Rattle.release.specs.{Licence.{among}, Earlier.{earlier}}
-use Rattle.release.proofs.{Pairs.{among-none, among-step}, licence.stands_before.Statement.{statement}}
+use Rattle.release.proofs.{Entries.{among-none, among-step}, licence.stands_before.Statement.{statement}}
 use Rattle.release.proofs.licence.stands_before.Tie as tie
 
 abbrev Inv-loop : tie.InvT-loop

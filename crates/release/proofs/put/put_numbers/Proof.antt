@@ -4,7 +4,7 @@ use native.Mathlib.Omega.{arith}
 use lib.ListN.{length-set}
 use borrow.Author.Needs.{needs}
 use mir.{Syntax.{w64}, Facts.{toZ-pos}}
-use Rattle.release.specs.Pair.{eight}
+use Rattle.release.specs.Entry.{eight}
 use Rattle.release.proofs.{Tables.{eight-set}, put.put_numbers.Statement.{statement}}
 use Rattle.release.proofs.put.put_numbers.Tie as tie
 

@@ -44,8 +44,8 @@ add-small c =
     let u = c .before in
     record { fits = omega (arith, start (worked (u .before)) .pre .1 .small, counts-most _ (u .count-small .ensures)) }
 
-add-t10 : tie.Need-add-t10
-add-t10 c = record { fits = omega (arith, start (worked (c .before .before .before)) .pre .1 .lines) }
+add-t11 : tie.Need-add-t11
+add-t11 c = record { fits = omega (arith, start (worked (c .before .before .before)) .pre .1 .lines) }
 
 line-fault-requires : tie.Need-line-fault-requires
 line-fault-requires c κs = start (worked (c .before .before .before .before .before .before .before)) .pre .0
@@ -66,5 +66,5 @@ returns c =
 pub add-spec : {M : Type 1} → statement M
 add-spec =
     tie.close (tie.spec (λ c κs. search needs) (λ c κs. search needs) add-not-safe (λ c κs. search needs) add-undecided
-    (λ c κs. search needs) add-other count-small-requires add-small add-t10 (λ c κs. search needs) (λ c κs. search needs)
+    (λ c κs. search needs) add-other count-small-requires add-small add-t11 (λ c κs. search needs) (λ c κs. search needs)
     (λ c κs. search needs) (λ c κs. search needs) line-fault-requires (λ c κs. search needs) returns)

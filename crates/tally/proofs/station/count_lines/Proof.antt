@@ -9,10 +9,10 @@ use Rattle.tally.proofs.station.count_lines.Statement.{statement}
 use Rattle.tally.proofs.station.count_lines.Tie as tie
 
 abbrev Inv-loop : tie.InvT-loop
-Inv-loop values n station yard t₀ i₀ t i = Counting values n station yard i t
+Inv-loop values n station yard area t₀ i₀ t i = Counting values n station yard area i t
 
 abbrev μ-loop : tie.MeasureT-loop
-μ-loop values n station yard t₀ i₀ t i = i
+μ-loop values n station yard area t₀ i₀ t i = i
 
 abbrev start : tie.In-loop Inv-loop μ-loop → tie.Start Inv-loop μ-loop
 start c = c .before .before .before
@@ -29,7 +29,7 @@ bounds c =
     (start i .pre .1 .0 (i .before .loop .i - 1) (omega (arith, i .before .loop .inv .within, i .loop-test .taken)))
 
 loop-holds : tie.Need-loop-holds Inv-loop μ-loop
-loop-holds c = counting-start _ _ _ _
+loop-holds c = counting-start _ _ _ _ _
 
 mul-if1 : tie.Need-mul-if1 Inv-loop μ-loop
 mul-if1 c = omega (arith, within c)

@@ -1,4 +1,4 @@
--- What an answer that is a count of pairs says: the sheet was read, its cases are within their bounds, and the count is that of the pairs.
+-- What an answer that is a count of entries says: the sheet was read, its cases are within their bounds, and the count is that of the entries.
 use Prim.Native.Nat.{ℕ, _*_, _/_, _<_}
 use mathlib.Core.{Path.{_≡_, refl, sym, _∙_}, Bool.{Bool, true, false, cond}, List.{List, []}}
 use lib.{Dec.{ltb}, ListN.{length, length-map}}
@@ -9,45 +9,45 @@ use Rattle.line.specs.Line.{lineCase}
 use Rattle.judgement.{specs.{declared.Judgement.{Judgement}, Sheet.{names, valueLines, judgement}}, proofs.Accepted.{accepted}}
 use Rattle.judgement.specs.declared.Judgement.the-variants as judged
 use Rattle.sheet.{specs.Answer.{cases}, proofs.{Accepted.{sound-bounds}, StoredCases.{case-at}}}
-use Rattle.release.specs.declared.{licence.Wrong.{Wrong, the-variants.{At, Nothing}}, Released.the-variants.{Pairs, Refused}}
-use Rattle.release.specs.{Licence.{pairsOf, badCount, firstWrong}, Pair.{pairLength}}
-use Rattle.release.specs.{Answer.{roomAnswer, afterPairs, licenceAnswer, afterSheet, releaseAnswer}, Meaning.{lineAt}}
+use Rattle.release.specs.declared.{licence.Wrong.{Wrong, the-variants.{At, Nothing}}, Released.the-variants.{Stations, Refused}}
+use Rattle.release.specs.{Licence.{entriesOf, badCount, firstWrong}, Entry.{entryLength}}
+use Rattle.release.specs.{Answer.{roomAnswer, afterEntries, licenceAnswer, afterSheet, releaseAnswer}, Meaning.{lineAt}}
 use Rattle.tally.{specs.Tally.{EveryBounds}, proofs.Members.{every-bounds}}
-use Rattle.release.proofs.Pairs.{pair-count}
+use Rattle.release.proofs.Entries.{entry-count}
 
--- ---- an answer that is a count of pairs
+-- ---- an answer that is a count of entries
 
-never : {A : Type 0} {n k l c : ℕ} → Refused k l c ≡ Pairs n → A
+never : {A : Type 0} {n k l c : ℕ} → Refused k l c ≡ Stations n → A
 never e = clash cc
 
-room-count : (room n m : ℕ) → roomAnswer room m ≡ Pairs n → m ≡ n
+room-count : (room n m : ℕ) → roomAnswer room m ≡ Stations n → m ≡ n
 unfolding roomAnswer
-room-count room n m e = go (ltb room (pairLength * m)) e
+room-count room n m e = go (ltb room (entryLength * m)) e
   where
-    go : (t : Bool) → cond t (Refused 23 0 0) (Pairs m) ≡ Pairs n → m ≡ n
+    go : (t : Bool) → cond t (Refused 23 0 0) (Stations m) ≡ Stations n → m ≡ n
     go true h = never h
     go false h = cc
 
-licence-count : (licence : List ℕ) (room n : ℕ) → licenceAnswer licence room ≡ Pairs n → length licence / 2 ≡ n
-unfolding licenceAnswer afterPairs
-licence-count licence room n e = go (badCount (length licence)) (firstWrong [] 1 (pairsOf licence)) e
+licence-count : (licence : List ℕ) (room n : ℕ) → licenceAnswer licence room ≡ Stations n → length licence / 3 ≡ n
+unfolding licenceAnswer afterEntries
+licence-count licence room n e = go (badCount (length licence)) (firstWrong [] 1 (entriesOf licence)) e
   where
-    go : (t : Bool) (w : Wrong) → cond t (Refused 21 0 0) (afterPairs (roomAnswer room (length (pairsOf licence))) w) ≡ Pairs n
-        → length licence / 2 ≡ n
+    go : (t : Bool) (w : Wrong) → cond t (Refused 21 0 0) (afterEntries (roomAnswer room (length (entriesOf licence))) w) ≡ Stations n
+        → length licence / 3 ≡ n
     go true w h = never h
     go false (At place column) h = never h
-    go false Nothing h = sym (pair-count licence) ∙ room-count room n (length (pairsOf licence)) h
+    go false Nothing h = sym (entry-count licence) ∙ room-count room n (length (entriesOf licence)) h
 
 pub record Counted (s licence : List ℕ) (n : ℕ) : Type 0 where
   pub lines : ℕ
   pub read : judgement columns s ≡ judged.Lines lines
-  pub count : length licence / 2 ≡ n
+  pub count : length licence / 3 ≡ n
 
-pub counted : (s licence : List ℕ) (room n : ℕ) → releaseAnswer s licence room ≡ Pairs n → Counted s licence n
+pub counted : (s licence : List ℕ) (room n : ℕ) → releaseAnswer s licence room ≡ Stations n → Counted s licence n
 unfolding releaseAnswer afterSheet
 counted s licence room n e = go (judgement columns s) refl e
   where
-    go : (j : Judgement) → judgement columns s ≡ j → afterSheet (licenceAnswer licence room) j ≡ Pairs n → Counted s licence n
+    go : (j : Judgement) → judgement columns s ≡ j → afterSheet (licenceAnswer licence room) j ≡ Stations n → Counted s licence n
     go (judged.Refused k l c) q h = never h
     go (judged.Lines m) q h = record { lines = m; read = q; count = licence-count licence room n h }
 

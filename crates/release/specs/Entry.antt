@@ -1,40 +1,40 @@
--- The eight numbers of a pair of the licence.
+-- The eight numbers of an entry of the licence.
 use Prim.Native.Nat.{ℕ}
 use mathlib.Core.{Bool.{cond}, List.{List, [], _∷_, map}}
 use lib.{Dec.{eqb}, IntN.{ℤ, pos}}
 use Rattle.case.specs.declared.Case.{Case}
-use Rattle.release.specs.Licence.{Pair}
+use Rattle.release.specs.Licence.{Entry}
 use Rattle.tally.specs.declared.Tally.{Tally}
 use Rattle.tally.specs.Lines.{linesOf, countOf, missing, answeredUnsafe, answeredUndecided, otherYard, tooSmall, firstLine}
 use Rattle.tally.specs.{Fault.{stationFault}, Tally.{released}}
 
--- "eight numbers a pair"
-abbrev pub pairLength : ℕ
-pairLength = 8
+-- "eight numbers" an entry
+abbrev pub entryLength : ℕ
+entryLength = 8
 
--- of a station with its seasons and its lines: "station; 1 released or 2 held; how many seasons of the licence have no line; of all lines
+-- of a station with its seasons, its conductor's own cross-section or 0, and its lines: "station; 1 released or 2 held; how many seasons of the licence have no line; of all lines
 -- of the station, licensed or not, how many are answered unsafe; how many undecided; how many describe another yard than its first line;
 -- how many have a conductor too small for the row's size; and the greatest fault current"
-unfoldable pub numbersOf : ℕ → ℕ → List Case → List ℤ
-numbersOf station seasons lines =
+unfoldable pub numbersOf : ℕ → ℕ → ℕ → List Case → List ℤ
+numbersOf station seasons area lines =
     pos station
     ∷ pos (released (missing seasons lines) (countOf answeredUnsafe lines) (countOf answeredUndecided lines)
-    (countOf (otherYard (firstLine lines)) lines) (countOf tooSmall lines))
+    (countOf (otherYard (firstLine lines)) lines) (countOf (tooSmall area) lines))
     ∷ pos (missing seasons lines)
     ∷ pos (countOf answeredUnsafe lines)
     ∷ pos (countOf answeredUndecided lines)
     ∷ pos (countOf (otherYard (firstLine lines)) lines)
-    ∷ pos (countOf tooSmall lines)
+    ∷ pos (countOf (tooSmall area) lines)
     ∷ pos (stationFault lines)
     ∷ []
 
--- of a pair with this station and these seasons, and the cases of a sheet
-unfoldable pub stationNumbers : ℕ → ℕ → List Case → List ℤ
-stationNumbers station seasons cs = numbersOf station seasons (linesOf station cs)
+-- of an entry with this station, these seasons and this cross-section, and the cases of a sheet
+unfoldable pub stationNumbers : ℕ → ℕ → ℕ → List Case → List ℤ
+stationNumbers station seasons area cs = numbersOf station seasons area (linesOf station cs)
 
--- "For each pair in the licence's order eight numbers", of the cases of a sheet
-unfoldable pub releaseOf : List Pair → List Case → List (List ℤ)
-releaseOf ps cs = map (λ p. stationNumbers (p .station) (p .seasons) cs) ps
+-- for each entry in the licence's order eight numbers, of the cases of a sheet
+unfoldable pub releaseOf : List Entry → List Case → List (List ℤ)
+releaseOf ps cs = map (λ p. stationNumbers (p .station) (p .seasons) (p .area) cs) ps
 
 -- the eight numbers of a station by what is counted of its lines
 unfoldable pub eight : ℕ → ℕ → Tally → List ℤ
