@@ -10,7 +10,7 @@ enum { STACK = 1 << 20, FILL = 0xA5, MOST_STACK = 40000, MOST_OTHER_STACK = 1000
 struct call {
     struct trial sheet;
     uint8_t buffer[MOST_BUFFER];
-    int64_t numbers[HOCSIMBUR_LINES * HOCSIMBUR_WORKING_NUMBERS], beside[HOCSIMBUR_LINES * HOCSIMBUR_PAIR_NUMBERS];
+    int64_t numbers[HOCSIMBUR_LINES * HOCSIMBUR_WORKING_NUMBERS], beside[HOCSIMBUR_LINES * HOCSIMBUR_RELEASE_NUMBERS];
     int64_t (*entry)(struct call *, const uint8_t *, size_t *);
     int64_t answer;
     uintptr_t top;
@@ -26,13 +26,14 @@ static int64_t ask_summary(struct call *call, const uint8_t *text, size_t *place
 }
 
 static int64_t ask_release(struct call *call, const uint8_t *text, size_t *place) {
-    static uint32_t licence[2 * HOCSIMBUR_LINES];
+    static uint32_t licence[HOCSIMBUR_LICENCE_NUMBERS * HOCSIMBUR_LINES];
     for (uint32_t i = 0; i < HOCSIMBUR_LINES; i++) {
-        licence[2 * i] = 1 + i;
-        licence[2 * i + 1] = 15;
+        licence[3 * i] = 1 + i;
+        licence[3 * i + 1] = 15;
+        licence[3 * i + 2] = i;
     }
     size_t most = sizeof call->beside / sizeof *call->beside;
-    return hocsimbur_release(text, call->sheet.bytes, licence, 2 * HOCSIMBUR_LINES, call->beside, most, place, 2);
+    return hocsimbur_release(text, call->sheet.bytes, licence, sizeof licence / sizeof *licence, call->beside, most, place, 2);
 }
 
 static int64_t ask_margins(struct call *call, const uint8_t *text, size_t *place) {

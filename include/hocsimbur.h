@@ -55,13 +55,14 @@
 extern "C" {
 #endif
 
-#define HOCSIMBUR_VERSION 10100      /* 10000, 100 and 1 times the three numbers of the version: 1.1.0 */
+#define HOCSIMBUR_VERSION 20000      /* 10000, 100 and 1 times the three numbers of the version: 2.0.0 */
 #define HOCSIMBUR_LINES 256          /* most value lines of a sheet */
 #define HOCSIMBUR_SHEET_BYTES 65536  /* most bytes of a sheet */
 #define HOCSIMBUR_NUMBERS 20         /* numbers of a row */
 #define HOCSIMBUR_ROW_BYTES 160      /* bytes of a row: 20 numbers of eight */
 #define HOCSIMBUR_STATION_NUMBERS 6  /* numbers of a station in the summary */
-#define HOCSIMBUR_PAIR_NUMBERS 8     /* numbers of a pair of a licence */
+#define HOCSIMBUR_LICENCE_NUMBERS 3  /* numbers of a station in a licence */
+#define HOCSIMBUR_RELEASE_NUMBERS 8  /* numbers of a station in the answer to a release */
 #define HOCSIMBUR_SOIL_NUMBERS 7     /* numbers of a soil report */
 #define HOCSIMBUR_SPLIT_NUMBERS 3    /* numbers of a staged test's answer */
 #define HOCSIMBUR_FEWEST_NUMBERS 3   /* numbers of a search for the fewest lines */
@@ -173,9 +174,9 @@ enum hocsimbur_refusal {
     HOCSIMBUR_REFUSED_PART = 18,         /* split: a part not in -1000000..1000000 mA */
     HOCSIMBUR_REFUSED_NO_CURRENT = 19,   /* split: both injected parts are 0 */
     HOCSIMBUR_REFUSED_SUMMARY = 20,      /* summary: array of stations shorter than six numbers a station */
-    HOCSIMBUR_REFUSED_LICENCE = 21,      /* release: count of numbers 0, odd or above 512 */
-    HOCSIMBUR_REFUSED_PAIR = 22,         /* release: a wrong pair; its place as line, column 1 for its station, 2 for its seasons */
-    HOCSIMBUR_REFUSED_RELEASE = 23       /* release: array shorter than eight numbers a pair */
+    HOCSIMBUR_REFUSED_LICENCE = 21,      /* release: count of numbers 0, no multiple of 3 or above 768 */
+    HOCSIMBUR_REFUSED_STATION = 22,      /* release: its place in the licence as line; column 1 a wrong station, 2 seasons, 3 area */
+    HOCSIMBUR_REFUSED_RELEASE = 23       /* release: array shorter than eight numbers a station */
 };
 
 /* The version of the library, as HOCSIMBUR_VERSION is that of the header. */
@@ -195,10 +196,11 @@ int64_t hocsimbur_rows_at(const uint8_t *sheet, size_t sheet_bytes, uint8_t *buf
 int64_t hocsimbur_summary(const uint8_t *sheet, size_t sheet_bytes, int64_t *rows, size_t rows_numbers, int64_t *stations,
                           size_t stations_numbers, size_t *place, size_t place_numbers);
 
-/* Which stations of a licence may be released on a sheet. The licence is pairs of a station and its seasons, in which seasons 1 to
- * 4 count 1, 2, 4 and 8. Eight numbers a pair: station; 1 released, 2 held; licensed seasons without a line; lines unsafe; lines
- * undecided; lines of another yard than the station's first; lines whose conductor is too small; the greatest fault current in A at
- * which every line is safe, or 0. Answers the count of pairs. Refusals 1 to 7, then 21, 22, 23. */
+/* Which stations of a licence may be released on a sheet. The licence has three numbers a station: the station; its seasons, in
+ * which seasons 1 to 4 count 1, 2, 4 and 8; and its conductor's own cross-section in whole kcmil, rounded down, 1 to 2000, or 0 for a
+ * solid round wire of the line's diameter. Eight numbers a station: station; 1 released, 2 held; licensed seasons without a line;
+ * lines unsafe; lines undecided; lines of another yard than the station's first; lines whose conductor is too small; the greatest
+ * fault current in A at which every line is safe, or 0. Answers the count of stations. Refusals 1 to 7, then 21, 22, 23. */
 int64_t hocsimbur_release(const uint8_t *sheet, size_t sheet_bytes, const uint32_t *licence, size_t licence_numbers, int64_t *table,
                           size_t table_numbers, size_t *place, size_t place_numbers);
 

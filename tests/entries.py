@@ -25,7 +25,7 @@ import working
 from calculator import Refusal
 
 LIBRARY = "target/host/libhocsimbur.so"
-VERSION = 10100
+VERSION = 20000
 FILL = -7777  # what stands in an array beforehand
 SPARE = 5  # numbers of an array past those that are needed
 DEPTHS = (8, 12)
@@ -126,12 +126,12 @@ def summaries(library):
 
 
 def released(licence, cases, rows, numbers):
-    """Whether the numbers of each pair are right, and its fault current one that a right program may report."""
-    wanted = [list(pair) for pair in release.release_of(licence, cases, rows)]
-    pairs = [numbers[i:i + 8] for i in range(0, len(numbers), 8)]
-    of_station = [[case for case in cases if case.station == pair[0]] for pair in pairs]
-    return [pair[:7] for pair in pairs] == [pair[:7] for pair in wanted] and all(
-        release.fault_is_right(own, pair[7]) for own, pair in zip(of_station, pairs))
+    """Whether the numbers of each entry are right, and its fault current one that a right program may report."""
+    wanted = [list(entry) for entry in release.release_of(licence, cases, rows)]
+    entries = [numbers[i:i + 8] for i in range(0, len(numbers), 8)]
+    of_station = [[case for case in cases if case.station == entry[0]] for entry in entries]
+    return [entry[:7] for entry in entries] == [entry[:7] for entry in wanted] and all(
+        release.fault_is_right(own, entry[7]) for own, entry in zip(of_station, entries))
 
 
 def releases(library):
@@ -141,7 +141,7 @@ def releases(library):
         if isinstance(wanted, Refusal):
             right = answer == wanted and table == [FILL] * room
         else:
-            count = len(licence) // 2
+            count = len(licence) // 3
             rows = rows_of(library, sheet, len(wanted))
             kept = table[8 * count:] == [FILL] * (room - 8 * count)
             right = answer == count and kept and released(licence, wanted, rows, table[:8 * count])

@@ -15,13 +15,14 @@ import sheets
 from calculator import Refusal
 from printed import SHEET_END
 
-PAIR_LENGTH = 8
-MOST_NUMBERS = 512
+ENTRY_LENGTH = 8
+MOST_NUMBERS = 768
+MOST_AREA = 2000  # kcmil
 TABLE = 2080  # numbers of the program's table
 LEAST_FAULT, MOST_FAULT = calc.span_of("fault")
 LEAST_STATION, MOST_STATION = calc.span_of("station")
 YARD = ("across", "along", "space", "depth", "dia", "rods", "rodlen", "place", "metal")
-SEED, RANDOM, DAMAGED = 32, 12, 14
+SEED, RANDOM, DAMAGED = 33, 12, 14
 DEPTH = 9
 NEAR = Fraction(1, 1000)  # more than the widths that a row may have, as a share
 
@@ -30,21 +31,23 @@ NEAR = Fraction(1, 1000)  # more than the widths that a row may have, as a share
 # The answer.
 # --------------------------------------------------------------------------
 
-def pairs_of(licence):
-    """A station and its seasons for each pair."""
-    return list(zip(licence[::2], licence[1::2]))
+def entries_of(licence):
+    """A station, its seasons and its conductor's own cross-section in kcmil, or 0, for each entry."""
+    return list(zip(licence[::3], licence[1::3], licence[2::3]))
 
 
 def licence_refusal(licence):
     """21 and 22, or nothing."""
-    if not licence or len(licence) % 2 or len(licence) > MOST_NUMBERS:
+    if not licence or len(licence) % 3 or len(licence) > MOST_NUMBERS:
         return Refusal(21, 0, 0)
     earlier = set()
-    for place, (station, seasons) in enumerate(pairs_of(licence), start=1):
+    for place, (station, seasons, area) in enumerate(entries_of(licence), start=1):
         if not LEAST_STATION <= station <= MOST_STATION or station in earlier:
             return Refusal(22, place, 1)
         if not 1 <= seasons <= 15:
             return Refusal(22, place, 2)
+        if area > MOST_AREA:
+            return Refusal(22, place, 3)
         earlier.add(station)
     return None
 
@@ -57,13 +60,13 @@ def answer(sheet, licence, room):
     refusal = licence_refusal(licence)
     if refusal:
         return refusal
-    if room < PAIR_LENGTH * len(pairs_of(licence)):
+    if room < ENTRY_LENGTH * len(entries_of(licence)):
         return Refusal(23, 0, 0)
     return cases
 
 
 # --------------------------------------------------------------------------
-# The numbers of a pair, but for the fault current.
+# The numbers of an entry, but for the fault current.
 # --------------------------------------------------------------------------
 
 def licensed(seasons):
@@ -75,9 +78,9 @@ def yard_of(case):
     return [getattr(case, name) for name in YARD]
 
 
-def is_small(case, row):
-    """A solid round conductor of this diameter has fewer kcmil than the row's size."""
-    return 1000 * case.dia**2 < 64516 * row[3]
+def is_small(case, row, area):
+    """The conductor has fewer kcmil than the row's size: its own, or with 0 those of a solid round wire of the diameter."""
+    return area < row[3] if area else 1000 * case.dia**2 < 64516 * row[3]
 
 
 def lines_of(station, cases, rows):
@@ -85,7 +88,7 @@ def lines_of(station, cases, rows):
     return [(case, row) for case, row in zip(cases, rows) if case.station == station]
 
 
-def counts_of(seasons, lines):
+def counts_of(seasons, area, lines):
     """The five counts."""
     with_line = {case.season for case, _ in lines}
     return [
@@ -93,19 +96,19 @@ def counts_of(seasons, lines):
         sum(row[2] == calc.UNSAFE for _, row in lines),
         sum(row[2] == calc.UNDECIDED for _, row in lines),
         sum(yard_of(case) != yard_of(lines[0][0]) for case, _ in lines),
-        sum(is_small(case, row) for case, row in lines),
+        sum(is_small(case, row, area) for case, row in lines),
     ]
 
 
-def numbers_of(station, seasons, lines):
+def numbers_of(station, seasons, area, lines):
     """Station, 1 released or 2 held, and the five counts."""
-    counts = counts_of(seasons, lines)
+    counts = counts_of(seasons, area, lines)
     return [station, 2 if any(counts) else 1, *counts]
 
 
 def release_of(licence, cases, rows):
-    """Seven numbers for each pair."""
-    return [numbers_of(station, seasons, lines_of(station, cases, rows)) for station, seasons in pairs_of(licence)]
+    """Seven numbers for each entry."""
+    return [numbers_of(station, seasons, area, lines_of(station, cases, rows)) for station, seasons, area in entries_of(licence)]
 
 
 # --------------------------------------------------------------------------
@@ -213,29 +216,49 @@ def held_or_released(rng, station, reason):
     return lines, number
 
 
+def needed(case):
+    """About the size that the row reports: it is sized by the factor's upper end, which a program may choose within its width."""
+    upper = int(calc.factor_ends(case.clear, case.xr, case.hz, DEPTH).upper * calc.FACTOR_UNITS) + 100
+    return calc.conductor_kcmil(case, upper)
+
+
+def own_area(rng, lines):
+    """None, any, or one about the size that a line needs."""
+    about = needed(rng.choice(lines)) + rng.choice((-1, 0, 1))
+    return rng.choice((0, 0, rng.randint(1, MOST_AREA), min(max(about, 1), MOST_AREA)))
+
+
 def portfolio(rng, reasons):
     """A sheet with a station for each reason, lines shuffled, and a licence in another order."""
     stations = rng.sample((*range(1, 40), 65535, 65534), len(reasons) + 2)
-    cases, pairs = [], []
+    cases, entries = [], []
     for station, reason in zip(stations, reasons):
         lines, number = held_or_released(rng, station, reason)
         cases += lines
-        pairs.append((station, number))
-    pairs.append((stations[-1], rng.randint(1, 15)))  # a station without a line
+        entries.append((station, number, own_area(rng, lines)))
+    entries.append((stations[-1], rng.randint(1, 15), rng.choice((0, MOST_AREA))))  # a station without a line
     cases += released_station(rng, stations[-2], [rng.randint(1, 4)])  # a station that is not licensed
-    rng.shuffle(pairs)
+    rng.shuffle(entries)
     rng.shuffle(cases)
-    return sheets.sheet_of(cases), [number for pair in pairs for number in pair]
+    return sheets.sheet_of(cases), [number for entry in entries for number in entry]
+
+
+def stranded(rng):
+    """A stranded wire, 13.4 mm and 211 kcmil, where 261 kcmil are needed, which a solid round one of that diameter would have."""
+    lines = [line._replace(dia=134, metal=1, wire=500, clear=500, xr=10) for line in released_station(rng, 3, [1, 2])]
+    faults = [fault for fault in range(40000, 60000) if needed(lines[0]._replace(fault=fault)) == 261]
+    return [line._replace(fault=faults[len(faults) // 2]) for line in lines]
 
 
 def largest(rng):
-    """256 lines, four to a station, and a licence of 256 pairs."""
+    """256 lines, four to a station, and a licence of 256 entries."""
     cases = []
     for station in range(101, 165):
         cases += released_station(rng, station, range(1, 5))
     stations = [*range(101, 165), *range(1001, 1193)]
     rng.shuffle(stations)
-    return sheets.sheet_of(cases), [number for station in stations for number in (station, rng.randint(1, 15))]
+    return sheets.sheet_of(cases), [
+        number for station in stations for number in (station, rng.randint(1, 15), rng.choice((0, 1, MOST_AREA)))]
 
 
 def sound(rng):
@@ -243,21 +266,23 @@ def sound(rng):
     some = [portfolio(rng, [reason]) for reason in REASONS for _ in range(3)]
     some += [portfolio(rng, rng.choices(REASONS, k=rng.randint(2, 5))) for _ in range(RANDOM)]
     exact = wire_of_the_size(rng, released_station(rng, 3, [2]))
-    some.append((sheets.sheet_of(exact), [3, 2]))
+    some += [(sheets.sheet_of(exact), [3, 2, area]) for area in (0, 999, 1000, 1001)]
+    some += [(sheets.sheet_of(stranded(rng)), [3, 3, area]) for area in (0, 211, 261)]
     random_cases = [sheets.random_case(rng)._replace(station=5, season=season) for season in (3, 1, 4)]
-    some.append((sheets.sheet_of(random_cases), [5, 13]))
+    some.append((sheets.sheet_of(random_cases), [5, 13, 0]))
     return some
 
 
 def wrong_licences(rng, licence):
-    """Licences that are refused: counts, stations and seasons, alone and two at once."""
-    at = 2 * rng.randrange(len(licence) // 2)
+    """Licences that are refused: counts, stations, seasons and cross-sections, alone and two at once."""
+    at = 3 * rng.randrange(len(licence) // 3)
     return [
-        [], licence[:-1], [1], [number for station in range(1, 258) for number in (station, 1)],
+        [], licence[:-1], licence[:-2], [1], [1, 1], [number for station in range(1, 258) for number in (station, 1, 0)],
         *([*licence[:at], station, *licence[at + 1 :]] for station in (0, 65536, 4294967295)),
         *([*licence[:at + 1], seasons, *licence[at + 2 :]] for seasons in (0, 16, 4294967295)),
-        [*licence, licence[0], 1], [*licence, licence[0], 0], [*licence, 0, 0], [0, 0, *licence],
-        [*licence[:at], 0, 16, *licence[at + 2 :]],
+        *([*licence[:at + 2], area, *licence[at + 3 :]] for area in (MOST_AREA + 1, 4294967295)),
+        [*licence, licence[0], 1, 0], [*licence, licence[0], 0, 0], [*licence, 0, 0, 0], [0, 0, 0, *licence],
+        [*licence[:at], 0, 16, 0, *licence[at + 3 :]], [*licence[:at + 1], 16, MOST_AREA + 1, *licence[at + 3 :]],
     ]
 
 
@@ -280,13 +305,13 @@ def blocks():
     portfolios = sound(rng)
     asked = []
     for sheet, licence in portfolios:
-        need = PAIR_LENGTH * (len(licence) // 2)
+        need = ENTRY_LENGTH * (len(licence) // 3)
         asked += [(sheet, licence, room) for room in (need, rng.choice((need - 1, 0, need + 1, TABLE)))]
     sheet, licence = portfolios[4]
     for wrong in wrong_licences(rng, licence):
         asked += [(sheet, wrong, room) for room in (TABLE, 0)]
-    asked += [(text, rng.choice((licence, [], [0, 0])), rng.choice((TABLE, 0))) for text in damaged(rng)]
-    asked.append((*largest(rng), PAIR_LENGTH * calc.MAX_VALUE_LINES))
+    asked += [(text, rng.choice((licence, [], [0, 0, 0])), rng.choice((TABLE, 0))) for text in damaged(rng)]
+    asked.append((*largest(rng), ENTRY_LENGTH * calc.MAX_VALUE_LINES))
     return asked
 
 

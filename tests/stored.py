@@ -27,14 +27,14 @@ NO_HEADS = (
     b"carry", b"carry,", b"release", b"release,", b"release,x", b"release,8,8", b"release,%d" % (release.TABLE + 1),
 )
 # Licences that are no list of 32-bit numbers, or longer than the program reads.
-NO_LICENCES = (b"x", b"3,", b",2", b"3,-2", b"%d,2" % 2**32, b",".join([b"1"] * 521))
+NO_LICENCES = (b"x", b"3,", b",2", b"3,-2", b"%d,2" % 2**32, b",".join([b"1"] * 781))
 
 
 def unknown():
     """Parts that are no question: each has a sound sheet, so that nothing else is wrong with it."""
     sheet = sheets.sheet_of(sheets.cases_of_less_current(sheets.BATCH_SEED)[:1])
-    parts = [b"%s\n3,2\n%s" % (head, sheet) if head.startswith(b"release") else b"%s\n%s" % (head, sheet) for head in NO_HEADS]
-    return parts + [b"release,%d\n%s\n%s" % (release.PAIR_LENGTH, licence, sheet) for licence in NO_LICENCES]
+    parts = [b"%s\n3,2,0\n%s" % (head, sheet) if head.startswith(b"release") else b"%s\n%s" % (head, sheet) for head in NO_HEADS]
+    return parts + [b"release,%d\n%s\n%s" % (release.ENTRY_LENGTH, licence, sheet) for licence in NO_LICENCES]
 
 
 def text():

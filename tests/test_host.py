@@ -197,13 +197,14 @@ class Header(unittest.TestCase):
     def test_limits(self):
         said = dict(re.findall(r"#define HOCSIMBUR_(\w+) +(\d+)", self.text))
         wanted = {"VERSION": entries.VERSION, "LINES": calc.MAX_VALUE_LINES, "SHEET_BYTES": calc.MAX_BYTES, "NUMBERS": calc.ROW_LENGTH,
-                  "ROW_BYTES": host.LINE_BYTES, "STATION_NUMBERS": summary.STATION_LENGTH, "PAIR_NUMBERS": release.PAIR_LENGTH,
+                  "ROW_BYTES": host.LINE_BYTES, "STATION_NUMBERS": summary.STATION_LENGTH, "LICENCE_NUMBERS": 3, "RELEASE_NUMBERS": release.ENTRY_LENGTH,
+                 
                   "SOIL_NUMBERS": 7, "SPLIT_NUMBERS": 3, "FEWEST_NUMBERS": 3,
                   "MARGIN_NUMBERS": entries.WIDTHS["margins"], "WORKING_NUMBERS": entries.WIDTHS["working"],
                   "HEADROOM_NUMBERS": entries.WIDTHS["headroom"]}
         self.assertEqual({name: int(number) for name, number in said.items()}, wanted)
         self.assertEqual(re.search(r"VERSION: u32 = (\d+)", self.source)[1], said["VERSION"])
-        self.assertIn('"hocsimbur 1.1.0"', (ROOT / "host/hocsimbur.3").read_text("ascii"))
+        self.assertIn('"hocsimbur 2.0.0"', (ROOT / "host/hocsimbur.3").read_text("ascii"))
 
     def test_stack(self):
         said = re.findall(r"less than (\d+) kB", self.text)

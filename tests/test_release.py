@@ -13,7 +13,7 @@ from printed import ROW_NAMES, lines_of, read_row, whole
 
 
 class Told:
-    """An answer of `sheets`: a refusal, or the pairs and the sheet's rows; and how much the table kept."""
+    """An answer of `sheets`: a refusal, or the entries and the sheet's rows; and how much the table kept."""
 
     def __init__(self, lines):
         *lines, kept = lines
@@ -23,7 +23,7 @@ class Told:
         self.kept = whole(number)
         word, *numbers = lines[0].split(",")
         self.refusal = Refusal(*map(whole, numbers)) if word == "refused" else None
-        self.pairs, self.rows = [], []
+        self.entries, self.rows = [], []
         if self.refusal:
             if lines[1:]:
                 raise ValueError("more than a refusal is printed")
@@ -33,14 +33,14 @@ class Told:
         count = whole(numbers[0])
         if lines[1 + count] != ",".join(ROW_NAMES):
             raise ValueError("not the lines that the count says")
-        self.pairs = [read_pair(line) for line in lines[1 : 1 + count]]
+        self.entries = [read_entry(line) for line in lines[1 : 1 + count]]
         self.rows = [read_row(line.split(",")) for line in lines[2 + count :]]
 
 
-def read_pair(line):
+def read_entry(line):
     numbers = [whole(field) for field in line.split(",")]
-    if len(numbers) != release.PAIR_LENGTH:
-        raise ValueError(f"a pair has not {release.PAIR_LENGTH} numbers")
+    if len(numbers) != release.ENTRY_LENGTH:
+        raise ValueError(f"an entry has not {release.ENTRY_LENGTH} numbers")
     return numbers
 
 
@@ -60,9 +60,9 @@ def answers_of(text):
 # Wrong programs: the seven numbers.
 # --------------------------------------------------------------------------
 
-def by_pair(licence, cases, rows, numbers_of):
-    return [numbers_of(station, seasons, release.lines_of(station, cases, rows))
-            for station, seasons in release.pairs_of(licence)]
+def by_entry(licence, cases, rows, numbers_of):
+    return [numbers_of(station, seasons, area, release.lines_of(station, cases, rows))
+            for station, seasons, area in release.entries_of(licence)]
 
 
 def held(station, counts):
@@ -71,63 +71,82 @@ def held(station, counts):
 
 def released_on_the_last_season(licence, cases, rows):
     """Released where the last line alone is safe."""
-    def numbers(station, seasons, lines):
-        right = release.numbers_of(station, seasons, lines)
-        last = release.counts_of(seasons, lines[-1:])
+    def numbers(station, seasons, area, lines):
+        right = release.numbers_of(station, seasons, area, lines)
+        last = release.counts_of(seasons, area, lines[-1:])
         return [station, 2 if right[2] or any(last[1:]) else 1, *right[2:]]
-    return by_pair(licence, cases, rows, numbers)
+    return by_entry(licence, cases, rows, numbers)
 
 
 def kindest_soil(licence, cases, rows):
     """Held only where every line is unsafe."""
-    def numbers(station, seasons, lines):
-        right = release.numbers_of(station, seasons, lines)
+    def numbers(station, seasons, area, lines):
+        right = release.numbers_of(station, seasons, area, lines)
         safe = any(row[2] == calc.SAFE for _, row in lines)
         return [station, 1 if safe else 2, *right[2:]]
-    return by_pair(licence, cases, rows, numbers)
+    return by_entry(licence, cases, rows, numbers)
 
 
 def only_licensed_lines(licence, cases, rows):
-    def numbers(station, seasons, lines):
+    def numbers(station, seasons, area, lines):
         own = [line for line in lines if line[0].season in release.licensed(seasons)]
-        return held(station, release.counts_of(seasons, own))
-    return by_pair(licence, cases, rows, numbers)
+        return held(station, release.counts_of(seasons, area, own))
+    return by_entry(licence, cases, rows, numbers)
 
 
 def changed(place, change):
     """The five counts with one of them changed."""
     def wrong(licence, cases, rows):
-        def numbers(station, seasons, lines):
-            counts = release.counts_of(seasons, lines)
-            counts[place] = change(counts[place], seasons, lines)
+        def numbers(station, seasons, area, lines):
+            counts = release.counts_of(seasons, area, lines)
+            counts[place] = change(counts[place], seasons, area, lines)
             return held(station, counts)
-        return by_pair(licence, cases, rows, numbers)
+        return by_entry(licence, cases, rows, numbers)
     return wrong
 
 
-def unlicensed_counted(count, seasons, lines):
+def unlicensed_counted(count, seasons, area, lines):
     return 4 - len({case.season for case, _ in lines})
 
 
-def nothing(count, seasons, lines):
+def nothing(count, seasons, area, lines):
     return 0
 
 
-def compared_with_the_line_before(count, seasons, lines):
+def compared_with_the_line_before(count, seasons, area, lines):
     return sum(release.yard_of(a) != release.yard_of(b) for (a, _), (b, _) in zip(lines, lines[1:]))
 
 
-def metal_aside(count, seasons, lines):
+def metal_aside(count, seasons, area, lines):
     return sum(release.yard_of(case)[:-1] != release.yard_of(lines[0][0])[:-1] for case, _ in lines)
 
 
-def equal_is_small(count, seasons, lines):
-    return sum(1000 * case.dia**2 <= 64516 * row[3] for case, row in lines)
+def equal_is_small(count, seasons, area, lines):
+    return sum(area <= row[3] if area else 1000 * case.dia**2 <= 64516 * row[3] for case, row in lines)
 
 
-def square_not_round(count, seasons, lines):
+def square_not_round(count, seasons, area, lines):
     """The area of the square about the conductor."""
-    return sum(4 * 1000 * case.dia**2 < 64516 * row[3] for case, row in lines)
+    return sum(area < row[3] if area else 4 * 1000 * case.dia**2 < 64516 * row[3] for case, row in lines)
+
+
+def own_area_not_read(count, seasons, area, lines):
+    return sum(1000 * case.dia**2 < 64516 * row[3] for case, row in lines)
+
+
+def diameter_not_read(count, seasons, area, lines):
+    """Without an area of its own no wire is too small."""
+    return sum(area < row[3] for case, row in lines) if area else 0
+
+
+def smaller_of_both(count, seasons, area, lines):
+    return sum(release.is_small(case, row, area) or release.is_small(case, row, 0) for case, row in lines)
+
+
+def area_of_the_entry_before(licence, cases, rows):
+    areas = [licence[-1], *licence[2:-1:3]]
+    return release.release_of([number for (station, seasons, _), area in zip(release.entries_of(licence), areas)
+                               for number in (station, seasons, area)], cases, rows)
 
 
 def undecided_is_released(licence, cases, rows):
@@ -141,7 +160,7 @@ def small_wire_released(licence, cases, rows):
 
 
 def first_station_again(licence, cases, rows):
-    return [release.release_of(licence, cases, rows)[0]] * (len(licence) // 2)
+    return [release.release_of(licence, cases, rows)[0]] * (len(licence) // 3)
 
 
 WRONG_NUMBERS = {
@@ -153,7 +172,9 @@ WRONG_NUMBERS = {
     "compared with the line before": changed(3, compared_with_the_line_before), "metal aside": changed(3, metal_aside),
     "wire not compared": changed(4, nothing), "an equal wire is small": changed(4, equal_is_small),
     "wire as a square": changed(4, square_not_round), "undecided is released": undecided_is_released,
-    "small wire is released": small_wire_released, "first pair again": first_station_again,
+    "small wire is released": small_wire_released, "first entry again": first_station_again,
+    "own area not read": changed(4, own_area_not_read), "diameter not read": changed(4, diameter_not_read),
+    "the smaller of both": changed(4, smaller_of_both), "area of the entry before": area_of_the_entry_before,
 }
 
 
@@ -163,7 +184,7 @@ WRONG_NUMBERS = {
 
 def room_before_licence(sheet, licence, room):
     cases = calc.read_sheet(sheet)
-    if not isinstance(cases, Refusal) and room < release.PAIR_LENGTH * (len(licence) // 2):
+    if not isinstance(cases, Refusal) and room < release.ENTRY_LENGTH * (len(licence) // 3):
         return Refusal(23, 0, 0)
     return release.answer(sheet, licence, room)
 
@@ -177,32 +198,43 @@ def exact_fit_refused(sheet, licence, room):
 
 
 def repeated_station_taken(sheet, licence, room):
-    stations = licence[::2]
+    stations = licence[::3]
     for at, station in enumerate(stations):
         if station in stations[:at]:
-            licence = [*licence[: 2 * at], 60000 + at, *licence[2 * at + 1 :]]
+            licence = [*licence[: 3 * at], 60000 + at, *licence[3 * at + 1 :]]
     return release.answer(sheet, licence, room)
 
 
 def seasons_before_station(sheet, licence, room):
     right = release.answer(sheet, licence, room)
-    if isinstance(right, Refusal) and right.number == 22 and not 1 <= licence[2 * right.line - 1] <= 15:
+    if isinstance(right, Refusal) and right.number == 22 and not 1 <= licence[3 * right.line - 2] <= 15:
         return right._replace(column=2)
     return right
 
 
-def last_wrong_pair(sheet, licence, room):
+def area_not_checked(sheet, licence, room):
+    return release.answer(sheet, [min(number, 15) if at % 3 == 2 else number for at, number in enumerate(licence)], room)
+
+
+def area_before_seasons(sheet, licence, room):
     right = release.answer(sheet, licence, room)
-    return right._replace(line=len(licence) // 2) if isinstance(right, Refusal) and right.number == 22 else right
+    if isinstance(right, Refusal) and right.number == 22 and right.column == 2 and licence[3 * right.line - 1] > release.MOST_AREA:
+        return right._replace(column=3)
+    return right
+
+
+def last_wrong_entry(sheet, licence, room):
+    right = release.answer(sheet, licence, room)
+    return right._replace(line=len(licence) // 3) if isinstance(right, Refusal) and right.number == 22 else right
 
 
 def odd_count_taken(sheet, licence, room):
-    return release.answer(sheet, licence[: len(licence) // 2 * 2] or licence, room)
+    return release.answer(sheet, licence[: len(licence) // 3 * 3] or licence, room)
 
 
 WRONG_ANSWERS = (
     room_before_licence, licence_before_sheet, exact_fit_refused, repeated_station_taken, seasons_before_station,
-    last_wrong_pair, odd_count_taken)
+    area_not_checked, area_before_seasons, last_wrong_entry, odd_count_taken)
 
 
 # --------------------------------------------------------------------------
@@ -222,9 +254,9 @@ class Stored(unittest.TestCase):
                 if not told.refusal]
 
     def stations(self):
-        """The lines of each pair's station and its eight numbers."""
+        """The lines of each entry's station and its eight numbers."""
         for licence, cases, told in self.answered():
-            for numbers in told.pairs:
+            for numbers in told.entries:
                 yield [case for case in cases if case.station == numbers[0]], numbers
 
     def test_the_portfolios_are_those_of_the_maker(self):
@@ -237,7 +269,7 @@ class Stored(unittest.TestCase):
                 self.assertEqual(told.refusal, wanted)
             else:
                 self.assertIsNone(told.refusal)
-                self.assertEqual(len(told.pairs), len(licence) // 2)
+                self.assertEqual(len(told.entries), len(licence) // 3)
 
     def test_the_rows_are_right(self):
         for _, cases, told in self.answered():
@@ -245,7 +277,7 @@ class Stored(unittest.TestCase):
 
     def test_the_numbers_are_those_of_the_rows(self):
         for licence, cases, told in self.answered():
-            self.assertEqual([numbers[:-1] for numbers in told.pairs], release.release_of(licence, cases, told.rows))
+            self.assertEqual([numbers[:-1] for numbers in told.entries], release.release_of(licence, cases, told.rows))
 
     def test_the_fault_currents_are_right(self):
         for cases, numbers in self.stations():
@@ -259,24 +291,24 @@ class Stored(unittest.TestCase):
 
     def test_all_else_in_the_table_is_kept(self):
         for told in self.told:
-            self.assertEqual(told.kept, release.TABLE - release.PAIR_LENGTH * len(told.pairs))
+            self.assertEqual(told.kept, release.TABLE - release.ENTRY_LENGTH * len(told.entries))
 
     def test_what_is_stored(self):
         """Refusals of every kind, stations released and held for each of the five reasons alone, stations without a line."""
         refused = {(told.refusal.number, told.refusal.column if told.refusal.number == 22 else 0)
                    for told in self.told if told.refusal}
-        self.assertEqual({*((number, 0) for number in range(1, 8)), (21, 0), (22, 1), (22, 2), (23, 0)}, refused)
-        pairs = [numbers for _, _, told in self.answered() for numbers in told.pairs]
-        self.assertTrue(any(numbers[1] == 1 for numbers in pairs))
+        self.assertEqual({*((number, 0) for number in range(1, 8)), (21, 0), (22, 1), (22, 2), (22, 3), (23, 0)}, refused)
+        entries = [numbers for _, _, told in self.answered() for numbers in told.entries]
+        self.assertTrue(any(numbers[1] == 1 for numbers in entries))
         for place in range(2, 7):
-            self.assertTrue(any(numbers[place] and not any(numbers[2:place] + numbers[place + 1 : 7]) for numbers in pairs), place)
-        self.assertTrue(any(numbers[7] == 0 for numbers in pairs))
-        self.assertTrue(any(0 < numbers[7] < release.MOST_FAULT for numbers in pairs))
-        self.assertIn(release.MOST_NUMBERS // 2, [len(told.pairs) for told in self.told])
+            self.assertTrue(any(numbers[place] and not any(numbers[2:place] + numbers[place + 1 : 7]) for numbers in entries), place)
+        self.assertTrue(any(numbers[7] == 0 for numbers in entries))
+        self.assertTrue(any(0 < numbers[7] < release.MOST_FAULT for numbers in entries))
+        self.assertIn(release.MOST_NUMBERS // 3, [len(told.entries) for told in self.told])
 
     def test_wrong_numbers_are_told(self):
         for name, wrong in WRONG_NUMBERS.items():
-            self.assertTrue(any(wrong(licence, cases, told.rows) != [numbers[:-1] for numbers in told.pairs]
+            self.assertTrue(any(wrong(licence, cases, told.rows) != [numbers[:-1] for numbers in told.entries]
                                 for licence, cases, told in self.answered()), name)
 
     def test_wrong_fault_currents_are_told(self):

@@ -1,3 +1,3 @@
 """Hocsimbur for people: reports, refusals in words and what to change next, over the proved library."""
 
-__version__ = "1.1.0"
+__version__ = "2.0.0"

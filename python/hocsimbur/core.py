@@ -224,7 +224,7 @@ def _pairs(numbers: Sequence[int]) -> List[Pair]:
 
 
 def version() -> str:
-    """The version of the library, as 1.1.0."""
+    """The version of the library, as 2.0.0."""
     number = _asked.entry("hocsimbur_version")()
     return f"{number // 10000}.{number // 100 % 100}.{number % 100}"
 
@@ -269,9 +269,10 @@ def headroom(sheet: bytes) -> List[int]:
     return [numbers[0] for numbers in _numbers("headroom", 1, LINES, _bytes(sheet))]
 
 
-def release(sheet: bytes, licence: Sequence[Tuple[int, int]]) -> List[Release]:
-    """Which stations of a licence may be released: pairs of a station and its seasons, in which seasons 1 to 4 count 1, 2, 4 and 8."""
-    numbers = [number for pair in licence for number in pair]
+def release(sheet: bytes, licence: Sequence[Sequence[int]]) -> List[Release]:
+    """Which stations of a licence may be released: a station, its seasons, in which seasons 1 to 4 count 1, 2, 4 and 8, and the
+    conductor's own cross-section in whole kcmil, rounded down; 0 or none stands for a solid round wire of the line's diameter."""
+    numbers = [number for entry in licence for number in (*entry, 0)[:3]]
     answers = _numbers("release", 8, LINES, _bytes(sheet), _array(ctypes.c_uint32, numbers))
     return [Release(station, decision == 1, *rest) for station, decision, *rest in answers]
 

@@ -184,8 +184,10 @@ def _licence(refused: Refused, asked: Asked) -> str:
     return f"the licence has {len(asked.licence)} stations; 1 to 256 are allowed"
 
 
-def _pair(refused: Refused, asked: Asked) -> str:
-    station, seasons = asked.licence[refused.line - 1]
+def _station(refused: Refused, asked: Asked) -> str:
+    station, seasons, area = (*asked.licence[refused.line - 1], 0)[:3]
+    if refused.column == 3:
+        return f"licence, place {refused.line}: the wire of station {station} has {area} kcmil, not 0..2000"
     if refused.column == 2:
         return f"licence, place {refused.line}: the seasons of station {station} are {seasons}, not in 1..15"
     if not 1 <= station <= 65535:
@@ -200,7 +202,7 @@ def _room(refused: Refused, asked: Asked) -> str:
 _WORDS: Dict[int, Callable[[Refused, Asked], str]] = {
     1: _text, 2: _name, 3: _form, 4: _lines, 5: _range, 6: _parts, 7: _repeated, 8: _room, 9: _times, 10: _counts, 11: _hertz,
     12: _readings, 13: _distance, 14: _resistance, 15: _side, 16: _no_rods, 17: _test, 18: _part, 19: _no_current, 20: _room,
-    21: _licence, 22: _pair, 23: _room,
+    21: _licence, 22: _station, 23: _room,
 }
 
 

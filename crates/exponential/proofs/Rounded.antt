@@ -21,7 +21,7 @@ parts≤ l = omega arith
 
 -- n quarters of a billionth
 unfoldable pub quarters : Scale
-quarters = record { count = unit; pos = lit< tt }
+quarters = record { count = unit; positive = lit< tt }
 
 abbrev pub fine : ℕ → Fraction
 fine = units quarters

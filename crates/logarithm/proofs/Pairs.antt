@@ -27,9 +27,9 @@ module _ {a b : ℕ} (u : Scale) (from : u .count ≤ a) (order : a ≤ b) where
   ln-pair-encloses c e =
       record {
         within =
-            ln-within (record { positive = ratio-positive (le-trans (u .pos) from) (u .pos) }) c (lit≤ tt)
+            ln-within (record { positive = ratio-positive (le-trans (u .positive) from) (u .positive) }) c (lit≤ tt)
             (within-trans (e .within) (within-same (record { lowers = count-ratio a u; uppers = count-ratio b u })))
-            (close-encloses (u .pos) from) (close-encloses (u .pos) (le-trans from order));
+            (close-encloses (u .positive) from) (close-encloses (u .positive) (le-trans from order));
       }
 
 -- n over a value of a unit, which is above n: minus the logarithm of the value over n
