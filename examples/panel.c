@@ -4,11 +4,15 @@
  *
  * Exit status 0 with rows, 1 with a refusal, 2 where the sheet can't be read or the lines can't be written.
  *
- * Station, season and verdict, and the margin: by how many tenths of a percent the nearer limit is kept or passed. It is worked on the
- * cautious side, from the upper ends of mesh and step voltage against the lower ends of what is tolerable, and is rounded down: "12.3 % below"
- * is at least that far below, "4.5 % above" at most that far above by these ends. A row that is undecided has a margin about 0. */
+ * Station, season and verdict, and the margin of the nearer limit as the library answers it, in tenths of a percent: "12.3 % below" is at
+ * least that far below the limit, "4.5 % above" at most that far above it. A row that is undecided has a margin about 0. */
 #include <hocsimbur.h>
+#include <inttypes.h>
 #include <stdio.h>
+#ifdef _WIN32
+#include <fcntl.h>
+#include <io.h>
+#endif
 
 static const char *const verdicts[] = {"", "safe", "unsafe", "undecided"};
 
@@ -24,41 +28,33 @@ static const char *const refusals[] = {
     "the buffer is too short",
 };
 
-/* How far a voltage is below its limit, in tenths of a percent of the limit, rounded down; below 0 where it is above. */
-static int64_t below(int64_t voltage, int64_t limit) {
-    int64_t tenths = (limit - voltage) * 1000;
-    return tenths < 0 ? -((-tenths + limit - 1) / limit) : tenths / limit;
+/* a row with its two margins: per mille above the limits, negative below */
+static void print_row(const uint8_t *rows, size_t row, const int64_t *margins) {
+    int64_t above = margins[0] > margins[1] ? margins[0] : margins[1];
+    int64_t tenths = above < 0 ? -above : above;
+    printf("station %" PRId64 " season %" PRId64 ": %s, %" PRId64 ".%" PRId64 " %% %s\n", hocsimbur_read(rows, row, HOCSIMBUR_STATION),
+           hocsimbur_read(rows, row, HOCSIMBUR_SEASON), verdicts[hocsimbur_read(rows, row, HOCSIMBUR_VERDICT)], tenths / 10, tenths % 10,
+           above > 0 ? "above" : "below");
 }
 
-/* The lesser of the margins of touch and step. */
-static int64_t margin(const uint8_t *rows, size_t row) {
-    int64_t touch = below(hocsimbur_read(rows, row, HOCSIMBUR_MESH_UPPER), hocsimbur_read(rows, row, HOCSIMBUR_TOLERABLE_TOUCH_LOWER));
-    int64_t step = below(hocsimbur_read(rows, row, HOCSIMBUR_STEP_UPPER), hocsimbur_read(rows, row, HOCSIMBUR_TOLERABLE_STEP_LOWER));
-    return touch < step ? touch : step;
-}
-
-static void print_row(const uint8_t *rows, size_t row) {
-    int64_t tenths = margin(rows, row);
-    int64_t size = tenths < 0 ? -tenths : tenths;
-    printf("station %lld season %lld: %s, %lld.%lld %% %s\n", (long long)hocsimbur_read(rows, row, HOCSIMBUR_STATION),
-           (long long)hocsimbur_read(rows, row, HOCSIMBUR_SEASON), verdicts[hocsimbur_read(rows, row, HOCSIMBUR_VERDICT)],
-           (long long)(size / 10), (long long)(size % 10), tenths < 0 ? "above" : "below");
-}
-
-static void print_refusal(int64_t number, const size_t place[2]) {
-    printf("refused with %lld", (long long)number);
+static void print_refusal(int64_t number, const hocsimbur_size place[2]) {
+    printf("refused with %" PRId64, number);
     if (place[0] != 0)
-        printf(", line %zu", place[0]);
+        printf(", line %" PRIu64, (uint64_t)place[0]);
     if (place[1] != 0)
-        printf(", column %zu", place[1]);
+        printf(", column %" PRIu64, (uint64_t)place[1]);
     printf(": %s\n", refusals[number]);
 }
 
 int main(int count, char **words) {
     static uint8_t sheet[HOCSIMBUR_SHEET_BYTES + 1]; /* one byte more, so that a longer sheet is refused */
     static uint8_t rows[HOCSIMBUR_LINES * HOCSIMBUR_ROW_BYTES];
-    size_t place[2] = {0, 0};
+    static int64_t margins[HOCSIMBUR_LINES * HOCSIMBUR_MARGIN_NUMBERS];
+    hocsimbur_size place[2] = {0, 0};
     FILE *in = count > 1 ? fopen(words[1], "rb") : stdin;
+#ifdef _WIN32
+    _setmode(_fileno(stdin), _O_BINARY); /* a line ends with one byte 10, and is taken as it is */
+#endif
     if (in == NULL) {
         perror(words[1]);
         return 2;
@@ -69,8 +65,10 @@ int main(int count, char **words) {
         return 2;
     }
     int64_t answer = hocsimbur_rows_at(sheet, bytes, rows, sizeof rows, place, 2);
+    if (answer > 0)
+        answer = hocsimbur_margins(sheet, bytes, margins, sizeof margins / sizeof *margins, place, 2);
     for (int64_t i = 0; i < answer; i++)
-        print_row(rows, (size_t)i);
+        print_row(rows, (size_t)i, margins + HOCSIMBUR_MARGIN_NUMBERS * i);
     if (answer < 0)
         print_refusal(-answer, place);
     if (in != stdin)

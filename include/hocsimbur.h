@@ -44,12 +44,36 @@
 #ifndef HOCSIMBUR_H
 #define HOCSIMBUR_H
 
-#if !defined(__x86_64__) || !defined(__linux__)
-#error "hocsimbur: the library is built for x86-64 Linux only"
+/* Platforms: Linux on x86-64 and on aarch64, Windows on x86-64, and WebAssembly (wasm32). All four are little-endian. */
+#if defined(__wasm64__)
+#error "hocsimbur: no library for wasm64; it is built for wasm32"
+#elif defined(__wasm32__)
+#elif defined(__x86_64__) && defined(__ILP32__)
+#error "hocsimbur: no library for x32; compile for x86-64 with 64-bit pointers"
+#elif defined(_M_ARM64EC) || defined(__arm64ec__) || (defined(_WIN32) && (defined(_M_ARM64) || defined(__aarch64__)))
+#error "hocsimbur: no library for Windows on Arm; compile for x86-64"
+#elif defined(_WIN32) && (defined(_M_X64) || defined(__x86_64__))
+#elif defined(_WIN32)
+#error "hocsimbur: no library for 32-bit Windows; compile for x86-64"
+#elif defined(__APPLE__)
+#error "hocsimbur: no library for Apple systems; use hocsimbur.wasm there"
+#elif defined(__linux__) && defined(__x86_64__)
+#elif defined(__linux__) && defined(__aarch64__) && (defined(__AARCH64EB__) || defined(__ILP32__))
+#error "hocsimbur: no library for big-endian or 32-bit aarch64; compile for little-endian aarch64 with 64-bit pointers"
+#elif defined(__linux__) && defined(__aarch64__)
+#else
+#error "hocsimbur: no library for this platform; there is one for Linux on x86-64 and aarch64, Windows on x86-64, and wasm32"
 #endif
 
 #include <stddef.h>
 #include <stdint.h>
+
+/* A length, a count of numbers, and each number of a place: 64 bits on every platform, also on wasm32, where a size_t has 32. */
+#ifdef __wasm32__
+typedef uint64_t hocsimbur_size;
+#else
+typedef size_t hocsimbur_size;
+#endif
 
 #ifdef __cplusplus
 extern "C" {
@@ -184,70 +208,70 @@ uint32_t hocsimbur_version(void);
 
 /* The rows of a sheet. Answers the count of rows, 1 to 256. Row i stands at buffer + HOCSIMBUR_ROW_BYTES * i, each number as eight bytes,
  * little-endian, two's complement. Refusals 1 to 8. */
-int64_t hocsimbur_rows(const uint8_t *sheet, size_t sheet_bytes, uint8_t *buffer, size_t buffer_bytes);
+int64_t hocsimbur_rows(const uint8_t *sheet, hocsimbur_size sheet_bytes, uint8_t *buffer, hocsimbur_size buffer_bytes);
 
 /* The same, with a place. */
-int64_t hocsimbur_rows_at(const uint8_t *sheet, size_t sheet_bytes, uint8_t *buffer, size_t buffer_bytes, size_t *place,
-                          size_t place_numbers);
+int64_t hocsimbur_rows_at(const uint8_t *sheet, hocsimbur_size sheet_bytes, uint8_t *buffer, hocsimbur_size buffer_bytes,
+                          hocsimbur_size *place, hocsimbur_size place_numbers);
 
 /* The rows of a sheet, 20 numbers a value line, and its stations by first appearance, 6 numbers each: station, lines, lines safe,
  * unsafe and undecided, and the season of the line with the highest upper mesh end. Answers the count of stations. Refusals 1 to 8,
  * then 20. */
-int64_t hocsimbur_summary(const uint8_t *sheet, size_t sheet_bytes, int64_t *rows, size_t rows_numbers, int64_t *stations,
-                          size_t stations_numbers, size_t *place, size_t place_numbers);
+int64_t hocsimbur_summary(const uint8_t *sheet, hocsimbur_size sheet_bytes, int64_t *rows, hocsimbur_size rows_numbers, int64_t *stations,
+                          hocsimbur_size stations_numbers, hocsimbur_size *place, hocsimbur_size place_numbers);
 
 /* Which stations of a licence may be released on a sheet. The licence has three numbers a station: the station; its seasons, in
  * which seasons 1 to 4 count 1, 2, 4 and 8; and its conductor's own cross-section in whole kcmil, rounded down, 1 to 2000, or 0 for a
  * solid round wire of the line's diameter. Eight numbers a station: station; 1 released, 2 held; licensed seasons without a line;
  * lines unsafe; lines undecided; lines of another yard than the station's first; lines whose conductor is too small; the greatest
  * fault current in A at which every line is safe, or 0. Answers the count of stations. Refusals 1 to 7, then 21, 22, 23. */
-int64_t hocsimbur_release(const uint8_t *sheet, size_t sheet_bytes, const uint32_t *licence, size_t licence_numbers, int64_t *table,
-                          size_t table_numbers, size_t *place, size_t place_numbers);
+int64_t hocsimbur_release(const uint8_t *sheet, hocsimbur_size sheet_bytes, const uint32_t *licence, hocsimbur_size licence_numbers,
+                          int64_t *table, hocsimbur_size table_numbers, hocsimbur_size *place, hocsimbur_size place_numbers);
 
 /* How far each value line is from its limits. Two numbers a line: by how many per mille of the tolerable touch voltage the mesh voltage
  * lies above it, and the same of step voltage and tolerable step voltage; negative below. Each is the smallest whole number that the
  * exact voltages are not above. Answers the count of value lines. Refusals 1 to 7, then 8. */
-int64_t hocsimbur_margins(const uint8_t *sheet, size_t sheet_bytes, int64_t *numbers, size_t numbers_numbers, size_t *place,
-                          size_t place_numbers);
+int64_t hocsimbur_margins(const uint8_t *sheet, hocsimbur_size sheet_bytes, int64_t *numbers, hocsimbur_size numbers_numbers,
+                          hocsimbur_size *place, hocsimbur_size place_numbers);
 
 /* The quantities between each value line and its row: 30 numbers a line, by enum hocsimbur_quantity. Answers the count of value lines.
  * Refusals 1 to 7, then 8. */
-int64_t hocsimbur_working(const uint8_t *sheet, size_t sheet_bytes, int64_t *numbers, size_t numbers_numbers, size_t *place,
-                          size_t place_numbers);
+int64_t hocsimbur_working(const uint8_t *sheet, hocsimbur_size sheet_bytes, int64_t *numbers, hocsimbur_size numbers_numbers,
+                          hocsimbur_size *place, hocsimbur_size place_numbers);
 
 /* How far the fault current may grow. One number a value line: the greatest fault current in A, 100 to 80000, at which the line, all else
  * equal, is answered safe, or 0 where none is. Answers the count of value lines. Refusals 1 to 7, then 8. */
-int64_t hocsimbur_headroom(const uint8_t *sheet, size_t sheet_bytes, int64_t *numbers, size_t numbers_numbers, size_t *place,
-                           size_t place_numbers);
+int64_t hocsimbur_headroom(const uint8_t *sheet, hocsimbur_size sheet_bytes, int64_t *numbers, hocsimbur_size numbers_numbers,
+                           hocsimbur_size *place, hocsimbur_size place_numbers);
 
 /* The fewest lines each way, then rods, with which a square yard of a side in mm is safe, all else as in the one value line of a
  * sheet. Answers 1 and three numbers, the lines, the rods and how many yards were tried; or 0 and 0, 0 and how many were tried,
  * none of them safe. The line's own across, along, space, rods and place are not read: any value stands there. Refusals 1, 2, 4 (at
  * line 3 where there are more value lines) and 3 of the sheet; then 5 and 6 of what is read, with line 0 and the column's place in the
  * table of names; then 15, 16, 8. */
-int64_t hocsimbur_fewest(const uint8_t *sheet, size_t sheet_bytes, uint32_t side, int64_t *numbers, size_t numbers_numbers, size_t *place,
-                         size_t place_numbers);
+int64_t hocsimbur_fewest(const uint8_t *sheet, hocsimbur_size sheet_bytes, uint32_t side, int64_t *numbers, hocsimbur_size numbers_numbers,
+                         hocsimbur_size *place, hocsimbur_size place_numbers);
 
 /* A sheet of the former 18 names, with ms and lines, as one of the 22 names above. Answers the count of bytes, at most
  * HOCSIMBUR_SHEET_BYTES. Refusals 1 to 8. */
-int64_t hocsimbur_carry(const uint8_t *sheet, size_t sheet_bytes, uint8_t *buffer, size_t buffer_bytes, size_t *place,
-                        size_t place_numbers);
+int64_t hocsimbur_carry(const uint8_t *sheet, hocsimbur_size sheet_bytes, uint8_t *buffer, hocsimbur_size buffer_bytes,
+                        hocsimbur_size *place, hocsimbur_size place_numbers);
 
 /* A sheet of the 22 names as one of the former 18. Refusals 1 to 7, then line by line 9, 10, 11, then 8. */
-int64_t hocsimbur_carry_back(const uint8_t *sheet, size_t sheet_bytes, uint8_t *buffer, size_t buffer_bytes, size_t *place,
-                             size_t place_numbers);
+int64_t hocsimbur_carry_back(const uint8_t *sheet, hocsimbur_size sheet_bytes, uint8_t *buffer, hocsimbur_size buffer_bytes,
+                             hocsimbur_size *place, hocsimbur_size place_numbers);
 
 /* The soil from four-pin readings: a distance in mm and a resistance in milliohms in turn. Answers 7, the count of numbers: lower
  * and upper end of the least, the greatest and the mean apparent resistivity in micro-ohm metres, and the value for the column
  * soil. Refusals 12, 13, 14, then 8. */
-int64_t hocsimbur_soil(const uint32_t *readings, size_t readings_numbers, int64_t *numbers, size_t numbers_numbers, size_t *place,
-                       size_t place_numbers);
+int64_t hocsimbur_soil(const uint32_t *readings, hocsimbur_size readings_numbers, int64_t *numbers, hocsimbur_size numbers_numbers,
+                       hocsimbur_size *place, hocsimbur_size place_numbers);
 
 /* The split from a staged test: in-phase and quadrature part in milliamperes of the injected current, then of 1 to 16 branches.
  * Answers 3, the count of numbers: the grid's in-phase and quadrature part in milliamperes, and the split in per mille. Refusals
  * 17, 18, 19, then 8. */
-int64_t hocsimbur_split(const int64_t *parts, size_t parts_numbers, int64_t *numbers, size_t numbers_numbers, size_t *place,
-                        size_t place_numbers);
+int64_t hocsimbur_split(const int64_t *parts, hocsimbur_size parts_numbers, int64_t *numbers, hocsimbur_size numbers_numbers,
+                        hocsimbur_size *place, hocsimbur_size place_numbers);
 
 /* The number at a place of a row of the buffer that hocsimbur_rows filled. */
 static inline int64_t hocsimbur_read(const uint8_t *buffer, size_t row, enum hocsimbur_number number) {

@@ -172,9 +172,10 @@ class Header(unittest.TestCase):
 
     text = (ROOT / "include/hocsimbur.h").read_text("ascii")
     source = "".join((ROOT / f"crates/{crate}/src/lib.rt").read_text("utf-8") for crate in ("c_entry", "c_questions", "c_lines"))
+    length = "hocsimbur_size "
     forms = {
-        "&[u8]": ["const uint8_t *", "size_t "], "&[u32]": ["const uint32_t *", "size_t "], "&[i64]": ["const int64_t *", "size_t "],
-        "&mut [u8]": ["uint8_t *", "size_t "], "&mut [i64]": ["int64_t *", "size_t "], "&mut [usize]": ["size_t *", "size_t "],
+        "&[u8]": ["const uint8_t *", length], "&[u32]": ["const uint32_t *", length], "&[i64]": ["const int64_t *", length],
+        "&mut [u8]": ["uint8_t *", length], "&mut [i64]": ["int64_t *", length], "&mut [usize]": ["hocsimbur_size *", length],
         "u32": ["uint32_t "]}
     answers = {"i64": "int64_t", "u32": "uint32_t"}
 
