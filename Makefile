@@ -3,9 +3,10 @@
 #
 #   make                              the libraries and the example; ./hocsimbur then runs from here
 #   make install PREFIX=/usr/local    also LIBDIR, INCLUDEDIR, MANDIR, BINDIR, PYTHONDIR, DESTDIR; uninstall takes the same
-#   make wheel                        target/wheel/hocsimbur-VERSION-py3-none-linux_x86_64.whl, with the library inside
-#   make dist                         target/dist/hocsimbur-VERSION.tar.gz
-#   make check                        what the gate runs of it
+#   make targets                      the library for Windows, Linux on aarch64 and WebAssembly (host/targets.mk)
+#   make wheel                        target/wheel/hocsimbur-VERSION-py3-none-PLATFORM.whl, with the library inside
+#   make dist                         target/dist/hocsimbur-VERSION-PLATFORM.tar.gz or .zip
+#   make check                        what the gate runs of it; make check-targets for the other platforms
 PREFIX ?= /usr/local
 LIBDIR ?= $(PREFIX)/lib
 INCLUDEDIR ?= $(PREFIX)/include
@@ -39,8 +40,7 @@ WRAP = -Wl,--wrap=hocsimbur_rows,--wrap=hocsimbur_rows_at
 
 # what a customer gets beside the libraries
 PROGRAMS = verdict rows margins summary fewest carry carry_back
-MANUAL = $(firstword $(wildcard docs/manual.md) README.md)
-DIST = hocsimbur-$(VERSION)
+PLATFORMS = linux-x86_64 linux-aarch64 windows-x86_64 wasm32
 
 .NOTPARALLEL:
 .PHONY: all libraries install uninstall clean dist wheel panel harness sanitized wrong wrong-names check check-python
@@ -54,9 +54,6 @@ target/proved: crates.txt $(shell find crates -name '*.rt' -o -name '*.antt')
 	bash .ci/in_memory rt check c_entry c_questions c_lines
 	touch $@
 
-target/staticlib/lib%.a: target/proved
-	bash .ci/in_memory rt staticlib $*
-
 $(STATIC_LIBRARY): $(ARCHIVES)
 	rm -rf $(OUT)/objects
 	mkdir -p $(OUT)/objects
@@ -64,8 +61,15 @@ $(STATIC_LIBRARY): $(ARCHIVES)
 	rm -f $@
 	ar rcsD $@ $(OUT)/objects/*.o
 
-$(SHARED_LIBRARY): $(STATIC_LIBRARY) host/hocsimbur.map
-	$(CC) $(LDFLAGS) -shared -Wl,-soname,$(SONAME) -Wl,--version-script=host/hocsimbur.map -Wl,-z,defs,-z,text,-z,now \
+# the entries of host/symbols.txt and nothing else
+$(OUT)/hocsimbur.map: host/symbols.txt include/hocsimbur.h
+	mkdir -p $(OUT)
+	{ printf 'HOCSIMBUR_%s {\n    global:\n' $(firstword $(subst ., ,$(VERSION))); \
+	  sed 's/.*/        &;/' host/symbols.txt; \
+	  printf '    local:\n        *;\n};\n'; } > $@
+
+$(SHARED_LIBRARY): $(STATIC_LIBRARY) $(OUT)/hocsimbur.map
+	$(CC) $(LDFLAGS) -shared -Wl,-soname,$(SONAME) -Wl,--version-script=$(OUT)/hocsimbur.map -Wl,-z,defs,-z,text,-z,now \
 	    -Wl,--whole-archive $(STATIC_LIBRARY) -Wl,--no-whole-archive -o $@
 	ln -sf $(SHARED) $(OUT)/$(SONAME)
 	ln -sf $(SONAME) $(OUT)/libhocsimbur.so
@@ -122,18 +126,21 @@ uninstall:
 	    $(DESTDIR)$(LIBDIR)/pkgconfig/hocsimbur-static.pc $(DESTDIR)$(MANDIR)/man1/hocsimbur.1 $(DESTDIR)$(BINDIR)/hocsimbur
 
 clean:
-	rm -rf $(OUT) target/dist target/wheel target/proved $(ARCHIVES)
+	rm -rf $(OUT) $(BITCODE) $(WINDOWS) $(AARCH64) $(WASM) target/kit target/dist target/wheel target/proved $(ARCHIVES)
 
-wheel: libraries
-	$(PYTHON) python/make_wheel.py $(VERSION) $(SHARED_LIBRARY) target/wheel
+wheel: libraries targets
+	$(PYTHON) python/make_wheel.py $(VERSION) linux-x86_64 $(SHARED_LIBRARY) target/wheel
+	$(PYTHON) python/make_wheel.py $(VERSION) linux-aarch64 $(AARCH64)/$(SHARED) target/wheel
+	$(PYTHON) python/make_wheel.py $(VERSION) windows-x86_64 $(WINDOWS)/hocsimbur.dll target/wheel
 
 target/bin/%:
 	bash .ci/in_memory rt check $*
 
-dist: libraries $(PROGRAMS:%=target/bin/%)
+dist: wheel $(PROGRAMS:%=target/bin/%)
 	rm -rf target/dist
-	bash host/dist.sh target/dist/$(DIST) $(VERSION) $(MANUAL) $(PROGRAMS)
-	tar -C target/dist --sort=name --owner=0 --group=0 --numeric-owner --mtime=@0 -czf target/dist/$(DIST).tar.gz $(DIST)
+	for platform in $(PLATFORMS); do \
+	    bash host/dist.sh $$platform target/dist/hocsimbur-$(VERSION)-$$platform $(VERSION) $(PROGRAMS) || exit 1; \
+	done
 
 check: libraries panel harness sanitized wrong
 	bash host/check.sh
@@ -142,3 +149,5 @@ check: libraries panel harness sanitized wrong
 # the tests of the package ask the library that was built here
 check-python: libraries
 	HOCSIMBUR_LIBRARY= $(PYTHON) -m unittest discover -s python/tests -t python
+
+include host/targets.mk

@@ -18,7 +18,8 @@ nm -D --defined-only "$out/libhocsimbur.so" | awk '$2 == "T" { sub(/@.*/, "", $3
 diff host/symbols.txt "$work/exported" || fail "the shared library exports other symbols than host/symbols.txt"
 nm -g --defined-only "$out/libhocsimbur.a" | awk '$2 == "T" { print $3 }' | sort >"$work/exported"
 diff host/symbols.txt "$work/exported" || fail "the archive exports other symbols than host/symbols.txt"
-readelf -d "$out/libhocsimbur.so" | grep -q 'soname: \[libhocsimbur.so.1\]' || fail "another soname"
+version=$(sed -n 's/^.define HOCSIMBUR_VERSION \([0-9]*\).*/\1/p' include/hocsimbur.h)
+readelf -d "$out/libhocsimbur.so" | grep -q "soname: \[libhocsimbur.so.$((version / 10000))\]" || fail "another soname"
 echo "host: exported are the $(wc -l <host/symbols.txt) symbols of host/symbols.txt"
 
 # the sources by other eyes; one that this machine does not have is named, and not asked
@@ -133,7 +134,7 @@ python3 tests/entries.py
 
 # a release, unpacked in an empty folder and checked with nothing of the kit on the path
 make -s dist
-archive=$(echo target/dist/*.tar.gz)
+archive=$(echo target/dist/*-linux-x86_64.tar.gz)
 mkdir "$work/empty"
 tar -C "$work/empty" -xzf "$archive"
 env -i PATH=/usr/bin:/bin make -s -C "$work"/empty/* check

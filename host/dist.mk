@@ -1,7 +1,8 @@
-# A release of Hocsimbur for x86-64 Linux: libraries, header, man pages, manual, examples, programs and the command ./hocsimbur. Needs cc
-# and make; the command needs Python 3.9 or newer.
+# A release of Hocsimbur for Linux: libraries, header, man pages, documentation, examples and the command ./hocsimbur; on x86-64 also the
+# programs. Needs cc and make; the command needs Python 3.9 or newer.
 #
-#   make check                        the checksums, the example by both libraries, a program and the command, beside their stored lines
+#   make check                        the checksums, the example by both libraries, a program and the command, against their stored lines;
+#                                     with CC a cross compiler, RUN is what runs the example
 #   make install PREFIX=/usr/local    also LIBDIR, INCLUDEDIR, MANDIR, BINDIR, PYTHONDIR, DESTDIR; uninstall takes the same
 PREFIX ?= /usr/local
 LIBDIR ?= $(PREFIX)/lib
@@ -12,6 +13,7 @@ PYTHONDIR ?= $(PREFIX)/share/hocsimbur
 CC ?= cc
 CFLAGS ?= -O2
 LDFLAGS ?=
+RUN ?=
 VERSION = @VERSION@
 SONAME = libhocsimbur.so.$(firstword $(subst ., ,$(VERSION)))
 SHARED = libhocsimbur.so.$(VERSION)
@@ -34,12 +36,12 @@ build/panel-shared: examples/panel.c include/hocsimbur.h lib/$(SHARED)
 check: all
 	sha256sum --quiet -c SHA256SUMS
 	for panel in build/panel build/panel-shared; do \
-	    $$panel examples/sample.csv | cmp - examples/panel/sample.out || exit 1; \
-	    $$panel examples/panel/refused.csv > build/lines; test $$? -eq 1 || exit 1; \
+	    $(RUN) $$panel examples/sample.csv | cmp - examples/panel/sample.out || exit 1; \
+	    $(RUN) $$panel examples/panel/refused.csv > build/lines; test $$? -eq 1 || exit 1; \
 	    cmp build/lines examples/panel/refused.out || exit 1; \
 	done
-	bin/verdict < examples/sample.csv | cmp - examples/sample.verdicts
-	! command -v python3 > /dev/null || ./hocsimbur verdict --csv examples/sample.csv | cmp - examples/sample.verdicts
+	test ! -e bin/verdict || bin/verdict < examples/sample.csv | cmp - examples/sample.verdicts
+	test -n "$(RUN)" || ! command -v python3 > /dev/null || ./hocsimbur verdict --csv examples/sample.csv | cmp - examples/sample.verdicts
 	@echo "hocsimbur $(VERSION): checked"
 
 install:

@@ -1,5 +1,6 @@
-"""Writes the wheel of the package, with the shared library inside: python3 python/make_wheel.py VERSION LIBRARY FOLDER
+"""Writes the wheel of the package, with the shared library inside: python3 python/make_wheel.py VERSION PLATFORM LIBRARY FOLDER
 
+The platform is linux-x86_64, linux-aarch64 or windows-x86_64.
 The standard library alone; the same sources and library give the same bytes."""
 from __future__ import annotations
 
@@ -11,7 +12,7 @@ import zipfile
 from typing import Dict, Tuple
 
 PACKAGE = pathlib.Path(__file__).resolve().parent / "hocsimbur"
-TAG = "py3-none-linux_x86_64"
+TAGS = {"linux-x86_64": "linux_x86_64", "linux-aarch64": "linux_aarch64", "windows-x86_64": "win_amd64"}
 METADATA = """Metadata-Version: 2.1
 Name: hocsimbur
 Version: {version}
@@ -20,10 +21,10 @@ Requires-Python: >=3.9
 Provides-Extra: xlsx
 Requires-Dist: openpyxl; extra == 'xlsx'
 """
-WHEEL = f"""Wheel-Version: 1.0
+WHEEL = """Wheel-Version: 1.0
 Generator: hocsimbur make_wheel
 Root-Is-Purelib: false
-Tag: {TAG}
+Tag: {tag}
 """
 SCRIPTS = """[console_scripts]
 hocsimbur = hocsimbur.cli:main
@@ -31,12 +32,23 @@ hocsimbur = hocsimbur.cli:main
 Files = Dict[str, Tuple[bytes, int]]  # bytes and rights by name
 
 
-def files(version: str, library: pathlib.Path) -> Files:
+def tag(platform: str) -> str:
+    """The tag of a wheel for a platform."""
+    return f"py3-none-{TAGS[platform]}"
+
+
+def library_name(version: str, platform: str) -> str:
+    """The file of the library, by which the package finds it."""
+    return "hocsimbur.dll" if platform.startswith("windows-") else f"libhocsimbur.so.{version.split('.', maxsplit=1)[0]}"
+
+
+def files(version: str, platform: str, library: pathlib.Path) -> Files:
     """What the wheel holds, but for its record."""
     info = f"hocsimbur-{version}.dist-info"
     found: Files = {f"hocsimbur/{path.name}": (path.read_bytes(), 0o644) for path in sorted(PACKAGE.glob("*.py"))}
-    found["hocsimbur/libhocsimbur.so.1"] = (library.read_bytes(), 0o755)
-    for name, text in (("METADATA", METADATA.format(version=version)), ("WHEEL", WHEEL), ("entry_points.txt", SCRIPTS)):
+    found[f"hocsimbur/{library_name(version, platform)}"] = (library.read_bytes(), 0o755)
+    texts = {"METADATA": METADATA.format(version=version), "WHEEL": WHEEL.format(tag=tag(platform)), "entry_points.txt": SCRIPTS}
+    for name, text in texts.items():
         found[f"{info}/{name}"] = (text.encode(), 0o644)
     return found
 
@@ -49,13 +61,13 @@ def record(found: Files, name: str) -> bytes:
     return "".join(line + "\n" for line in lines).encode()
 
 
-def build(version: str, library: pathlib.Path, folder: pathlib.Path) -> pathlib.Path:
+def build(version: str, platform: str, library: pathlib.Path, folder: pathlib.Path) -> pathlib.Path:
     """Writes the wheel into a folder and answers its path."""
-    found = files(version, library)
+    found = files(version, platform, library)
     name = f"hocsimbur-{version}.dist-info/RECORD"
     found[name] = (record(found, name), 0o644)
     folder.mkdir(parents=True, exist_ok=True)
-    wheel = folder / f"hocsimbur-{version}-{TAG}.whl"
+    wheel = folder / f"hocsimbur-{version}-{tag(platform)}.whl"
     with zipfile.ZipFile(wheel, "w", zipfile.ZIP_DEFLATED) as archive:
         for one, (data, rights) in found.items():
             entry = zipfile.ZipInfo(one, (1980, 1, 1, 0, 0, 0))
@@ -66,11 +78,11 @@ def build(version: str, library: pathlib.Path, folder: pathlib.Path) -> pathlib.
 
 
 def main() -> int:
-    if len(sys.argv) != 4:
-        print(__doc__.split("\n")[0], file=sys.stderr)
+    if len(sys.argv) != 5 or sys.argv[2] not in TAGS:
+        print("\n".join(__doc__.split("\n")[:3]), file=sys.stderr)
         return 3
-    version, library, folder = sys.argv[1:]
-    print(build(version, pathlib.Path(library), pathlib.Path(folder)))
+    version, platform, library, folder = sys.argv[1:]
+    print(build(version, platform, pathlib.Path(library), pathlib.Path(folder)))
     return 0
 
 

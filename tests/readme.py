@@ -1,9 +1,9 @@
-"""Runs every command that README.md and docs/manual.md show after a `$` and holds it to printing exactly the lines below it, and
-the lines of Rattle of docs/api.md to those of the crate `caller`.
+"""Runs every command that README.md and docs/manual.md show after a `$`, and the lines of JavaScript of docs/api.md, and holds each to
+printing exactly the lines below it; and the lines of Rattle of docs/api.md to those of the crate `caller`.
 
     python3 tests/readme.py
 
-It needs the built programs. What is wrong is printed, and the exit status is then 1.
+It needs the built programs and libraries, and node. What is wrong is printed, and the exit status is then 1.
 """
 
 import re
@@ -54,8 +54,26 @@ def judge_rattle(text, caller):
     return [] if len(rattle) == 1 and rattle[0] in caller else ["the lines of Rattle are not those of the crate caller"]
 
 
+def javascript(text):
+    """The lines of JavaScript shown, and what they print."""
+    found = re.findall(r"^```js\n(.*?)^```\n\nIt prints:\n\n((?:    [^\n]*\n)+)", text, flags=re.MULTILINE | re.DOTALL)
+    return [(program, re.sub(f"^{BLOCK}", "", lines, flags=re.MULTILINE)) for program, lines in found]
+
+
+def printed_by_node(program):
+    done = subprocess.run(["node", "--input-type=module", "-"], cwd=ROOT, capture_output=True, input=program, timeout=RUN_SECONDS, text=True)
+    return done.stdout + done.stderr
+
+
+def judge_javascript(text, run):
+    """What is wrong with the lines of JavaScript, where they are run so."""
+    shown = javascript(text)
+    return [] if len(shown) == 1 and run(shown[0][0]) == shown[0][1] else ["the lines of JavaScript print something else"]
+
+
 def main():
-    count, wrong = 0, judge_rattle(API.read_text(encoding="utf-8"), CALLER.read_text(encoding="utf-8"))
+    api = API.read_text(encoding="utf-8")
+    count, wrong = 0, judge_rattle(api, CALLER.read_text(encoding="utf-8")) + judge_javascript(api, printed_by_node)
     for paper in PAPERS:
         text = paper.read_text(encoding="utf-8")
         count += len(commands(text))
@@ -63,7 +81,7 @@ def main():
     for complaint in wrong:
         print(f"papers: {complaint}")
     if not wrong:
-        print(f"papers: {count} commands print what is shown")
+        print(f"papers: {count} commands and the lines of JavaScript print what is shown")
     return 1 if wrong else 0
 
 

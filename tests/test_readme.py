@@ -23,6 +23,18 @@ Between
 fn may() {
 }
 ```
+
+```js
+one();
+two();
+```
+
+It prints:
+
+    1
+    2
+
+After
 """
 CALLER = "use a;\n\nfn may() {\n}\n"
 PRINTED = {"first < sheet": "one\ntwo\n", "second": "", "third": "three\n"}
@@ -48,6 +60,13 @@ class Commands(unittest.TestCase):
         self.assertEqual(readme.judge_rattle(TEXT, CALLER), [])
         for text in (TEXT.replace("may", "must"), TEXT.replace("```rust", "```c")):
             self.assertEqual(readme.judge_rattle(text, CALLER), ["the lines of Rattle are not those of the crate caller"])
+
+
+    def test_other_lines_of_javascript(self):
+        self.assertEqual(readme.judge_javascript(TEXT, {"one();\ntwo();\n": "1\n2\n"}.get), [])
+        self.assertEqual(readme.judge_javascript(TEXT, lambda program: "1\n2\n3\n"), ["the lines of JavaScript print something else"])
+        self.assertEqual(readme.judge_javascript(TEXT.replace("```js", "```c"), lambda program: "1\n2\n"),
+                         ["the lines of JavaScript print something else"])
 
 
 class Stored(unittest.TestCase):

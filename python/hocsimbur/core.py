@@ -10,8 +10,11 @@ import ctypes
 import enum
 import os
 import pathlib
+import sys
 from dataclasses import dataclass, fields
 from typing import List, NamedTuple, Optional, Sequence, Tuple
+
+from . import __version__
 
 LINES = 256          # most value lines of a sheet
 SHEET_BYTES = 65536  # most bytes of a sheet
@@ -148,13 +151,18 @@ class Split:
     split: int
 
 
+def _library_name(system: str) -> str:
+    """The file of the shared library, as `sys.platform` names the system."""
+    return "hocsimbur.dll" if system == "win32" else f"libhocsimbur.so.{__version__.split('.', maxsplit=1)[0]}"
+
+
 def _library() -> ctypes.CDLL:
     """The shared library: the one that HOCSIMBUR_LIBRARY names, the one inside this package, the one of a checkout, or the system's."""
-    here = pathlib.Path(__file__).resolve().parent
+    here, name = pathlib.Path(__file__).resolve().parent, _library_name(sys.platform)
     named = os.environ.get("HOCSIMBUR_LIBRARY")
     places = [named] if named else [
-        str(place) for place in (here / "libhocsimbur.so.1", here.parents[1] / "target" / "host" / "libhocsimbur.so.1") if place.exists()
-    ] + ["libhocsimbur.so.1"]
+        str(place) for place in (here / name, here.parents[1] / "target" / "host" / name) if place.exists()
+    ] + [name]
     told = []
     for place in places:
         try:

@@ -16,7 +16,7 @@ from hocsimbur import __version__, core
 
 from .common import PYTHON, ROOT
 
-BUILT = ROOT / "target" / "host" / "libhocsimbur.so.1"
+BUILT = ROOT / "target" / "host" / core._library_name("linux")
 STANDARD = {
     "__future__", "argparse", "contextlib", "csv", "ctypes", "dataclasses", "datetime", "decimal", "difflib", "enum", "fractions", "functools",
     "hashlib", "html", "io", "itertools", "math", "os", "pathlib", "re", "shlex", "stat", "sys", "tempfile", "typing",
@@ -34,7 +34,7 @@ class Wheel(unittest.TestCase):
         kept = tempfile.TemporaryDirectory()
         cls.addClassCleanup(kept.cleanup)
         cls.folder = pathlib.Path(kept.name)
-        cls.wheel = make_wheel.build(__version__, library(), cls.folder / "wheel")
+        cls.wheel = make_wheel.build(__version__, "linux-x86_64", library(), cls.folder / "wheel")
         venv.create(cls.folder / "venv", symlinks=True)
         cls.bin = cls.folder / "venv" / "bin"
         subprocess.run([sys.executable, "-m", "pip", "--quiet", "--disable-pip-version-check", "--python", str(cls.bin / "python"), "install",
@@ -64,7 +64,7 @@ class Wheel(unittest.TestCase):
         self.assertTrue(done.stdout.startswith(str(self.folder.resolve() / "venv")), done.stdout)
 
     def test_the_same_bytes(self):
-        again = make_wheel.build(__version__, library(), self.folder / "again")
+        again = make_wheel.build(__version__, "linux-x86_64", library(), self.folder / "again")
         self.assertEqual(again.read_bytes(), self.wheel.read_bytes())
 
     def test_every_module_is_inside(self):
@@ -72,7 +72,16 @@ class Wheel(unittest.TestCase):
             self.assertIsNone(archive.testzip())
             names = set(archive.namelist())
         self.assertLessEqual({f"hocsimbur/{path.name}" for path in (PYTHON / "hocsimbur").glob("*.py")}, names)
-        self.assertIn("hocsimbur/libhocsimbur.so.1", names)
+        self.assertIn(f"hocsimbur/{core._library_name(sys.platform)}", names)
+
+    def test_other_platforms(self):
+        """The tag and the library's name are the platform's, and the package looks for that name there."""
+        for platform, system, tag in (("linux-aarch64", "linux", "py3-none-linux_aarch64"), ("windows-x86_64", "win32", "py3-none-win_amd64")):
+            wheel = make_wheel.build(__version__, platform, library(), self.folder / platform)
+            self.assertTrue(wheel.name.endswith(f"-{tag}.whl"), wheel.name)
+            with zipfile.ZipFile(wheel) as archive:
+                self.assertIn(f"hocsimbur/{core._library_name(system)}", archive.namelist())
+                self.assertIn(f"Tag: {tag}\n", archive.read(f"hocsimbur-{__version__}.dist-info/WHEEL").decode())
 
 
 class Sources(unittest.TestCase):
