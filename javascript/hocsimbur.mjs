@@ -156,8 +156,6 @@ export class Hocsimbur {
   // what an entry with a place answers: what `take` makes of its count, or the refusal
   #answer(entry, handed, take) {
     const { at, view } = this.#library();
-    view.setBigUint64(at.place, 0n, true);
-    view.setBigUint64(at.place + 8, 0n, true);
     const count = Number(this.#call(entry, ...handed, at.place, 2n));
     return count >= 0 ? take(count) : { refused: { number: -count, line: number(view, at.place), column: number(view, at.place + 8) } };
   }

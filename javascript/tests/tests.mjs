@@ -47,7 +47,7 @@ test('a sheet is a string, bytes or a buffer, wherever its bytes stand', () => {
 test('a sheet that is too long is refused and never cut, also between the bytes of a character', () => {
   const line = SAMPLE.toString(), starts = ['', 'x', 'xx', 'xxx', line];
   const wide = ['é', '€', '😀'].flatMap((sign) => starts.map((start) => start + sign.repeat(70000)));
-  for (const text of [...wide, line.padEnd(SHEET_BYTES + 1, '\n')]) {
+  for (const text of [...wide, line.padEnd(SHEET_BYTES + 1, '\n'), `${line.padEnd(SHEET_BYTES, '\n')}é`]) {
     assert.deepEqual(library.rows(text), { refused: { number: 1, line: 0, column: 0 } });
   }
   const most = line.padEnd(SHEET_BYTES, '\n');
