@@ -51,7 +51,7 @@ static int64_t ask(const struct question *q) {
         fill(written[k], length_of(q, k) + 2 * EDGE, q->seed + (uint64_t)k);
     const uint8_t *sheet = lent(q, reading + EDGE + q->shift, q->read);
     const void *list = lent(q, reading + EDGE, q->read);
-    const uint32_t *pairs = lent(q, licence + EDGE, q->licence);
+    const uint32_t *numbers = lent(q, licence + EDGE, q->licence);
     uint8_t *buffer = lent(q, start_of(q, 0), q->first);
     int64_t *first = lent(q, start_of(q, 0), q->first), *second = lent(q, start_of(q, 1), q->second);
     hocsimbur_size *place = lent(q, start_of(q, 2), q->place), room = q->first / 8, told = q->place / 8;
@@ -65,7 +65,7 @@ static int64_t ask(const struct question *q) {
     case SUMMARY:
         return hocsimbur_summary(sheet, q->read, first, room, second, q->second / 8, place, told);
     case RELEASE:
-        return hocsimbur_release(sheet, q->read, pairs, q->licence / 4, first, room, place, told);
+        return hocsimbur_release(sheet, q->read, numbers, q->licence / 4, first, room, place, told);
     case MARGINS:
         return hocsimbur_margins(sheet, q->read, first, room, place, told);
     case WORKING:
@@ -147,13 +147,14 @@ static void record_sheet(struct chance *c, const void *text, size_t bytes, size_
             continue;
         size_t need = entry == FEWEST ? 24 : widths[entry] * lines;
         if (entry == RELEASE) {
-            uint32_t pairs[256][2], count = 1 + (uint32_t)number_below(c, (int)(lines < 200 ? lines + 2 : 250));
+            uint32_t stations[256][3], count = 1 + (uint32_t)number_below(c, (int)(lines < 200 ? lines + 2 : 250));
             for (uint32_t i = 0; i < count; i++) {
-                pairs[i][0] = number_below(c, 300) == 0 ? (uint32_t)next_number(c) : i + 1;
-                pairs[i][1] = number_below(c, 100) == 0 ? (uint32_t)number_below(c, 20) : 1 + (uint32_t)number_below(c, 15);
+                stations[i][0] = number_below(c, 300) == 0 ? (uint32_t)next_number(c) : i + 1;
+                stations[i][1] = number_below(c, 100) == 0 ? (uint32_t)number_below(c, 20) : 1 + (uint32_t)number_below(c, 15);
+                stations[i][2] = number_below(c, 2) == 0 ? 0 : (uint32_t)number_below(c, number_below(c, 200) == 0 ? 2100 : 2001);
             }
-            q.licence = 8 * count - (number_below(c, 40) == 0 ? 4 : 0);
-            memcpy(licence + EDGE, pairs, q.licence);
+            q.licence = 12 * count - (number_below(c, 40) == 0 ? 4 : 0);
+            memcpy(licence + EDGE, stations, q.licence);
             need = 64 * count;
         }
         if (entry == CARRY || entry == CARRY_BACK)

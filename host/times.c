@@ -116,19 +116,20 @@ static void ask_headroom(const char *text, size_t bytes) {
 
 /* a licence for each station of the sheet, which stand one after the other, with the seasons of its lines */
 static void ask_release(const char *text, size_t bytes, const struct grounding_case *cases, size_t count) {
-    static uint32_t licence[2 * HOCSIMBUR_LINES];
+    static uint32_t licence[HOCSIMBUR_LICENCE_NUMBERS * HOCSIMBUR_LINES];
     static int64_t table[8 * HOCSIMBUR_LINES];
-    size_t pairs = 0;
+    size_t stations = 0;
     for (size_t i = 0; i < count; i++) {
         const int *v = cases[i].value;
-        if (pairs == 0 || licence[2 * pairs - 2] != (uint32_t)v[STATION]) {
-            licence[2 * pairs] = (uint32_t)v[STATION];
-            licence[2 * pairs + 1] = 0;
-            pairs++;
+        if (stations == 0 || licence[3 * stations - 3] != (uint32_t)v[STATION]) {
+            licence[3 * stations] = (uint32_t)v[STATION];
+            licence[3 * stations + 1] = 0;
+            licence[3 * stations + 2] = 0;
+            stations++;
         }
-        licence[2 * pairs - 1] |= UINT32_C(1) << (v[SEASON] - 1);
+        licence[3 * stations - 2] |= UINT32_C(1) << (v[SEASON] - 1);
     }
-    kept += (double)hocsimbur_release((const uint8_t *)text, bytes, licence, 2 * pairs, table, 8 * HOCSIMBUR_LINES, NULL, 0);
+    kept += (double)hocsimbur_release((const uint8_t *)text, bytes, licence, 3 * stations, table, 8 * HOCSIMBUR_LINES, NULL, 0);
 }
 
 void run_ask(const char *question, const char *path) {

@@ -139,8 +139,11 @@ export declare class Hocsimbur {
   working(sheet: Sheet): Working[] | Refused;
   /** For each value line the greatest fault current in A at which it, all else equal, is answered safe; 0 where there is none. */
   headroom(sheet: Sheet): number[] | Refused;
-  /** Pairs of a station and its seasons, in which seasons 1 to 4 count 1, 2, 4 and 8. */
-  release(sheet: Sheet, licence: [number, number][]): Release[] | Refused;
+  /**
+   * A station, its seasons, in which seasons 1 to 4 count 1, 2, 4 and 8, and its conductor's own cross-section in whole kcmil, rounded
+   * down; 0 or none stands for a solid round wire of the line's diameter.
+   */
+  release(sheet: Sheet, licence: [number, number, number?][]): Release[] | Refused;
   /** The side in mm of a square yard, all else as in the sheet's one value line. */
   fewest(sheet: Sheet, side: number): Fewest | Refused;
   /** A sheet of the former 18 names as one of today's 22, and back. */

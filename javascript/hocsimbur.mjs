@@ -25,7 +25,7 @@ const SPLIT = fields(['in_phase', 'quadrature', 'split']);
 
 // What is lent to the library, in bytes and in this order from a place that is a multiple of 8. A sheet or a list that is longer than any
 // that the library takes is handed over one byte or number too long, and refused by it.
-const ROOM = { out: 65536, stations: 8 * 6 * LINES, list: 4 * (512 + 2), place: 16, sheet: SHEET_BYTES + 1 };
+const ROOM = { out: 65536, stations: 8 * 6 * LINES, list: 4 * (768 + 3), place: 16, sheet: SHEET_BYTES + 1 };
 
 function fields(first, pairs = [], last = []) {
   return { first, pairs, last, numbers: first.length + 2 * pairs.length + last.length };
@@ -100,9 +100,10 @@ export class Hocsimbur {
     return answers.refused ? answers : answers.map((one) => one.fault);
   }
 
-  // which stations may be released; the licence is pairs of a station and its seasons, in which seasons 1 to 4 count 1, 2, 4 and 8
+  // which stations may be released; the licence has of each station its number, its seasons, in which seasons 1 to 4 count 1, 2, 4 and 8,
+  // and its conductor's own cross-section in whole kcmil, rounded down; 0 or none stands for a solid round wire of the line's diameter
   release(sheet, licence) {
-    const list = this.#list(licence.flat(), 4, 512, 0, 0xFFFFFFFF), table = [this.#library().at.out, BigInt(RELEASE.numbers * LINES)];
+    const list = this.#list(licence.flatMap((one) => [...one, 0].slice(0, 3)), 4, 768, 0, 0xFFFFFFFF), table = [this.#library().at.out, BigInt(RELEASE.numbers * LINES)];
     const answers = this.#records('release', RELEASE, [...this.#sheet(sheet), ...list, ...table]);
     return answers.refused ? answers : answers.map((one) => ({ ...one, released: one.released === 1 }));
   }

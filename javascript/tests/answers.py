@@ -53,9 +53,10 @@ def questions():
             yield asked(method, getattr(core, method), sheet)
         yield asked("summary", summary, sheet)
         yield asked("carryBack", core.carry_back, sheet)
-        yield asked("release", core.release, sheet, [[7, 3], [8, 15], [9, 1]])
+        yield asked("release", core.release, sheet, [[7, 3], [8, 15, 211], [9, 1, 0]])
         yield asked("fewest", core.fewest, sheet, 70000)
-    for licence in ([], [[7, 0]], [[7, 16]], [[7, 3], [7, 3]], [[number, 1] for number in range(1, 258)], [[0, 1]], [[4294967295, 1]],
+    for licence in ([], [[7, 0]], [[7, 16]], [[7, 3], [7, 3]], [[7, 3, 16]], [[7, 3, 17]], [[7, 3, 2000]],
+                    [[7, 3, 2001]], [[number, 1] for number in range(1, 258)], [[0, 1]], [[4294967295, 1]],
                     [[7]]):
         yield asked("release", core.release, sheets[0], licence)
     for side in (0, 2499, 2500, 720000, 720001, 4294967295):
