@@ -5,7 +5,7 @@ cd "$(dirname "$0")/.."
 folder=$1 version=$2 manual=$3
 shift 3
 shared=libhocsimbur.so.$version
-mkdir -p "$folder"/{include,lib,man/man1,man/man3,bin,examples/panel,examples/site,python/hocsimbur}
+mkdir -p "$folder"/{include,lib,man/man1,man/man3,bin,examples/panel,examples/site,python/hocsimbur/{sheets,portfolio,report,command}}
 install -m 644 include/hocsimbur.h "$folder/include/"
 install -m 644 target/host/libhocsimbur.a "$folder/lib/"
 install -m 755 "target/host/$shared" "$folder/lib/"
@@ -13,8 +13,11 @@ install -m 644 host/hocsimbur.pc.in host/hocsimbur-static.pc.in "$folder/lib/"
 install -m 644 host/hocsimbur.3 "$folder/man/man3/"
 install -m 644 host/hocsimbur.1 "$folder/man/man1/"
 install -m 755 hocsimbur "$folder/"
-install -m 644 host/hocsimbur.in python/hocsimbur/*.py "$folder/python/hocsimbur/"
-mv "$folder/python/hocsimbur/hocsimbur.in" "$folder/python/"
+install -m 644 host/hocsimbur.in "$folder/python/"
+install -m 644 python/hocsimbur/*.py python/hocsimbur/py.typed "$folder/python/hocsimbur/"
+for package in sheets portfolio report command; do
+    install -m 644 python/hocsimbur/$package/*.py "$folder/python/hocsimbur/$package/"
+done
 ln -s "../../lib/$shared" "$folder/python/hocsimbur/libhocsimbur.so.${version%%.*}"
 install -m 644 "$manual" "$folder/manual.md"
 install -m 644 examples/*.csv examples/panel.c "$folder/examples/"

@@ -26,7 +26,7 @@ Root-Is-Purelib: false
 Tag: {TAG}
 """
 SCRIPTS = """[console_scripts]
-hocsimbur = hocsimbur.cli:main
+hocsimbur = hocsimbur.command.cli:main
 """
 Files = Dict[str, Tuple[bytes, int]]  # bytes and rights by name
 
@@ -34,7 +34,8 @@ Files = Dict[str, Tuple[bytes, int]]  # bytes and rights by name
 def files(version: str, library: pathlib.Path) -> Files:
     """What the wheel holds, but for its record."""
     info = f"hocsimbur-{version}.dist-info"
-    found: Files = {f"hocsimbur/{path.name}": (path.read_bytes(), 0o644) for path in sorted(PACKAGE.glob("*.py"))}
+    inside = [*sorted(PACKAGE.rglob("*.py")), PACKAGE / "py.typed"]
+    found: Files = {path.relative_to(PACKAGE.parent).as_posix(): (path.read_bytes(), 0o644) for path in inside}
     found["hocsimbur/libhocsimbur.so.1"] = (library.read_bytes(), 0o755)
     for name, text in (("METADATA", METADATA.format(version=version)), ("WHEEL", WHEEL), ("entry_points.txt", SCRIPTS)):
         found[f"{info}/{name}"] = (text.encode(), 0o644)

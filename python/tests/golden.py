@@ -6,7 +6,8 @@ from __future__ import annotations
 
 import pathlib
 
-from hocsimbur import licence, report
+from hocsimbur.portfolio import licence
+from hocsimbur.report import document
 
 from .portfolios import LICENCE, SHEET
 
@@ -18,7 +19,7 @@ FILE = pathlib.Path(__file__).parent / "golden" / "report.html"
 def made() -> str:
     """The report that is stored."""
     granted = licence.Licence(tuple(one for one in LICENCE.stations if one.station in STATIONS))
-    return report.render(SHEET, "portfolio.csv", granted, DATE)
+    return document.render(SHEET, "portfolio.csv", granted, DATE)
 
 
 if __name__ == "__main__":

@@ -3,7 +3,8 @@ from __future__ import annotations
 
 import unittest
 
-from hocsimbur import checking, core, sheets
+from hocsimbur import core
+from hocsimbur.sheets import checking, layout
 
 from .common import SAMPLE, changed, run
 
@@ -24,7 +25,7 @@ class Check(unittest.TestCase):
         self.assertEqual(lines_told(changed(changed(fault=318000), line=3, thick=0)), [(5, 2, 10), (6, 3, 4)])
 
     def test_repeated_lines_are_all_told(self):
-        line = sheets.lines(SAMPLE)[1]
+        line = layout.lines(SAMPLE)[1]
         sheet = SAMPLE + (line + b"\n") * 2
         self.assertEqual(lines_told(sheet), [(7, 4, 0), (7, 5, 0)])
         self.assertIn("stands already in line 2", checking.check(sheet)[1].said)

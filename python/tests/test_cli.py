@@ -10,7 +10,10 @@ import sys
 import tempfile
 import unittest
 
-from hocsimbur import cli, core, help_texts, report, sheets, terminal
+from hocsimbur import core
+from hocsimbur.command import cli, help_texts, terminal
+from hocsimbur.report import document
+from hocsimbur.sheets import layout
 
 from .common import PYTHON, ROOT, SAMPLE, process, run
 
@@ -120,7 +123,7 @@ class Statuses(unittest.TestCase):
             self.assertEqual(run("report", "tests/sample.csv", "--date", "1 July 2026").out, page.read_text(encoding="utf-8"))
             self.assertIn("sample.csv, 1 July 2026", page.read_text(encoding="utf-8"))
             self.assertEqual(run("report", "-", "-o", str(page), stdin=SAMPLE).status, 2)
-            self.assertIn(f"standard input, {report.today()}", page.read_text(encoding="utf-8"))
+            self.assertIn(f"standard input, {document.today()}", page.read_text(encoding="utf-8"))
             self.assertEqual(run("report", "examples/refused-5.csv", "-o", str(page)).status, 1)
 
     def test_next_for_machines(self):
@@ -131,10 +134,10 @@ class Statuses(unittest.TestCase):
         self.assertEqual((done.status, names), (2, ["station", "change", "kind", "season", "name", "value"]))
         self.assertLess({"rods", "conductors", "spacing", "resistivity", "shock"}, {line[2] for line in lines} | {"more"})
         for number in {line[1] for line in lines}:
-            cases = [case for case in sheets.cases(sheet) if case["station"] == 104]
+            cases = [case for case in layout.cases(sheet) if case["station"] == 104]
             for _, _, _, season, name, value in (line for line in lines if line[1] == number):
                 next(case for case in cases if case["season"] == int(season))[name] = int(value)
-            self.assertEqual({row.verdict for row in core.rows(sheets.text(cases))}, {core.Verdict.SAFE})
+            self.assertEqual({row.verdict for row in core.rows(layout.text(cases))}, {core.Verdict.SAFE})
 
     def test_next_of_no_station(self):
         done = run("next", "tests/sample.csv", "--station", "8")

@@ -3,8 +3,8 @@ from __future__ import annotations
 
 import unittest
 
-from hocsimbur import licence
-from hocsimbur.licence import Licensed, LicenceRefused
+from hocsimbur.portfolio import licence
+from hocsimbur.portfolio.licence import Licensed, LicenceRefused
 
 from .portfolios import LICENCE
 

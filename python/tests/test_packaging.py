@@ -71,7 +71,7 @@ class Wheel(unittest.TestCase):
         with zipfile.ZipFile(self.wheel) as archive:
             self.assertIsNone(archive.testzip())
             names = set(archive.namelist())
-        self.assertLessEqual({f"hocsimbur/{path.name}" for path in (PYTHON / "hocsimbur").glob("*.py")}, names)
+        self.assertLessEqual({path.relative_to(PYTHON).as_posix() for path in (PYTHON / "hocsimbur").rglob("*.py")} | {"hocsimbur/py.typed"}, names)
         self.assertIn("hocsimbur/libhocsimbur.so.1", names)
 
 
@@ -79,7 +79,7 @@ class Sources(unittest.TestCase):
     """What holds of every module."""
 
     def sources(self):
-        return [(path, path.read_text(encoding="utf-8")) for path in sorted((PYTHON / "hocsimbur").glob("*.py"))]
+        return [(path, path.read_text(encoding="utf-8")) for path in sorted((PYTHON / "hocsimbur").rglob("*.py"))]
 
     def test_python_3_9_reads_them(self):
         for path, text in self.sources():
@@ -94,6 +94,22 @@ class Sources(unittest.TestCase):
                 for name in names:
                     if (path.name, name) != ("spreadsheet.py", "openpyxl"):
                         self.assertIn(name.split(".")[0], STANDARD, path.name)
+
+    def test_no_private_name_is_imported(self):
+        for path, text in self.sources():
+            for node in ast.walk(ast.parse(text)):
+                if isinstance(node, ast.ImportFrom) and node.level:
+                    for one in node.names:
+                        self.assertFalse(one.name.startswith("_") and one.name != "__version__", f"{path.name}: {one.name}")
+
+    def test_packages_are_in_layers(self):
+        """Sheets know nothing of portfolios, portfolios nothing of reports, and nothing knows the command but itself."""
+        above = {"sheets": {"portfolio", "report", "command"}, "portfolio": {"report", "command"}, "report": {"command"}}
+        for path, text in self.sources():
+            for node in ast.walk(ast.parse(text)):
+                if isinstance(node, ast.ImportFrom) and node.level == 2:
+                    named = {node.module.split(".")[0]} if node.module else {one.name for one in node.names}
+                    self.assertFalse(named & above.get(path.parent.name, set()), f"{path.parent.name}/{path.name}: {named}")
 
     def test_lines(self):
         """No line is over 140 characters outside strings; style.py is one string."""

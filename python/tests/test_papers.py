@@ -9,7 +9,8 @@ import shlex
 import subprocess
 import unittest
 
-from hocsimbur import cli, core
+from hocsimbur import core
+from hocsimbur.command import cli
 
 from .common import ROOT, run
 
@@ -66,8 +67,8 @@ class FromPython(unittest.TestCase):
         table = API.split("| module | what it has |")[1].split("\n\n")[0]
         cells = [line.split(" | ")[0] for line in table.split("\n")[2:]]
         self.assertGreater(len(cells), 5)
-        for name in re.findall(r"`(\w+)`", " ".join(cells)):
-            self.assertTrue((ROOT / "python" / "hocsimbur" / f"{name}.py").exists(), name)
+        for name in re.findall(r"`([\w.]+)`", " ".join(cells)):
+            self.assertTrue((ROOT / "python" / "hocsimbur" / f"{name.replace('.', '/')}.py").exists(), name)
 
 
 if __name__ == "__main__":

@@ -3,10 +3,11 @@ from __future__ import annotations
 
 import unittest
 
-from hocsimbur import decision, plan, reasons
+from hocsimbur.portfolio import decision, reasons
+from hocsimbur.report import plan
 from hocsimbur.core import Pair
-from hocsimbur.decimals import NO_BREAK
-from hocsimbur.lines import Compared
+from hocsimbur.sheets.decimals import NO_BREAK
+from hocsimbur.portfolio.lines import Compared
 
 from .portfolios import LICENCE, SHEET, case, granted, station
 

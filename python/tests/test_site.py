@@ -6,7 +6,8 @@ import random
 import unittest
 from fractions import Fraction
 
-from hocsimbur import amounts, core, site
+from hocsimbur import core
+from hocsimbur.sheets import amounts, site
 from hocsimbur.core import Pair
 
 from .common import run

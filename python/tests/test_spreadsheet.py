@@ -9,7 +9,7 @@ import types
 import unittest
 from decimal import Decimal
 
-from hocsimbur import spreadsheet
+from hocsimbur.sheets import spreadsheet
 
 from .common import ROOT, SAMPLE, changed, run
 

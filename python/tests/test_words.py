@@ -4,8 +4,9 @@ from __future__ import annotations
 import re
 import unittest
 
-from hocsimbur import core, words
-from hocsimbur.words import Asked
+from hocsimbur import core
+from hocsimbur.sheets import words
+from hocsimbur.sheets.words import Asked
 
 from .common import NAMES, ROOT, SAMPLE, changed
 

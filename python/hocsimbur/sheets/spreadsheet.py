@@ -13,10 +13,13 @@ from typing import Dict, List, Optional, Tuple
 from .forms import cell as place_of
 from .forms import short, whole_number
 from .names import BY_NAME, FORMER
-from .output import Failed
 
 KNOWN = set(BY_NAME) | set(FORMER)
 _SPACES = "\u00a0\u202f\u2007\ufeff"  # spaces that spreadsheets put between thousands, and a byte-order mark
+
+
+class Unreadable(Exception):
+    """A workbook that cannot be read here: the message says what is missing."""
 
 
 class Refusals(Exception):
@@ -214,7 +217,7 @@ def _workbook(data: bytes) -> Tuple[Lines, str]:
     try:
         import openpyxl
     except ImportError:
-        raise Failed("a file of a spreadsheet (.xlsx) is read only where the Python package openpyxl is installed, and it is not; "
+        raise Unreadable("a file of a spreadsheet (.xlsx) is read only where the Python package openpyxl is installed, and it is not; "
                      "install it, or save the file as CSV") from None
     try:
         book = openpyxl.load_workbook(io.BytesIO(data), read_only=True, data_only=True)

@@ -4,7 +4,8 @@ from __future__ import annotations
 from dataclasses import dataclass
 from typing import List, Optional, Sequence, Tuple
 
-from . import core, sheets
+from .. import core
+from . import layout
 from .forms import foreign
 from .words import Asked, refusal
 
@@ -64,7 +65,7 @@ def check(sheet: bytes, numbers: Optional[Sequence[int]] = None) -> List[Found]:
     whole = _asked(sheet, numbers)
     if whole is None:
         return []
-    lines = sheets.lines(sheet)
+    lines = layout.lines(sheet)
     numbers = numbers or range(1, len(lines) + 1)
     if not lines or len(sheet) > MOST or whole.number == 2 or whole.number == 1 and foreign(sheet):
         return [whole]

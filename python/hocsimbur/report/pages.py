@@ -5,13 +5,14 @@ from dataclasses import dataclass
 from html import escape
 from typing import List, Tuple
 
-from . import plan, reasons, tables
-from .core import Verdict
-from .decimals import NO_BREAK as NB
-from .decimals import grouped
-from .decision import Portfolio, Station
+from ..core import Verdict
+from ..portfolio import reasons
+from ..portfolio.decision import Portfolio, Station
+from ..portfolio.licence import ALL_SEASONS
+from ..sheets.decimals import NO_BREAK as NB
+from ..sheets.decimals import grouped
+from . import plan, tables
 from .drawing import LIMIT, Scale, axis, badge, bar, mark, word
-from .licence import ALL_SEASONS
 from .markup import bold, cell, element, group, head, row, seen, span, spoken, table
 
 COLUMNS = 9  # of the table of stations

@@ -7,8 +7,8 @@ from dataclasses import dataclass
 from html import escape
 from typing import Iterable, Sequence
 
-from .core import Verdict
-from .decision import Portfolio, Station
+from ..core import Verdict
+from ..portfolio.decision import Portfolio, Station
 
 LIMIT = 1000  # per mille: where the limit stands on every bar
 LEAST_TOP, MOST_TOP, STEP = 1250, 2000, 250

@@ -6,7 +6,8 @@ import os
 import sys
 from typing import List, Optional, Tuple
 
-from . import advice, decision, licence, reasons, report
+from ..portfolio import advice, decision, licence, reasons
+from ..report import document
 from .commands import Stopped, worked
 from .output import HELD, WELL, Failed, read, show, tell, write
 from .terminal import commas, paint
@@ -66,9 +67,9 @@ def make_report(arguments: argparse.Namespace) -> int:
     if not arguments.output and sys.stdout and sys.stdout.isatty():
         raise Failed("the report is a page for a browser; name a file for it by -o FILE")
     granted = _licence(arguments)
-    date = arguments.date or report.today()
+    date = arguments.date or document.today()
     name = "standard input" if arguments.file == "-" else os.path.basename(arguments.file)
-    portfolio, page = worked(arguments, lambda sheet: (decision.portfolio(sheet, granted), report.render(sheet, name, granted, date)))
+    portfolio, page = worked(arguments, lambda sheet: (decision.portfolio(sheet, granted), document.render(sheet, name, granted, date)))
     if arguments.output:
         write(arguments.output, page.encode(), force=True, sources=(arguments.file, arguments.licence))
         tell(f"{arguments.output}: " + "".join(part for told in reasons.totals(portfolio) for part in told))

@@ -5,7 +5,7 @@ import os
 import sys
 from typing import Iterable, List, Sequence
 
-from .core import Verdict
+from ..core import Verdict
 
 _COLOURS = {"safe": "32", "released": "32", "unsafe": "31", "held": "31", "undecided": "33"}
 GAP = "  "

@@ -5,10 +5,10 @@ import argparse
 import pathlib
 from typing import Callable, List
 
-from . import core
+from .. import core
+from ..sheets.words import Asked
 from .commands import Stopped, ask
 from .output import FAILED, REFUSED, WELL, Failed, read, reason, show_bytes, tell, write
-from .words import Asked
 
 
 def _files(names: List[str]) -> List[str]:

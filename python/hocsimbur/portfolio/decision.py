@@ -6,7 +6,7 @@ from __future__ import annotations
 from dataclasses import dataclass
 from typing import Dict, List, NamedTuple, Optional, Tuple, Union
 
-from . import core
+from .. import core
 from .licence import Licence, Licensed, unlicensed
 from .lines import ABOVE, NOT_PARTED, YARD, Compared, Line, differing, gather
 

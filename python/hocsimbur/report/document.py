@@ -8,8 +8,10 @@ import hashlib
 from html import escape
 from typing import Optional
 
-from . import core, decision, drawing, pages
-from .licence import Licence
+from .. import core
+from ..portfolio import decision
+from ..portfolio.licence import Licence
+from . import drawing, pages
 from .style import CSS
 
 _MONTHS = ("January", "February", "March", "April", "May", "June", "July", "August", "September", "October", "November", "December")

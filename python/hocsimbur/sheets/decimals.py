@@ -3,7 +3,7 @@
 A number is in units of 10^-scale and is shown with `places` decimals; thousands are grouped by commas."""
 from __future__ import annotations
 
-from .core import Pair
+from ..core import Pair
 
 NO_BREAK = "\u00a0"  # between a number and its unit
 MINUS = "\u2212"

@@ -4,8 +4,10 @@ from __future__ import annotations
 from dataclasses import dataclass
 from typing import Dict, List, NamedTuple, Tuple
 
-from . import asking, core, sheets
-from .names import NAMES
+from .. import core
+from ..sheets import layout
+from ..sheets.names import NAMES
+from . import asking
 
 # the columns that describe the yard, on which the lines of a station must agree, as docs/manual.md lists them
 YARD = ("across", "along", "space", "depth", "dia", "rods", "rodlen", "place", "metal")
@@ -72,7 +74,7 @@ def differing(lines: Tuple[Line, ...]) -> Tuple[str, ...]:
 def gather(sheet: bytes) -> List[Line]:
     """The lines of a sheet with all that the core answers of them, in the sheet's order."""
     rows = core.rows(sheet)
-    cases = sheets.cases(sheet)
+    cases = layout.cases(sheet)
     answers = zip(cases, rows, core.margins(sheet), core.working(sheet), core.headroom(sheet), asking.small_wires(cases),
                   asking.wires_enough_to(cases))
     return [Line(number, *answer) for number, answer in enumerate(answers, 2)]

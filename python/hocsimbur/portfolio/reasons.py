@@ -6,13 +6,13 @@ from __future__ import annotations
 
 from typing import List, NamedTuple, Tuple
 
-from . import decimals, labels
+from ..core import Pair, Verdict
+from ..sheets import decimals, labels
+from ..sheets.decimals import NO_BREAK as NB
+from ..sheets.decimals import grouped
+from ..sheets.labels import listed
 from .asking import FAULT_MOST
-from .core import Pair, Verdict
-from .decimals import NO_BREAK as NB
-from .decimals import grouped
 from .decision import Missing, OtherYard, Portfolio, Reason, Size, Station, Undecided, Unsafe, kcmil
-from .labels import listed
 from .lines import BELOW, NOT_PARTED, Compared
 
 

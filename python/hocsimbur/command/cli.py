@@ -6,7 +6,8 @@ import re
 import sys
 from typing import Any, Callable, List, NoReturn, Optional
 
-from . import carrying, commands, core, deciding, help_texts, output
+from .. import core
+from . import carrying, commands, deciding, help_texts, output
 from .output import FAILED, REFUSED, WELL, Failed, show, tell
 
 OLDEST = (3, 9)    # version of Python

@@ -3,7 +3,7 @@ from __future__ import annotations
 
 from typing import Dict, NamedTuple
 
-from . import __version__
+from .. import __version__
 
 ABOUT = """Substation ground grids after IEEE Std 80: verdicts, release, reports and refusals in words.
 Every number comes from the proved library; what is shown is rounded outward."""

@@ -10,7 +10,7 @@ import sys
 import tempfile
 from typing import Iterable, Optional, TextIO
 
-from .forms import printable
+from ..sheets.forms import printable
 
 WELL, REFUSED, HELD, FAILED = 0, 1, 2, 3  # exit statuses: all well; refused; unsafe, undecided or held; input or output failed
 

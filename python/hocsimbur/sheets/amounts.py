@@ -7,7 +7,7 @@ import re
 from fractions import Fraction
 from typing import Dict, Tuple
 
-from .core import Pair
+from ..core import Pair
 
 
 class Unclear(Exception):

@@ -4,12 +4,13 @@ from __future__ import annotations
 from dataclasses import astuple
 from typing import List, Sequence, Tuple
 
-from . import core, reasons
-from .core import Margins, Row, Station
-from .decimals import NO_BREAK, down, grouped, up
-from .decision import Compared
+from .. import core
+from ..core import Margins, Row, Station
+from ..portfolio import reasons
+from ..portfolio.decision import Compared
+from ..sheets.decimals import NO_BREAK, down, grouped, up
+from ..sheets.words import verdict
 from .terminal import aligned, commas, paint
-from .words import verdict
 
 VERDICT_NAMES = ("station", "season", "verdict", "kcmil")
 ROW_NAMES = (

@@ -6,8 +6,8 @@ from __future__ import annotations
 from dataclasses import dataclass
 from typing import Callable, Dict, List, Optional, Sequence, Tuple
 
-from . import sheets
-from .core import LINES, SHEET_BYTES, Refused, Verdict
+from ..core import LINES, SHEET_BYTES, Refused, Verdict
+from . import layout
 from .decimals import exact, grouped
 from .forms import FORMER_ONLY, cell, foreign, printable, wrong_name, wrong_value
 from .names import BY_NAME, FORMER, METALS, NAMES, Name
@@ -44,8 +44,8 @@ class Asked:
 
     def cells(self, line: int) -> List[str]:
         """The fields of a line of the sheet, counted from 1."""
-        found = sheets.lines(self.sheet)
-        return sheets.cells(found[line - 1]) if line <= len(found) else []
+        found = layout.lines(self.sheet)
+        return layout.cells(found[line - 1]) if line <= len(found) else []
 
     def value(self, line: int, name: str) -> str:
         """The value of a name in a line that has the right form."""
@@ -68,7 +68,7 @@ def _text(refused: Refused, asked: Asked) -> str:
         return told
     if len(asked.sheet) > SHEET_BYTES:
         return f"the sheet has {grouped(len(asked.sheet))} bytes, at most {grouped(SHEET_BYTES)} are allowed; part it into several"
-    return f"{asked.place(len(sheets.lines(asked.sheet)))}: the last line has no line end (byte 10); add one, or use `hocsimbur import`"
+    return f"{asked.place(len(layout.lines(asked.sheet)))}: the last line has no line end (byte 10); add one, or use `hocsimbur import`"
 
 
 def _name(refused: Refused, asked: Asked) -> str:
@@ -83,7 +83,7 @@ def _form(refused: Refused, asked: Asked) -> str:
 
 
 def _lines(refused: Refused, asked: Asked) -> str:
-    count = len(sheets.lines(asked.sheet)) - 1
+    count = len(layout.lines(asked.sheet)) - 1
     if count < 1:
         return "line 2: the sheet has names but no line of values"
     if asked.most_lines == 1:

@@ -5,8 +5,9 @@ from __future__ import annotations
 
 from typing import Callable, Dict, List, Sequence, TypeVar
 
-from . import core, sheets
-from .names import BY_NAME
+from .. import core
+from ..sheets import layout
+from ..sheets.names import BY_NAME
 
 Case = Dict[str, int]
 Answer = TypeVar("Answer")
@@ -16,7 +17,7 @@ FAULT_LEAST, FAULT_MOST = BY_NAME["fault"].low, BY_NAME["fault"].high
 
 def _alone(cases: Sequence[Case]) -> bytes:
     """A sheet with each case as season 1 of a station of its own, 1 and up."""
-    return sheets.text([dict(case, station=number, season=1) for number, case in enumerate(cases, 1)])
+    return layout.text([dict(case, station=number, season=1) for number, case in enumerate(cases, 1)])
 
 
 def _each(cases: Sequence[Case], ask: Callable[[bytes, int], List[Answer]]) -> List[Answer]:

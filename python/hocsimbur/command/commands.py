@@ -7,11 +7,13 @@ import argparse
 import shlex
 from typing import Callable, List, Optional, TypeVar
 
-from . import __version__, checking, core, listing, sheets, site, spreadsheet
-from .amounts import Unclear, length
-from .decimals import exact
+from .. import __version__, core
+from ..sheets import checking, layout, site, spreadsheet
+from ..sheets.amounts import Unclear, length
+from ..sheets.decimals import exact
+from ..sheets.words import Asked, refusal
+from . import listing, measured
 from .output import HELD, REFUSED, WELL, Failed, read, show, tell, write
-from .words import Asked, refusal
 
 Answer = TypeVar("Answer")
 
@@ -68,7 +70,7 @@ def check(arguments: argparse.Namespace) -> int:
     elif found:
         show("".join(one.said + "\n" for one in found) + checking.conclusion(found) + "\n")
     else:
-        count = len(sheets.lines(sheet)) - 1
+        count = len(layout.lines(sheet)) - 1
         show(f"{count} line{'s' if count > 1 else ''}, no refusal\n")
     return REFUSED if found else WELL
 
@@ -107,13 +109,13 @@ def _one_line(arguments: argparse.Namespace) -> bytes:
     if station is None and season is None and arguments.rodlen is None:
         return sheet
     ask(lambda: core.rows(sheet), Asked(sheet), arguments.file)
-    chosen = [case for case in sheets.cases(sheet) if station in (None, case["station"]) and season in (None, case["season"])]
+    chosen = [case for case in layout.cases(sheet) if station in (None, case["station"]) and season in (None, case["season"])]
     if not chosen:
         raise Stopped([f"the sheet has no line for {_chosen(station, season)}"], of=arguments.file)
     if arguments.rodlen is not None:
         rods = {"rods": 4, "rodlen": _clear("rodlen", length, arguments.rodlen), "place": 1}
         chosen = [dict(case, **rods) for case in chosen]
-    return sheets.text(chosen)
+    return layout.text(chosen)
 
 
 def _chosen(station: Optional[int], season: Optional[int]) -> str:
@@ -146,12 +148,12 @@ def wenner(arguments: argparse.Namespace) -> int:
     if bool(arguments.reading) == bool(arguments.file):
         raise Failed("give either a file of readings or --reading METRES,OHMS once for each reading")
     if arguments.file:
-        measured = _clear(arguments.file, site.readings, read(arguments.file))
+        found = _clear(arguments.file, site.readings, read(arguments.file))
     else:
-        measured = [_clear(f"reading {one}", site.reading_of, one) for one in arguments.reading]
-    soil = ask(lambda: core.soil(measured), Asked(readings=measured))
-    show(site.soil_csv(soil) if arguments.csv else site.soil_text(measured, site.each_soil(measured), soil))
-    for note in site.soil_notes(soil):
+        found = [_clear(f"reading {one}", site.reading_of, one) for one in arguments.reading]
+    soil = ask(lambda: core.soil(found), Asked(readings=found))
+    show(measured.soil_csv(soil) if arguments.csv else measured.soil_text(found, measured.each_soil(found), soil))
+    for note in measured.soil_notes(soil):
         tell(note)
     return WELL
 
@@ -160,15 +162,15 @@ def staged(arguments: argparse.Namespace) -> int:
     if arguments.file:
         if arguments.injected or arguments.branch:
             raise Failed("give either a file or --injected and --branch")
-        measured = _clear(arguments.file, site.currents, read(arguments.file))
+        found = _clear(arguments.file, site.currents, read(arguments.file))
     else:
         if not arguments.injected:
             raise Failed("give a file, or --injected and a --branch for each branch")
-        measured = [_clear(f"current {one}", site.current, one) for one in [arguments.injected, *(arguments.branch or [])]]
-    handed, moved = site.rounded(measured) if measured else ([], 0)
+        found = [_clear(f"current {one}", site.current, one) for one in [arguments.injected, *(arguments.branch or [])]]
+    handed, moved = site.rounded(found) if found else ([], 0)
     split = ask(lambda: core.split(handed), Asked(parts=handed))
-    show(site.split_csv(split) if arguments.csv else site.split_text(handed, split))
-    for note in site.split_notes(split, moved):
+    show(measured.split_csv(split) if arguments.csv else measured.split_text(handed, split))
+    for note in measured.split_notes(split, moved):
         tell(note)
     return WELL
 
@@ -177,7 +179,7 @@ def staged(arguments: argparse.Namespace) -> int:
 
 def _accepted(made: spreadsheet.Made) -> None:
     """Asks the library whether it takes what was made: a sheet of today's names, or one of the former for `carry`."""
-    if {"ms", "lines"} & set(sheets.cells(sheets.lines(made.sheet)[0])):
+    if {"ms", "lines"} & set(layout.cells(layout.lines(made.sheet)[0])):
         ask(lambda: core.carry(made.sheet), Asked(made.sheet, former=True, line_numbers=made.numbers))
         tell("note: the sheet has the former 18 names; `hocsimbur carry` makes today's sheet of it")
         return
@@ -192,6 +194,8 @@ def import_sheet(arguments: argparse.Namespace) -> int:
         for change in made.changes.told():
             tell(change)
         _accepted(made)
+    except spreadsheet.Unreadable as error:
+        raise Failed(str(error)) from None
     except spreadsheet.Refusals as refusals:
         raise Stopped(refusals.said, of=arguments.file, after="nothing was written") from None
     except Stopped as stopped:

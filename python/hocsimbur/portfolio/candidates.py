@@ -7,9 +7,9 @@ from dataclasses import dataclass
 from math import gcd
 from typing import Callable, Dict, Iterator, List, NamedTuple, Tuple
 
-from .decimals import grouped
-from .labels import metres
-from .names import BY_NAME
+from ..sheets.decimals import grouped
+from ..sheets.labels import metres
+from ..sheets.names import BY_NAME
 
 Case = Dict[str, int]
 Cases = Tuple[Case, ...]

@@ -8,11 +8,11 @@ from dataclasses import dataclass
 from html import escape
 from typing import Dict, List, Tuple
 
-from . import decimals, labels
-from .core import Pair
-from .decimals import NO_BREAK as NB
-from .decision import Station
-from .lines import YARD, Line
+from ..core import Pair
+from ..portfolio.decision import Station
+from ..portfolio.lines import YARD, Line
+from ..sheets import decimals, labels
+from ..sheets.decimals import NO_BREAK as NB
 
 LEFT, TOP, WIDTH, HEIGHT = 300, 140, 2140, 1320  # the room for the grid itself
 WHOLE_WIDTH = 2500

@@ -4,14 +4,15 @@ from __future__ import annotations
 from html import escape
 from typing import Callable, List, NamedTuple, Tuple
 
-from . import decimals, labels, reasons
-from .core import Pair
-from .decimals import NO_BREAK as NB
-from .decision import Station
+from ..core import Pair
+from ..portfolio import reasons
+from ..portfolio.decision import Station
+from ..portfolio.lines import ABOVE, BELOW, NOT_PARTED, YARD, Compared, Line
+from ..sheets import decimals, labels
+from ..sheets.decimals import NO_BREAK as NB
+from ..sheets.names import METALS
 from .drawing import LIMIT, Scale, axis, bar, between, mark, no_bar, word
-from .lines import ABOVE, BELOW, NOT_PARTED, YARD, Compared, Line
 from .markup import caption, cell, element, group, head, row, seen, span, spoken, table
-from .names import METALS
 
 _ICONS = {ABOVE: "unsafe", BELOW: "safe", NOT_PARTED: "undecided"}
 _NO_LINE = seen("–") + spoken("no line")

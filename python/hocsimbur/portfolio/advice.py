@@ -7,15 +7,17 @@ from __future__ import annotations
 from dataclasses import dataclass
 from typing import Iterable, List, Optional, Sequence, Tuple
 
-from . import asking, core, decision, labels, reasons, sheets
+from .. import core
+from ..core import Verdict
+from ..sheets import labels, layout
+from ..sheets.decimals import NO_BREAK, exact
+from ..sheets.labels import listed
+from ..sheets.names import BY_NAME
+from . import asking, decision, reasons
 from .candidates import Cases, Tried, kinds, with_values
-from .core import Verdict
-from .decimals import NO_BREAK, exact
 from .decision import Missing, OtherYard, SmallWire, Station
-from .labels import listed
 from .licence import Licence, unlicensed
 from .lines import YARD
-from .names import BY_NAME
 
 
 @dataclass(frozen=True)
@@ -32,7 +34,7 @@ class Change:
 
 def _lines_of(sheet: bytes, station: int) -> Cases:
     """The lines of a station, by season."""
-    return tuple(sorted((case for case in sheets.cases(sheet) if case["station"] == station), key=lambda case: case["season"]))
+    return tuple(sorted((case for case in layout.cases(sheet) if case["station"] == station), key=lambda case: case["season"]))
 
 
 def first_safe(candidates: Iterable[Tried]) -> Optional[Tried]:
@@ -52,7 +54,7 @@ def first_safe(candidates: Iterable[Tried]) -> Optional[Tried]:
 
 def _lengths(lines: Cases) -> Tuple[int, int]:
     """Conductor and rods in micrometres, upper ends, of the first line."""
-    working = core.working(sheets.text([lines[0]]))[0]
+    working = core.working(layout.text([lines[0]]))[0]
     return working.lc.upper, working.lr.upper
 
 
@@ -67,7 +69,7 @@ def _added(before: Cases, after: Cases) -> str:
 
 def _nearest(lines: Cases) -> str:
     """Where the changed lines are nearest their limits."""
-    answered = core.margins(sheets.text(list(lines)))
+    answered = core.margins(layout.text(list(lines)))
     margin, limit, season = max(((one, limit, case["season"]) for case, both in zip(lines, answered)
                                  for one, limit in ((both.mesh, "touch"), (both.step, "step"))), key=lambda found: found[0])
     size = f"{reasons.share(margin)} below" if margin else "under 0.1 % below"
