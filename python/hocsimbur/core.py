@@ -15,6 +15,7 @@ from typing import List, NamedTuple, Optional, Sequence, Tuple
 
 LINES = 256          # most value lines of a sheet
 SHEET_BYTES = 65536  # most bytes of a sheet
+ROW_BYTES = 160      # bytes of a row
 
 
 class Refused(Exception):
@@ -227,6 +228,11 @@ def version() -> str:
     """The version of the library, as 1.1.0."""
     number = _asked.entry("hocsimbur_version")()
     return f"{number // 10000}.{number // 100 % 100}.{number % 100}"
+
+
+def count(sheet: bytes) -> int:
+    """How many value lines a sheet has; nothing of them is kept."""
+    return _ask("rows_at", _bytes(sheet), _slice((ctypes.c_uint8 * (ROW_BYTES * LINES))()))
 
 
 def summary_and_rows(sheet: bytes) -> Tuple[List[Station], List[Row]]:

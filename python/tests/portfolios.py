@@ -4,8 +4,10 @@ from __future__ import annotations
 from typing import Dict, List, Optional, Sequence
 
 from hocsimbur import core
-from hocsimbur.portfolio import decision, licence
+from hocsimbur.portfolio import advice, decision, licence
+from hocsimbur.report import document
 from hocsimbur.sheets import layout
+from hocsimbur.sheets.files import File
 
 from .common import ROOT
 
@@ -17,9 +19,9 @@ CASES = layout.cases(SHEET)
 Case = Dict[str, int]
 
 
-def case(station: int = 101, season: int = 1, **values: int) -> Case:
+def case(of_station: int = 101, of_season: int = 1, /, **values: int) -> Case:
     """A line of the example with other values."""
-    found = next(one for one in CASES if (one["station"], one["season"]) == (station, season))
+    found = next(one for one in CASES if (one["station"], one["season"]) == (of_station, of_season))
     return dict(found, **values)
 
 
@@ -37,3 +39,16 @@ def station(cases: Sequence[Case], seasons: Optional[Sequence[int]] = None) -> d
 def verdicts(cases: Sequence[Case]) -> List[core.Verdict]:
     """The verdicts of lines as a sheet of their own answers them."""
     return [row.verdict for row in core.rows(layout.text(list(cases)))]
+
+
+def changes(sheet: bytes, number: int, licence_: Optional[licence.Licence] = None) -> List[advice.Change]:
+    """What to change of one station; without a licence, or where it does not name it, it is asked in all four seasons."""
+    named = next((one for one in licence_.stations if one.station == number), None) if licence_ else None
+    return advice.changes(decision.portfolio(sheet, licence.Licence((named or licence.unlicensed(number),))).stations[0])
+
+
+def rendered(sheet: bytes, name: str, licence_: Optional[licence.Licence], date: str, **options: object) -> str:
+    """The report of one sheet."""
+    portfolio = decision.portfolio(sheet, licence_)
+    found = {one.station: advice.changes(one) for one in portfolio.stations if not one.released}
+    return document.render(portfolio, [File(name, sheet)], document.Options(date, **options), found)

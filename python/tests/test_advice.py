@@ -10,6 +10,7 @@ from hocsimbur.sheets import layout
 from hocsimbur.core import Verdict
 
 from .portfolios import CASES, LICENCE, SHEET, case, granted, verdicts
+from .portfolios import changes as changes_of
 
 KINDS = {"rods": candidates.rods, "conductors": candidates.conductors, "spacing": candidates.spacing, "thickness": candidates.thickness,
          "resistivity": candidates.resistivity, "layer": candidates.layer, "shock": candidates.shock}
@@ -18,7 +19,7 @@ CHANGED = {"rods": {"rods", "rodlen", "place"}, "conductors": {"across", "along"
 
 
 def of(station: int):
-    return advice.changes(SHEET, station, LICENCE)
+    return changes_of(SHEET, station, LICENCE)
 
 
 def own(station: int):
@@ -135,20 +136,20 @@ class Words(unittest.TestCase):
 
     def test_rods_of_a_station_without_any(self):
         sheet = layout.text([case(104, 2, rods=0, rodlen=0, place=0, fault=3000)])
-        words = [change.words for change in advice.changes(sheet, 104, granted(104, (2,))) if change.kind == "rods"]
+        words = [change.words for change in changes_of(sheet, 104, granted(104, (2,))) if change.kind == "rods"]
         self.assertRegex(words[0], r"^rods: \d+ rods of 3 m at the perimeter \(now none\); ")
 
     def test_undecided_is_not_enough(self):
         """With 16 rods the line is undecided, with 17 it is safe."""
         sheet = layout.text([case(131, 2, rods=15)])
         self.assertEqual(verdicts([case(131, 2, rods=16)]), [Verdict.UNDECIDED])
-        found = next(change for change in advice.changes(sheet, 131, granted(131, (2,))) if change.kind == "rods")
+        found = next(change for change in changes_of(sheet, 131, granted(131, (2,))) if change.kind == "rods")
         self.assertEqual(found.lines[0]["rods"], 17)
 
     def test_no_line_is_made_worse(self):
         """A line that has more of it already keeps it."""
         lines = [case(104, 1, layer=9000, thick=250, shock=40), case(104, 2)]
-        found = {change.kind: change.lines for change in advice.changes(layout.text(lines), 104, granted(104, (1, 2)))}
+        found = {change.kind: change.lines for change in changes_of(layout.text(lines), 104, granted(104, (1, 2)))}
         self.assertEqual([one["layer"] for one in found["resistivity"]], [9000, 3200])
         self.assertEqual([one["shock"] for one in found["shock"]], [40, 350])
         self.assertEqual({one.lines[0]["thick"] for one in candidates.thickness(tuple(lines)) if one.lines[1]["thick"] <= 250}, {250})
@@ -177,11 +178,11 @@ class Words(unittest.TestCase):
     def test_missing(self):
         self.assertEqual([change.words for change in of(110)], ["missing: measure and add a line for season 3"])
         self.assertEqual([change.words for change in of(215)], ["missing: measure and add lines for seasons 1 and 2"])
-        self.assertEqual([change.words for change in advice.changes(SHEET, 7)],
+        self.assertEqual([change.words for change in changes_of(SHEET, 7)],
                          ["missing: measure and add lines for seasons 1, 2, 3 and 4"])
 
     def test_no_licence_asks_for_all_seasons(self):
-        self.assertEqual([change.words for change in advice.changes(SHEET, 160)], ["missing: measure and add lines for seasons 3 and 4"])
+        self.assertEqual([change.words for change in changes_of(SHEET, 160)], ["missing: measure and add lines for seasons 3 and 4"])
 
     def test_yard(self):
         self.assertEqual([change.words for change in of(123)], [
@@ -189,7 +190,7 @@ class Words(unittest.TestCase):
             "yard: that of season 1 in all lines: every line is safe, nearest limit then 18.1 % below (touch, season 2)",
             "yard: that of season 2 in all lines: every line is safe, nearest limit then 17.7 % below (touch, season 2)"])
         worse = layout.text([case(123, 1), case(123, 2, across=2, along=2)])
-        changes = advice.changes(worse, 123, granted(123, (1, 2)))
+        changes = changes_of(worse, 123, granted(123, (1, 2)))
         self.assertIn("yard: that of season 2 in all lines: not every line is safe", [change.words for change in changes])
         self.assertFalse({"rods", "conductors", "spacing"} & {change.kind for change in changes})
 
@@ -200,16 +201,16 @@ class Words(unittest.TestCase):
         self.assertEqual(core.release(layout.text(list(wire.lines)), [(118, 7)])[0].small_wire, 0)
         less = [dict(one, dia=one["dia"] - 1) for one in wire.lines]
         self.assertGreater(core.release(layout.text(less), [(118, 7)])[0].small_wire, 0)
-        self.assertEqual({one["dia"] for one in advice.changes(layout.text(less), 118, granted(118, (1, 2, 3)))[0].lines}, {179})
+        self.assertEqual({one["dia"] for one in changes_of(layout.text(less), 118, granted(118, (1, 2, 3)))[0].lines}, {179})
 
     def test_no_wire_is_enough(self):
         sheet = layout.text([case(101, 1, fault=80000, wire=3000, metal=11, soil=10, split=10)])
-        self.assertEqual([change.words for change in advice.changes(sheet, 101, granted(101, (1,)))],
+        self.assertEqual([change.words for change in changes_of(sheet, 101, granted(101, (1,)))],
                          ["wire: no solid round up to 30.0 mm is enough; try another metal or a shorter back-up time"])
 
     def test_a_refused_sheet(self):
         with self.assertRaises(core.Refused):
-            advice.changes(SHEET[:-1], 104)
+            changes_of(SHEET[:-1], 104)
 
 
 if __name__ == "__main__":

@@ -30,19 +30,24 @@ class Read(unittest.TestCase):
     def test_no_line_end(self):
         self.assertEqual(licence.read(HEAD + b"7,A,1").stations, (Licensed(7, "A", (1,)),))
 
-    def test_as_many_as_the_core_takes(self):
-        lines = [b"%d,,1\n" % station for station in range(1, 258)]
-        self.assertEqual(len(licence.read(HEAD + b"".join(lines[:256])).stations), 256)
-        with self.assertRaises(LicenceRefused) as refused:
-            licence.read(HEAD + b"".join(lines))
-        self.assertEqual(str(refused.exception), "licence: it names 257 stations; 1 to 256 are allowed")
+    def test_more_than_the_core_takes_at_once(self):
+        lines = [b"%d,,1\n" % station for station in range(1, 3001)]
+        self.assertEqual(len(licence.read(HEAD + b"".join(lines)).stations), 3000)
+
+    def test_seasons_as_people_write_them(self):
+        for text, seasons in (("1 2 4", (1, 2, 4)), ("1,2,4", (1, 2, 4)), ("1-4", (1, 2, 3, 4)), ("all", (1, 2, 3, 4)), ("ALL", (1, 2, 3, 4)),
+                              ("2", (2,)), ("4;1", (1, 4)), ("1-2, 4", (1, 2, 4)), (" 3+1 ", (1, 3)), ("2\u20133", (2, 3))):
+            self.assertEqual(licence.seasons(text), seasons, text)
+        for text in ("0", "5", "4-1", "1-5", "a", "", " ", "1 1", "1-3 2", "12"):
+            with self.assertRaises(ValueError, msg=text):
+                licence.seasons(text)
 
 
 class Refusals(unittest.TestCase):
     CASES = {
         b"": "licence: it is empty; its first line is station,name,seasons",
         b"\n \n": "licence: it is empty; its first line is station,name,seasons",
-        HEAD: "licence: it names 0 stations; 1 to 256 are allowed",
+        HEAD: "licence: it names no station",
         b"station,name\n7,A\n": "licence line 1: the names are station,name, not station,name,seasons",
         b"station,name,season\n": "licence line 1: the names are station,name,season, not station,name,seasons",
         b"station,name,seasons,seasons\n": "licence line 1: the names are station,name,seasons,seasons, not station,name,seasons",
@@ -54,9 +59,9 @@ class Refusals(unittest.TestCase):
         HEAD + b",A,1\n": "licence line 2, station: '' is not a number in 1..65535",
         HEAD + "\u0667,A,1\n".encode(): "licence line 2, station: '\u0667' is not a number in 1..65535",
         HEAD + b"7,A,1\n8,B,2\n7,C,3\n": "licence line 4, station: 7 stands in line 2 too",
-        HEAD + b"7,A,\n": "licence line 2, seasons: none is named; write for example 1 2 3 4",
-        HEAD + b"7,A,5\n": "licence line 2, seasons: '5' is not 1, 2, 3 or 4; part seasons by spaces",
-        HEAD + b"7,A,12\n": "licence line 2, seasons: '12' is not 1, 2, 3 or 4; part seasons by spaces",
+        HEAD + b"7,A,\n": "licence line 2, seasons: none is named; write for example 1 2 3 4, 1-4 or all",
+        HEAD + b"7,A,5\n": "licence line 2, seasons: '5' is not 1, 2, 3 or 4; write for example 1 2 4, 1-4 or all",
+        HEAD + b"7,A,12\n": "licence line 2, seasons: '12' is not 1, 2, 3 or 4; write for example 1 2 4, 1-4 or all",
         HEAD + b"7,A,1 2 1\n": "licence line 2, seasons: '1 2 1' names a season twice",
         HEAD + b"7,A\x07B,1\n": "licence line 2, name: it has a character that cannot be printed",
         HEAD + b"7,\xff,1\n": "licence line 2: its bytes are no UTF-8; save the licence as UTF-8",

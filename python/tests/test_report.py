@@ -8,17 +8,17 @@ import unittest
 from typing import Dict, List
 
 from hocsimbur import core
-from hocsimbur.portfolio import decision, licence, reasons
+from hocsimbur.portfolio import advice, decision, licence, reasons
 from hocsimbur.report import document
 from hocsimbur.sheets import layout
 from hocsimbur.portfolio.lines import YARD
 
 from . import golden
 from .dom import Node, cells, read
-from .portfolios import LICENCE, SHEET, case, granted
+from .portfolios import LICENCE, SHEET, case, granted, rendered
 
 DATE = "1 July 2026"
-PAGE = document.render(SHEET, "portfolio.csv", LICENCE, DATE)
+PAGE = rendered(SHEET, "portfolio.csv", LICENCE, DATE)
 TREE = read(PAGE)
 STATIONS = {one.station: one for one in LICENCE.stations}
 
@@ -298,7 +298,11 @@ class Page(unittest.TestCase):
                 self.assertEqual(page.one("p", "decision").text(), plain(" ".join(reasons.decision(one))))
                 said = [reasons.differences(one), reasons.outside(one), *reasons.undecided(one), reasons.current(one), *wire]
                 cautions = [f"Caution: {caution}" for caution in reasons.cautions(one)]
-                self.assertEqual([item.text() for item in page.all("li")], [plain(text) for text in said + cautions if text])
+                changes = [] if one.released else advice.changes(one)
+                told = [item.text() for item in page.all("li")]
+                self.assertEqual(told[:len(told) - len(changes) - bool(changes)], [plain(text) for text in said + cautions if text])
+                self.assertEqual(told[len(told) - len(changes):], [change.words for change in changes])
+                self.assertEqual(any(text.startswith("What to change:") for text in told), bool(changes))
                 word = "Released" if ASKED.release[one.station].released else "Held"
                 self.assertEqual(page.one("p", "decision").text().split(":")[0], word)
 
@@ -353,10 +357,10 @@ class Page(unittest.TestCase):
 
 class Bytes(unittest.TestCase):
     def test_the_same_twice(self):
-        self.assertEqual(PAGE, document.render(SHEET, "portfolio.csv", LICENCE, DATE))
+        self.assertEqual(PAGE, rendered(SHEET, "portfolio.csv", LICENCE, DATE))
 
     def test_only_the_date(self):
-        other = document.render(SHEET, "portfolio.csv", LICENCE, "2 July 2026")
+        other = rendered(SHEET, "portfolio.csv", LICENCE, "2 July 2026")
         self.assertNotEqual(PAGE, other)
         self.assertEqual(PAGE, other.replace("2 July 2026", DATE))
 
@@ -374,7 +378,7 @@ class Others(unittest.TestCase):
 
     def test_names_are_escaped(self):
         name = "<script>alert(1)</script> & \"O'Hara\" </style>"
-        page = document.render(SHEET, f"{name}.csv", granted(101, (1, 2, 3, 4), name), f"1 July <b>2026</b> {name}")
+        page = rendered(SHEET, f"{name}.csv", granted(101, (1, 2, 3, 4), name), f"1 July <b>2026</b> {name}")
         tree = read(page)
         self.assertFalse(list(tree.all("script")))
         self.assertNotIn("<script", page)
@@ -385,11 +389,11 @@ class Others(unittest.TestCase):
     def test_a_refused_sheet_has_no_report(self):
         for sheet, number in ((b"", 1), (SHEET[:-1], 1), (SHEET.replace(b",600,", b",60,", 1), 5), (SHEET + SHEET.splitlines(True)[1], 7)):
             with self.assertRaises(core.Refused) as refused:
-                document.render(sheet, "portfolio.csv", LICENCE, DATE)
+                rendered(sheet, "portfolio.csv", LICENCE, DATE)
             self.assertEqual(refused.exception.number, number)
 
     def test_without_a_licence_all_four_seasons(self):
-        tree = read(document.render(SHEET, "portfolio.csv", None, DATE))
+        tree = read(rendered(SHEET, "portfolio.csv", None, DATE))
         for one in tree.all("section", "station"):
             self.assertEqual(len(list(one.one("table", "res").one("thead").all("th", "num"))), 4)
         self.assertIn("No licence was handed over", tree.one("p", "totals").text())
@@ -398,7 +402,7 @@ class Others(unittest.TestCase):
 
     def test_a_bar_that_is_cut(self):
         sheet = layout.text([case(101, 1, fault=80000, dia=300)])
-        page = document.render(sheet, "cut.csv", granted(101, (1,)), DATE)
+        page = rendered(sheet, "cut.csv", granted(101, (1,)), DATE)
         tree = read(page)
         self.assertEqual({one.attributes["viewbox"] for one in tree.all("svg", "bar")}, {"0 0 2000 20"})
         self.assertTrue(list(tree.all("path", "cut")))
@@ -407,18 +411,18 @@ class Others(unittest.TestCase):
 
     def test_one_small_wire(self):
         sheet = layout.text([case(118, 1), case(118, 2, dia=300)])
-        tree = read(document.render(sheet, "wire.csv", granted(118, (1, 2)), DATE))
+        tree = read(rendered(sheet, "wire.csv", granted(118, (1, 2)), DATE))
         self.assertEqual(tree.one("td", "wire").text(), "495 of 38too small")
 
     def test_columns_in_another_order(self):
         names, *lines = [line.split(",") for line in SHEET.decode().splitlines()]
         turned = "".join(",".join(reversed(line)) + "\n" for line in [names, *lines]).encode()
-        page = document.render(turned, "portfolio.csv", LICENCE, DATE)
+        page = rendered(turned, "portfolio.csv", LICENCE, DATE)
         self.assertEqual(page, PAGE.replace(hashlib.sha256(SHEET).hexdigest(), hashlib.sha256(turned).hexdigest())
                          .replace(hashlib.sha256(SHEET).hexdigest()[:12], hashlib.sha256(turned).hexdigest()[:12]))
 
     def test_a_licence_without_any_line(self):
-        tree = read(document.render(SHEET, "portfolio.csv", licence.Licence((licence.Licensed(7, "Nowhere", (1, 2)),)), DATE))
+        tree = read(rendered(SHEET, "portfolio.csv", licence.Licence((licence.Licensed(7, "Nowhere", (1, 2)),)), DATE))
         self.assertEqual(len(list(tree.all("section"))), 1)
         self.assertEqual(tree.one("tbody", "st").one("span", "badge").text(), "HELD")
 

@@ -7,23 +7,9 @@ from typing import Callable, List
 
 from .. import core
 from ..sheets.words import Asked
-from .commands import Stopped, ask
+from .inputs import named
 from .output import FAILED, REFUSED, WELL, Failed, read, reason, show_bytes, tell, write
-
-
-def _files(names: List[str]) -> List[str]:
-    """The files that are named, and those ending in .csv of the folders that are named, in the order of their names."""
-    found: List[str] = []
-    for name in names:
-        path = pathlib.Path(name)
-        if name != "-" and path.is_dir():
-            inside = sorted(str(one) for one in path.iterdir() if one.suffix.lower() == ".csv" and one.is_file())
-            if not inside:
-                raise Failed(f"{name}: the folder has no file that ends in .csv")
-            found += inside
-        else:
-            found.append(name)
-    return found
+from .stopped import Stopped, ask
 
 
 def _folder(name: str) -> pathlib.Path:
@@ -63,7 +49,7 @@ def _all(files: List[str], folder: pathlib.Path, way: Callable[[bytes], bytes], 
 
 
 def _run(arguments: argparse.Namespace, way: Callable[[bytes], bytes]) -> int:
-    files = _files(arguments.files)
+    files = named(arguments.files)
     if arguments.output:
         return _all(files, _folder(arguments.output), way, arguments.force)
     if len(files) > 1:

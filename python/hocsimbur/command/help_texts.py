@@ -33,7 +33,7 @@ COMMANDS: Dict[str, Text] = {
         """  $ hocsimbur check examples/refused-5.csv
   line 2, depth (column 16): 60 mm is not in 250..2500
   line 3, depth (column 16): 60 mm is not in 250..2500
-  2 lines are refused; nothing was worked
+  2 lines are refused; nothing was computed
 """),
     "verdict": Text(
         "the verdict and the wire needed of each line",
@@ -94,8 +94,9 @@ COMMANDS: Dict[str, Text] = {
         "A station is released where every season of the licence has a line, every line is safe, all lines describe one yard and\n"
         "the wire is large enough.",
         """  $ hocsimbur release examples/seasons.csv
-  note: without --licence every station is asked in all four seasons
-  station 210  HELD      season 2: mesh 10.3 % above tolerable touch; no line for seasons 3, 4
+  note: without --licence every station is asked in all four seasons; --seasons 1,2 asks others
+  station 210  HELD      season 2: mesh 10.3 % above tolerable touch; no line for seasons 3, 4; voltages safe up to 3,627 A where there is a line; wire up to 31,481 A
+  1 station: 0 released, 1 held. 2 season lines: 1 safe, 1 unsafe, 0 undecided; 2 seasons without a line.
 """),
     "report": Text(
         "a page for every station, in one HTML file",
@@ -109,7 +110,7 @@ COMMANDS: Dict[str, Text] = {
         "For a station that is held, the least single changes that are answered safe in every season.\n"
         "With --csv: every cell of the sheet that a change sets.",
         """  $ hocsimbur next examples/portfolio.csv --licence examples/licence.csv --station 118
-  station 118 Dunmore  HELD      wire: 495 kcmil needed, 5.0 mm solid has 38
+  station 118 Dunmore  HELD      wire: 495 kcmil needed, 5.0 mm solid has 38; voltages safe up to 67,751 A; wire up to 2,822 A
     wire: 17.9 mm, solid and round (now 5.0 mm); a stranded one must be thicker
 """),
     "fewest": Text(

@@ -15,7 +15,7 @@ from ..sheets.forms import printable
 WELL, REFUSED, HELD, FAILED = 0, 1, 2, 3  # exit statuses: all well; refused; unsafe, undecided or held; input or output failed
 
 
-MOST = 1 << 25  # bytes of a file that are read
+MOST = 1 << 28  # bytes of a file that are read
 
 
 lost = False  # whether something that was to be told on standard error could not be written
@@ -23,6 +23,10 @@ lost = False  # whether something that was to be told on standard error could no
 
 class Failed(Exception):
     """Input or output failed: the message says what, and why."""
+
+
+class ClosedPipe(Exception):
+    """Whoever read standard output has gone away: nobody is left to be told."""
 
 
 def reason(error: OSError) -> str:
@@ -37,6 +41,9 @@ def _write(stream: TextIO, name: str, data: bytes) -> None:
     try:
         stream.buffer.write(data)
         stream.buffer.flush()
+    except BrokenPipeError:
+        _silence(stream)
+        raise ClosedPipe() from None
     except OSError as error:
         _silence(stream)
         raise Failed(f"{name}: {reason(error)}") from None
@@ -88,7 +95,7 @@ def read(name: str) -> bytes:
     except (OSError, ValueError) as error:
         raise Failed(f"{called}: {reason(error) if isinstance(error, OSError) else error}") from None
     if len(data) > MOST:
-        raise Failed(f"{called}: it has more than {MOST:,} bytes, far more than a sheet")
+        raise Failed(f"{called}: it has more than {MOST:,} bytes, far more than lines of stations")
     return data
 
 

@@ -1,4 +1,4 @@
-"""Text for a terminal: aligned columns for people, lines parted by commas for machines; colours on a terminal, never alone."""
+"""Text for a terminal: aligned columns for people, lines separated by commas for machines; colours on a terminal, never alone."""
 from __future__ import annotations
 
 import os
@@ -38,5 +38,12 @@ def aligned(head: Sequence[str], lines: Sequence[Sequence[str]], left: Iterable[
 
 
 def commas(head: Sequence[str], lines: Sequence[Sequence[object]]) -> str:
-    """Lines parted by commas under a line of names, as the proved programs print them."""
-    return "".join(",".join(str(int(cell) if isinstance(cell, Verdict) else cell) for cell in line) + "\n" for line in [head, *lines])
+    """Lines separated by commas under a line of names, as the proved programs print them."""
+    return "".join([",".join([field(cell) for cell in line]) + "\n" for line in [head, *lines]])
+
+
+def field(cell: object) -> str:
+    """A cell of a line for machines; a text with a comma or a quote stands in quotes."""
+    if isinstance(cell, str):
+        return '"' + cell.replace('"', '""') + '"' if any(sign in cell for sign in ',"\n') else cell
+    return str(int(cell)) if isinstance(cell, Verdict) else str(cell)

@@ -13,10 +13,9 @@ from ..sheets import labels, layout
 from ..sheets.decimals import NO_BREAK, exact
 from ..sheets.labels import listed
 from ..sheets.names import BY_NAME
-from . import asking, decision, reasons
+from . import asking, reasons
 from .candidates import Cases, Tried, kinds, with_values
 from .decision import Missing, OtherYard, SmallWire, Station
-from .licence import Licence, unlicensed
 from .lines import YARD
 
 
@@ -30,11 +29,6 @@ class Change:
     kind: str
     words: str
     lines: Cases = ()
-
-
-def _lines_of(sheet: bytes, station: int) -> Cases:
-    """The lines of a station, by season."""
-    return tuple(sorted((case for case in layout.cases(sheet) if case["station"] == station), key=lambda case: case["season"]))
 
 
 def first_safe(candidates: Iterable[Tried]) -> Optional[Tried]:
@@ -123,25 +117,18 @@ def _missing(reason: Missing) -> Change:
     return Change("missing", f"missing: measure and add {'a line' if len(reason.seasons) == 1 else 'lines'} for {seasons}")
 
 
-def asked(sheet: bytes, station: int, licence: Optional[Licence] = None) -> Station:
-    """What the core answers of one station; without a licence, or where it does not name the station, in all four seasons."""
-    named = next((one for one in licence.stations if one.station == station), None) if licence else None
-    return decision.portfolio(sheet, Licence((named or unlicensed(station),))).stations[0]
-
-
-def changes(sheet: bytes, station: int, licence: Optional[Licence] = None) -> List[Change]:
+def changes(station: Station) -> List[Change]:
     """What to change of a held station, by kind: what is missing, the yard, the wire, then the least changes with which every line is
     safe and the kinds of which none is enough; nothing for a released one."""
-    answered = asked(sheet, station, licence)
-    lines = _lines_of(sheet, station)
+    lines = tuple(line.case for line in station.lines)
     found: List[Change] = []
-    for reason in answered.reasons:
+    for reason in station.reasons:
         if isinstance(reason, Missing):
             found.append(_missing(reason))
         elif isinstance(reason, OtherYard):
             found += _yards(lines, reason.columns)
         elif isinstance(reason, SmallWire):
             found.append(_wire(lines))
-    if answered.answer.unsafe or answered.answer.undecided:
-        found += _safe_changes(lines, not answered.answer.other_yard)
+    if station.answer.unsafe or station.answer.undecided:
+        found += _safe_changes(lines, not station.answer.other_yard)
     return found

@@ -3,11 +3,12 @@
 Station and season decide nothing in a row, and `core.release` then speaks of one line each."""
 from __future__ import annotations
 
+from math import isqrt
 from typing import Callable, Dict, List, Sequence, TypeVar
 
 from .. import core
 from ..sheets import layout
-from ..sheets.names import BY_NAME
+from ..sheets.names import BY_NAME, KF
 
 Case = Dict[str, int]
 Answer = TypeVar("Answer")
@@ -58,8 +59,25 @@ def greatest(cases: Sequence[Case], name: str, low: int, high: int, good: Callab
     return lower
 
 
-def wires_enough_to(cases: Sequence[Case]) -> List[int]:
-    """For each case the greatest fault current in A at which its conductor is large enough; at 100 A every one in range is."""
+def _guess(case: Case, row: core.Row) -> int:
+    """About the greatest fault current in A for which a solid round conductor is enough: (needed kcmil) = kA · Kf · √s · Df.
+
+    Only a guess: the library is asked at it and one ampere above."""
+    own = 1000 * case["dia"] * case["dia"] // 64516
+    per_ampere = KF[case["metal"]] * row.factor.upper  # 10^-14 kcmil for an ampere and the root of a second
+    return isqrt((own * 10 ** 14) ** 2 * 1000 // (per_ampere * per_ampere * case["wire"]))
+
+
+def wires_enough_to(cases: Sequence[Case], rows: Sequence[core.Row]) -> List[int]:
+    """For each case the greatest fault current in A at which its conductor is large enough; at 100 A every one in range is.
+
+    The library is asked at a guess and one ampere above; where that does not settle it, by halving."""
     def enough(asked: List[Case]) -> List[bool]:
         return [not small for small in small_wires(asked)]
-    return greatest(cases, "fault", FAULT_LEAST, FAULT_MOST, enough)
+
+    guesses = [max(FAULT_LEAST, min(_guess(case, row), FAULT_MOST)) for case, row in zip(cases, rows)]
+    at = enough([dict(case, fault=guess) for case, guess in zip(cases, guesses)])
+    above = enough([dict(case, fault=min(guess + 1, FAULT_MOST)) for case, guess in zip(cases, guesses)])
+    settled = [good and (guess == FAULT_MOST or not better) for guess, good, better in zip(guesses, at, above)]
+    halved = iter(greatest([case for case, done in zip(cases, settled) if not done], "fault", FAULT_LEAST, FAULT_MOST, enough))
+    return [guess if done else next(halved) for guess, done in zip(guesses, settled)]

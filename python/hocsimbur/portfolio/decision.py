@@ -4,11 +4,14 @@ Nothing is decided here: released or held, and which kinds of reason there are, 
 from __future__ import annotations
 
 from dataclasses import dataclass
-from typing import Dict, List, NamedTuple, Optional, Tuple, Union
+from typing import Callable, Dict, Iterable, List, NamedTuple, Optional, Sequence, Tuple, TypeVar, Union
 
 from .. import core
-from .licence import Licence, Licensed, unlicensed
+from ..sheets.files import Batch, Given, Lines, Place, each
+from .licence import ALL_SEASONS, Licence, Licensed, unlicensed
 from .lines import ABOVE, NOT_PARTED, YARD, Compared, Line, differing, gather
+
+Answer = TypeVar("Answer")
 
 
 @dataclass(frozen=True)
@@ -16,6 +19,7 @@ class Unsafe:
     """A line is unsafe: the voltages that are above what is tolerable."""
 
     season: int
+    place: Place
     above: Tuple[Compared, ...]
 
 
@@ -24,6 +28,7 @@ class Undecided:
     """A line is undecided: the voltages that the ends do not part from what is tolerable."""
 
     season: int
+    place: Place
     not_parted: Tuple[Compared, ...]
 
 
@@ -129,6 +134,16 @@ class Station:
         """What the conductor needs and has in the line that needs the largest, of those in which it is too small where there are any."""
         return size(self.lines)
 
+    @property
+    def wire_to(self) -> int:
+        """The greatest fault current in A at which the wire of every line is enough; 0 where there is no line."""
+        return min((line.wire_to for line in self.lines), default=0)
+
+    @property
+    def files(self) -> Tuple[str, ...]:
+        """The files in which it has lines; none where there is one file alone."""
+        return tuple(dict.fromkeys(line.place.file for line in self.lines if line.place.file))
+
     def line(self, season: int) -> Optional[Line]:
         """The line of a season."""
         return next((line for line in self.lines if line.season == season), None)
@@ -141,6 +156,7 @@ class Portfolio:
     stations: Tuple[Station, ...]
     licensed: bool                # a licence was handed over; otherwise every station of the sheet is asked in all four seasons
     unlicensed: Tuple[int, ...]   # stations of the sheet that the licence does not name
+    seasons: Tuple[int, ...] = ALL_SEASONS  # asked of every station where there is no licence
 
 
 def kcmil(diameter: int) -> int:
@@ -165,10 +181,10 @@ def _reasons(licensed: Licensed, answer: core.Release, lines: Tuple[Line, ...]) 
     """The reasons to hold a station, of the kinds that the core counts."""
     found: List[Reason] = []
     if answer.unsafe:
-        found += [Unsafe(line.season, tuple(one for one in line.compared if one.side == ABOVE))
+        found += [Unsafe(line.season, line.place, tuple(one for one in line.compared if one.side == ABOVE))
                   for line in lines if line.row.verdict == core.Verdict.UNSAFE]
     if answer.undecided:
-        found += [Undecided(line.season, tuple(one for one in line.compared if one.side == NOT_PARTED))
+        found += [Undecided(line.season, line.place, tuple(one for one in line.compared if one.side == NOT_PARTED))
                   for line in lines if line.row.verdict == core.Verdict.UNDECIDED]
     if answer.missing:
         found.append(Missing(missing(licensed, lines), not lines))
@@ -179,16 +195,59 @@ def _reasons(licensed: Licensed, answer: core.Release, lines: Tuple[Line, ...]) 
     return found
 
 
-def portfolio(sheet: bytes, licence: Optional[Licence] = None) -> Portfolio:
-    """What the core answers of every station of a licence; without one, of every station of the sheet in all four seasons."""
-    lines: Dict[int, List[Line]] = {}
-    for line in gather(sheet):
-        lines.setdefault(line.row.station, []).append(line)
-    asked = licence.stations if licence else [unlicensed(station) for station in lines]
-    answers = core.release(sheet, [(one.station, one.mask) for one in asked])
-    stations = []
-    for one, answer in zip(asked, answers):
-        own = tuple(sorted(lines.get(one.station, ()), key=lambda line: line.season))
-        stations.append(Station(one, answer, own, tuple(_reasons(one, answer, own))))
+def _stations(lines: Lines, batch: Batch, licence: Optional[Dict[int, Licensed]],
+              seasons: Tuple[int, ...]) -> Tuple[List[Station], List[int]]:
+    """What the core answers of the stations of a sheet that the licence names, and those that it does not name."""
+    told = len(lines.files) > 1
+    gathered = gather(batch.sheet, [lines.place(line) if told else Place("", lines.place(line).line) for line in batch.lines])
+    own: Dict[int, List[Line]] = {}
+    for line in gathered:
+        own.setdefault(line.case["station"], []).append(line)
+    asked = [unlicensed(one, seasons) for one in own] if licence is None else [licence[one] for one in own if one in licence]
+    if not asked:
+        core.count(batch.sheet)
+        return [], list(own)
+    found = []
+    for one, answer in zip(asked, core.release(batch.sheet, [one.numbers for one in asked])):
+        of_one = tuple(sorted(own[one.station], key=lambda line: line.season))
+        found.append(Station(one, answer, of_one, tuple(_reasons(one, answer, of_one))))
     named = {one.station for one in asked}
-    return Portfolio(tuple(stations), licence is not None, tuple(station for station in lines if station not in named))
+    return found, [one for one in own if one not in named]
+
+
+def _lineless(sheet: bytes, licensed: Sequence[Licensed]) -> List[Station]:
+    """What the core answers of stations of which no sheet has a line: asked of any sheet, as many at once as it takes."""
+    found = []
+    for first in range(0, len(licensed), core.LINES):
+        part = licensed[first:first + core.LINES]
+        for one, answer in zip(part, core.release(sheet, [one.numbers for one in part])):
+            found.append(Station(one, answer, (), tuple(_reasons(one, answer, ()))))
+    return found
+
+
+def answered(lines: Lines, batches: Sequence[Batch], licence: Optional[Licence], made: Callable[[Station], Answer],
+             ask: Callable[..., Iterable[Tuple[List[Tuple[int, Answer]], List[int]]]] = each,
+             seasons: Tuple[int, ...] = ALL_SEASONS) -> Tuple[List[Answer], Tuple[int, ...]]:
+    """What is made of each station of a licence, in its order, or without one of every station, in the order of first appearance;
+    and the stations that the licence does not name. `ask` asks a question about each batch; `seasons` stand in place of a licence."""
+    named = None if licence is None else {one.station: one for one in licence.stations}
+
+    def question(batch: Batch) -> Tuple[List[Tuple[int, Answer]], List[int]]:
+        stations, others = _stations(lines, batch, named, seasons)
+        return [(one.station, made(one)) for one in stations], others
+
+    answers = list(ask(batches, question))
+    found = {station: one for of_batch, _ in answers for station, one in of_batch}
+    others = tuple(station for _, of_batch in answers for station in of_batch)
+    if licence is None:
+        return list(found.values()), others
+    without = [one for one in licence.stations if one.station not in found]
+    found.update((one.station, made(one)) for one in _lineless(batches[0].sheet, without))
+    return [found[one.station] for one in licence.stations], others
+
+
+def portfolio(files: Given, licence: Optional[Licence] = None) -> Portfolio:
+    """What the core answers of every station of a licence; without one, of every station of the files in all four seasons."""
+    lines = Lines(files)
+    stations, others = answered(lines, lines.batches(), licence, lambda station: station)
+    return Portfolio(tuple(stations), licence is not None, others)

@@ -6,12 +6,12 @@ from __future__ import annotations
 
 import csv
 import io
+import re
 from dataclasses import dataclass
 from typing import List, Optional, Tuple
 
 COLUMNS = ("station", "name", "seasons")
 ALL_SEASONS = (1, 2, 3, 4)
-MOST = 256  # pairs of a station and its seasons that the core takes
 
 
 class LicenceRefused(Exception):
@@ -32,10 +32,15 @@ class Licensed:
         """The seasons as the core takes them: seasons 1 to 4 count 1, 2, 4 and 8."""
         return sum(1 << (season - 1) for season in self.seasons)
 
+    @property
+    def numbers(self) -> Tuple[int, int]:
+        """What the core is handed of this station: its number and its seasons."""
+        return self.station, self.mask
 
-def unlicensed(station: int) -> Licensed:
-    """A station that no licence names: all four seasons are asked of it."""
-    return Licensed(station, "", ALL_SEASONS, by_licence=False)
+
+def unlicensed(station: int, seasons_: Tuple[int, ...] = ALL_SEASONS) -> Licensed:
+    """A station that no licence names: all four seasons are asked of it, or others that somebody chose."""
+    return Licensed(station, "", seasons_, by_licence=False)
 
 
 @dataclass(frozen=True)
@@ -80,16 +85,28 @@ def _station(line: int, cell: str) -> int:
     return int(cell)
 
 
+def seasons(text: str) -> Tuple[int, ...]:
+    """Seasons as people write them: '1 2 4', '1,2,4', '1-4', 'all'; a `ValueError` says what is wrong."""
+    if text.strip().lower() == "all":
+        return ALL_SEASONS
+    found: List[int] = []
+    for part in re.split(r"[\s,;+/]+", text.strip()):
+        span = re.fullmatch(r"([1-4])(?:[-\u2013]([1-4]))?", part)
+        if not part:
+            raise ValueError("none is named; write for example 1 2 3 4, 1-4 or all")
+        if not span or span[2] and span[2] < span[1]:
+            raise ValueError(f"'{part}' is not 1, 2, 3 or 4; write for example 1 2 4, 1-4 or all")
+        found += range(int(span[1]), int(span[2] or span[1]) + 1)
+    if len(set(found)) < len(found):
+        raise ValueError(f"'{text.strip()}' names a season twice")
+    return tuple(sorted(found))
+
+
 def _seasons(line: int, cell: str) -> Tuple[int, ...]:
-    parts = cell.split()
-    if not parts:
-        raise _refuse(line, ", seasons: none is named; write for example 1 2 3 4")
-    for part in parts:
-        if part not in ("1", "2", "3", "4"):
-            raise _refuse(line, f", seasons: '{part}' is not 1, 2, 3 or 4; part seasons by spaces")
-    if len(set(parts)) < len(parts):
-        raise _refuse(line, f", seasons: '{cell}' names a season twice")
-    return tuple(sorted(int(part) for part in parts))
+    try:
+        return seasons(cell)
+    except ValueError as error:
+        raise _refuse(line, f", seasons: {error}") from None
 
 
 def read(text: bytes) -> Licence:
@@ -110,6 +127,6 @@ def read(text: bytes) -> Licence:
             raise _refuse(line, f", station: {number} stands in line {places[number]} too")
         places[number] = line
         stations.append(Licensed(number, name, _seasons(line, seasons)))
-    if not 1 <= len(stations) <= MOST:
-        raise _refuse(None, f": it names {len(stations)} stations; 1 to {MOST} are allowed")
+    if not stations:
+        raise _refuse(None, ": it names no station")
     return Licence(tuple(stations))

@@ -1,11 +1,15 @@
-"""The value lines of a sheet with all that the core answers of each: its row, margins, working, headroom and wire."""
+"""The value lines of a sheet with all that the core answers of each: its row, margins, working, headroom and wire.
+
+Each question is asked when its answer is first needed, of all lines of the sheet at once."""
 from __future__ import annotations
 
 from dataclasses import dataclass
-from typing import Dict, List, NamedTuple, Tuple
+from functools import cached_property
+from typing import Dict, List, NamedTuple, Optional, Sequence, Tuple
 
 from .. import core
 from ..sheets import layout
+from ..sheets.files import Place
 from ..sheets.names import NAMES
 from . import asking
 
@@ -36,22 +40,82 @@ class Compared(NamedTuple):
         return ABOVE if self.voltage.lower > self.tolerable.upper else NOT_PARTED
 
 
+class Answers:
+    """What the core answers of the lines of a sheet."""
+
+    def __init__(self, sheet: bytes) -> None:
+        self.sheet = sheet
+        self.cases = layout.cases(sheet)
+
+    @cached_property
+    def rows(self) -> List[core.Row]:
+        return core.rows(self.sheet)
+
+    @cached_property
+    def margins(self) -> List[core.Margins]:
+        return core.margins(self.sheet)
+
+    @cached_property
+    def working(self) -> List[core.Working]:
+        return core.working(self.sheet)
+
+    @cached_property
+    def headroom(self) -> List[int]:
+        return core.headroom(self.sheet)
+
+    @cached_property
+    def wires_to(self) -> List[int]:
+        return asking.wires_enough_to(self.cases, self.rows)
+
+
 @dataclass(frozen=True)
 class Line:
     """A value line: a station in a season."""
 
-    number: int            # the sheet's line, the names being line 1
-    case: Dict[str, int]   # the values by name
-    row: core.Row
-    margins: core.Margins
-    working: core.Working
-    headroom: int          # greatest fault current in A at which this line is safe, or 0
-    small_wire: bool
-    wire_to: int           # greatest fault current in A at which its conductor is large enough
+    answers: Answers
+    index: int             # its place among the value lines of the sheet that was asked
+    place: Place           # where it stands
+
+    @property
+    def number(self) -> int:
+        """The line of its file, the names being line 1."""
+        return self.place.line
+
+    @property
+    def case(self) -> Dict[str, int]:
+        """The values by name."""
+        return self.answers.cases[self.index]
+
+    @property
+    def row(self) -> core.Row:
+        return self.answers.rows[self.index]
+
+    @property
+    def margins(self) -> core.Margins:
+        return self.answers.margins[self.index]
+
+    @property
+    def working(self) -> core.Working:
+        return self.answers.working[self.index]
+
+    @property
+    def headroom(self) -> int:
+        """The greatest fault current in A at which this line is safe, or 0."""
+        return self.answers.headroom[self.index]
+
+    @property
+    def wire_to(self) -> int:
+        """The greatest fault current in A at which its conductor is large enough."""
+        return self.answers.wires_to[self.index]
+
+    @property
+    def small_wire(self) -> bool:
+        """Whether its conductor is too small."""
+        return self.case["fault"] > self.wire_to
 
     @property
     def season(self) -> int:
-        return self.row.season
+        return self.case["season"]
 
     @property
     def compared(self) -> Tuple[Compared, Compared]:
@@ -71,10 +135,7 @@ def differing(lines: Tuple[Line, ...]) -> Tuple[str, ...]:
     return tuple(name.name for name in NAMES[2:] if len({line.case[name.name] for line in lines}) > 1)
 
 
-def gather(sheet: bytes) -> List[Line]:
+def gather(sheet: bytes, places: Optional[Sequence[Place]] = None) -> List[Line]:
     """The lines of a sheet with all that the core answers of them, in the sheet's order."""
-    rows = core.rows(sheet)
-    cases = layout.cases(sheet)
-    answers = zip(cases, rows, core.margins(sheet), core.working(sheet), core.headroom(sheet), asking.small_wires(cases),
-                  asking.wires_enough_to(cases))
-    return [Line(number, *answer) for number, answer in enumerate(answers, 2)]
+    answers = Answers(sheet)
+    return [Line(answers, index, places[index] if places else Place("", index + 2)) for index in range(len(answers.cases))]

@@ -4,16 +4,20 @@ Each stands here once, for the command line and the report alike; none is cut, a
 They are plain text: who writes a page escapes them."""
 from __future__ import annotations
 
-from typing import List, NamedTuple, Tuple
+from typing import Iterable, List, NamedTuple, Optional, Tuple
 
 from ..core import Pair, Verdict
 from ..sheets import decimals, labels
 from ..sheets.decimals import NO_BREAK as NB
 from ..sheets.decimals import grouped
+from ..sheets.files import Place
 from ..sheets.labels import listed
 from .asking import FAULT_MOST
 from .decision import Missing, OtherYard, Portfolio, Reason, Size, Station, Undecided, Unsafe, kcmil
-from .lines import BELOW, NOT_PARTED, Compared
+from .lines import BELOW, NOT_PARTED, Compared, Line
+
+
+NAMED = 20  # stations outside the licence that are named one by one
 
 
 class Told(NamedTuple):
@@ -59,12 +63,17 @@ def _no_line(reason: Missing) -> str:
     return f"seasons {listed(reason.seasons)} have no line"
 
 
+def _at(place: Place) -> str:
+    """The file and line of a line, where there are several files."""
+    return f" ({place.file}, line {place.line})" if place.file else ""
+
+
 def told(reason: Reason) -> Told:
     """A reason as the report tells it."""
     if isinstance(reason, Unsafe):
-        return Told(f"season {reason.season} unsafe", listed([_above(one) for one in reason.above]))
+        return Told(f"season {reason.season}{_at(reason.place)} unsafe", listed([_above(one) for one in reason.above]))
     if isinstance(reason, Undecided):
-        return Told(f"season {reason.season} undecided", listed([_not_parted(one) for one in reason.not_parted]))
+        return Told(f"season {reason.season}{_at(reason.place)} undecided", listed([_not_parted(one) for one in reason.not_parted]))
     if isinstance(reason, Missing):
         return Told(_no_line(reason), "")
     if isinstance(reason, OtherYard):
@@ -75,9 +84,9 @@ def told(reason: Reason) -> Told:
 def _short(reason: Reason) -> str:
     """A reason on a line of the command release."""
     if isinstance(reason, Unsafe):
-        return f"season {reason.season}: " + listed([_above(one) for one in reason.above])
+        return f"season {reason.season}{_at(reason.place)}: " + listed([_above(one) for one in reason.above])
     if isinstance(reason, Undecided):
-        return f"season {reason.season}: " + listed([_not_parted(one) for one in reason.not_parted])
+        return f"season {reason.season}{_at(reason.place)}: " + listed([_not_parted(one) for one in reason.not_parted])
     if isinstance(reason, Missing):
         if reason.no_line:
             return "no line for any season"
@@ -87,14 +96,23 @@ def _short(reason: Reason) -> str:
     return "wire: " + _size(reason.size)
 
 
+def currents(station: Station) -> str:
+    """How far the fault current may grow: 'voltages safe up to 80,000 A; wire up to 26,667 A'; '' where there is no line."""
+    if not station.lines:
+        return ""
+    safe = f"up to {grouped(station.fault)}{NB}A" if station.fault else "at no fault current in range"
+    return f"voltages safe {safe}{' where there is a line' if station.missing else ''}; wire up to {grouped(station.wire_to)}{NB}A"
+
+
 def sentence(station: Station) -> str:
-    """What the command release says after the decision: all reasons to hold, or seasons, nearest limit and headroom of a released one."""
-    if not station.released:
-        return "; ".join(_short(reason) for reason in station.reasons).replace(NB, " ")
-    count, nearest = len(station.seasons), station.worst.nearest
-    said = (f"{count} season{'s' if count > 1 else ''}; nearest limit {margin(nearest)} ({nearest.limit}, season {station.worst.season}); "
-            f"safe up to {grouped(station.fault)}{NB}A")
-    return said.replace(NB, " ")
+    """What the command release says after the decision: all reasons to hold, or seasons and nearest limit of a released one; then how
+    far the fault current may grow."""
+    if station.released:
+        count, one = len(station.seasons), station.worst.nearest
+        said = [f"{count} season{'s' if count > 1 else ''}; nearest limit {margin(one)} ({one.limit}, season {station.worst.season})"]
+    else:
+        said = [_short(reason) for reason in station.reasons]
+    return "; ".join(one for one in [*said, currents(station)] if one).replace(NB, " ")
 
 
 def decision(station: Station) -> Tuple[str, str]:
@@ -132,11 +150,6 @@ def greatest(station: Station) -> str:
     return f"{'at most ' if station.missing else ''}{grouped(station.fault)}{NB}A{', end of range' if station.fault == FAULT_MOST else ''}"
 
 
-def wire_to(station: Station) -> int:
-    """The greatest fault current in A at which the wire of every line is enough."""
-    return min(line.wire_to for line in station.lines)
-
-
 def _seasons(numbers: List[int]) -> str:
     return ("season " if len(numbers) == 1 else "seasons ") + listed(numbers)
 
@@ -150,7 +163,7 @@ def current(station: Station) -> str:
         said = f"Safe up to {grouped(FAULT_MOST)}{NB}A, the end of the range{', where there is a line' if station.missing else ''}"
     else:
         said = f"Greatest fault current still safe: {greatest(station)}, set by {by}"
-    tail = f"; the wire is enough to {grouped(wire_to(station))}{NB}A" if wire_to(station) < station.fault else ""
+    tail = f"; the wire is enough to {grouped(station.wire_to)}{NB}A" if station.wire_to < station.fault else ""
     return f"{said} ({now(station)}){tail}."
 
 
@@ -181,6 +194,13 @@ def outside(station: Station) -> str:
     return f"Seasons {listed(seasons)} are not in the licence; their lines count all the same."
 
 
+def places(station: Station) -> str:
+    """Where its lines stand, where there are several files; '' else."""
+    if not station.files:
+        return ""
+    return "Lines: " + ", ".join(f"season {line.season} in line {line.place.line} of {line.place.file}" for line in station.lines) + "."
+
+
 def _volts(pair: Pair) -> str:
     return decimals.ends(pair, 3, 3) + f"{NB}V"
 
@@ -197,44 +217,106 @@ def wire(station: Station) -> str:
     return f"Wire: {_size(station.size)}."
 
 
+def few_rods(station: Station) -> str:
+    """That fewer than four rods at the perimeter cannot stand at all its corners; '' where there are enough."""
+    few = sorted({line.case["rods"] for line in station.lines if line.case["place"] == 1 and line.case["rods"] < 4})
+    if not few:
+        return ""
+    rods = listed(few) + (" rod" if few == [1] else " rods")
+    return f"{rods} at the perimeter cannot stand at all four corners, yet are counted as if rods stood all along it."
+
+
+def stranded(station: Station) -> str:
+    """That a stranded wire of the diameter may be too small; '' where it would be enough."""
+    if any(not line.small_wire and 4 * line.row.kcmil > 3 * kcmil(line.case["dia"]) for line in station.lines):
+        return "The wire is counted as a solid round: a stranded one of that diameter has about a quarter less, which may be too little here."
+    return ""
+
+
 def cautions(station: Station) -> List[str]:
     """What a reader should know and what changes no decision."""
-    found = []
-    few = sorted({line.case["rods"] for line in station.lines if line.case["place"] == 1 and line.case["rods"] < 4})
-    if few:
-        rods = listed(few) + (" rod" if few == [1] else " rods")
-        found.append(f"{rods} at the perimeter cannot stand at all four corners, yet are counted as if rods stood all along it.")
-    if any(not line.small_wire and 4 * line.row.kcmil > 3 * kcmil(line.case["dia"]) for line in station.lines):
-        found.append("The wire is counted as a solid round: a stranded one of that diameter has about a quarter less, which may be too "
-                     "little here.")
-    return found
+    return [one for one in (few_rods(station), stranded(station)) if one]
 
 
-def totals(portfolio: Portfolio) -> List[Told]:
+class Counts(NamedTuple):
+    """What is counted of stations: each number is a sum of the core's answers."""
+
+    stations: int
+    released: int
+    safe: int
+    unsafe: int
+    undecided: int
+    missing: int  # seasons without a line
+    rises: int    # lines whose potential rise is above a limit
+
+    @property
+    def lines(self) -> int:
+        return self.safe + self.unsafe + self.undecided
+
+
+def counts(station: Station, limit: Optional[int] = None) -> Counts:
+    """What is counted of a station, with the lines whose potential rise is above a limit in mV."""
+    verdicts = [line.row.verdict for line in station.lines]
+    return Counts(1, int(station.released), *(verdicts.count(verdict) for verdict in Verdict), station.answer.missing,
+                  len(above(station, limit)) if limit is not None else 0)
+
+
+def summed(counted: Iterable[Counts]) -> Counts:
+    """The sums of counts."""
+    return Counts(*map(sum, zip(Counts(0, 0, 0, 0, 0, 0, 0), *counted)))
+
+
+def totals(sums: Counts, licensed: bool) -> List[Told]:
     """The counts of the first page: in bold, and after it."""
-    stations = portfolio.stations
-    lines = [line for station in stations for line in station.lines]
-    released = sum(station.released for station in stations)
-    counts = {verdict: sum(line.row.verdict == verdict for line in lines) for verdict in Verdict}
-    gone = sum(len(station.missing) for station in stations)
-    of = " of the licence" if portfolio.licensed else ""
-    missing = f"{gone} season{'s' if gone > 1 else ''}{of} without a line" if gone else f"every season{of} has a line"
+    of = " of the licence" if licensed else ""
+    missing = f"{grouped(sums.missing)} season{'s' if sums.missing > 1 else ''}{of} without a line" if sums.missing else \
+        f"every season{of} has a line"
     return [
-        Told(f"{len(stations)} station{'s' if len(stations) > 1 else ''}:", " "),
-        Told(f"{released} released", ", "),
-        Told(f"{len(stations) - released} held", ". "),
-        Told("", f"{len(lines)} season line{'' if len(lines) == 1 else 's'}: {counts[Verdict.SAFE]} safe, {counts[Verdict.UNSAFE]} unsafe, "
-                 f"{counts[Verdict.UNDECIDED]} undecided; {missing}."),
+        Told(f"{grouped(sums.stations)} station{'s' if sums.stations > 1 else ''}:", " "),
+        Told(f"{grouped(sums.released)} released", ", "),
+        Told(f"{grouped(sums.stations - sums.released)} held", ". "),
+        Told("", f"{grouped(sums.lines)} season line{'' if sums.lines == 1 else 's'}: {grouped(sums.safe)} safe, {grouped(sums.unsafe)} "
+                 f"unsafe, {grouped(sums.undecided)} undecided; {missing}."),
     ]
+
+
+def above(station: Station, limit: int) -> List[Line]:
+    """The lines of a station whose potential rise has its upper end above a limit in mV."""
+    return [line for line in station.lines if line.row.rise.upper > limit]
+
+
+def above_rise(rise: int, limit: int) -> str:
+    """What is said of a potential rise in mV above a limit; '' where it is not."""
+    return "above" if rise > limit else ""
+
+
+def rise(station: Station, limit: int) -> str:
+    """The seasons in which the potential rise is above a limit; '' where there are none."""
+    lines = above(station, limit)
+    if not lines:
+        return ""
+    most = decimals.up(max(line.row.rise.upper for line in lines), 3, 0)
+    return (f"Potential rise above {decimals.volts(limit)} in {_seasons([line.season for line in lines])}, up to {most}{NB}V; it decides "
+            f"nothing.")
+
+
+def rises_above(count: int, limit: int) -> str:
+    """How many lines have a potential rise above a limit."""
+    return f"{grouped(count)} line{'' if count == 1 else 's'} with a potential rise above {decimals.volts(limit)}; it decides nothing"
+
+
+def _asked(seasons: Tuple[int, ...]) -> str:
+    return "all four seasons" if len(seasons) == 4 else _seasons(list(seasons))
 
 
 def notes(portfolio: Portfolio) -> List[str]:
     """What the first page says of the licence itself."""
     found = []
     if not portfolio.licensed:
-        found.append("No licence was handed over: every station of the sheet is asked for all four seasons.")
-    if portfolio.unlicensed:
-        stations, one = listed(portfolio.unlicensed), len(portfolio.unlicensed) == 1
-        found.append(f"Station {stations} of the sheet is not in the licence, and nothing is said of it." if one else
-                     f"Stations {stations} of the sheet are not in the licence, and nothing is said of them.")
+        found.append(f"No licence was handed over: every station of the sheet is asked for {_asked(portfolio.seasons)}.")
+    others = portfolio.unlicensed
+    if others:
+        named = listed(others) if len(others) <= NAMED else ", ".join(str(one) for one in others[:NAMED]) + f" and {grouped(len(others) - NAMED)} more"
+        found.append(f"Station {named} of the sheet is not in the licence, and nothing is said of it." if len(others) == 1 else
+                     f"{grouped(len(others))} stations of the sheet are not in the licence, and nothing is said of them: {named}.")
     return found

@@ -6,11 +6,12 @@ from __future__ import annotations
 import datetime
 import hashlib
 from html import escape
-from typing import Optional
+from typing import Dict, List, NamedTuple, Optional, Sequence
 
 from .. import core
-from ..portfolio import decision
-from ..portfolio.licence import Licence
+from ..portfolio.advice import Change
+from ..portfolio.decision import Portfolio
+from ..sheets.files import File
 from . import drawing, pages
 from .style import CSS
 
@@ -23,12 +24,21 @@ def today() -> str:
     return f"{day.day} {_MONTHS[day.month - 1]} {day.year}"
 
 
-def render(sheet: bytes, sheet_name: str, licence: Optional[Licence], date: str) -> str:
-    """The report of a sheet, as the text of an HTML file; a refused sheet has none, and `core.Refused` is raised."""
-    portfolio = decision.portfolio(sheet, licence)
-    source = pages.Source(sheet_name, hashlib.sha256(sheet).hexdigest(), core.version(), date)
-    title = f"Ground-grid verdicts: {sheet_name}, {date}"
+class Options(NamedTuple):
+    """What a report shows beside its portfolio."""
+
+    date: str
+    project: str = ""
+    engineer: str = ""
+    rise_limit: Optional[int] = None  # mV: lines whose potential rise is above it are marked
+
+
+def render(portfolio: Portfolio, files: Sequence[File], options: Options, changes: Optional[Dict[int, List[Change]]] = None) -> str:
+    """The report of a portfolio that was asked of files, as the text of an HTML file, with changes for stations that are held."""
+    sheets = tuple(pages.Sheet(file.name, hashlib.sha256(file.data).hexdigest()) for file in files)
+    source = pages.Source(sheets, core.version(), options.date, options.project, options.engineer, options.rise_limit)
+    title = f"Ground-grid verdicts: {source.called}, {options.date}"
     return (f'<!DOCTYPE html>\n<html lang="en"><head><meta charset="utf-8">'
             f'<meta name="viewport" content="width=device-width, initial-scale=1"><title>{escape(title)}</title>\n'
             f'<style>\n{CSS}</style></head><body><main>\n'
-            f'{pages.pages(portfolio, source, drawing.scale(portfolio))}</main></body></html>\n')
+            f'{pages.pages(portfolio, source, drawing.scale(portfolio), changes or {})}</main></body></html>\n')

@@ -3,10 +3,11 @@ from __future__ import annotations
 
 from dataclasses import dataclass
 from html import escape
-from typing import List, Tuple
+from typing import Dict, List, NamedTuple, Optional, Sequence, Tuple
 
 from ..core import Verdict
 from ..portfolio import reasons
+from ..portfolio.advice import Change
 from ..portfolio.decision import Portfolio, Station
 from ..portfolio.licence import ALL_SEASONS
 from ..sheets.decimals import NO_BREAK as NB
@@ -23,14 +24,28 @@ _PROVED = (
 )
 
 
+class Sheet(NamedTuple):
+    """A file that a report was made of: its name and SHA-256."""
+
+    name: str
+    sha: str
+
+
 @dataclass(frozen=True)
 class Source:
-    """What a report was made of: the sheet's name and SHA-256, the library's version, and the date as text."""
+    """What a report was made of: the files, the library's version, the date as text; and what else was asked for."""
 
-    sheet: str
-    sha: str
+    sheets: Tuple[Sheet, ...]
     version: str
     date: str
+    project: str = ""
+    engineer: str = ""
+    rise_limit: Optional[int] = None  # mV
+
+    @property
+    def called(self) -> str:
+        """The one file's name, or how many there are."""
+        return self.sheets[0].name if len(self.sheets) == 1 else f"{len(self.sheets)} sheets"
 
 
 def _season_cell(station: Station, season: int) -> str:
@@ -62,7 +77,7 @@ def _fault_cell(station: Station) -> str:
     if not station.lines:
         return cell(spoken("no line"), "num fault empty")
     unsafe = any(line.row.verdict != Verdict.SAFE for line in station.lines)
-    wire = reasons.wire_to(station)
+    wire = station.wire_to
     said = bold(escape(reasons.greatest(station))) + "<br>" + span(escape(reasons.now(station)), "sub")
     if wire < station.fault:
         said += "<br>" + span(f"wire only to {grouped(wire)}{NB}A", "sub red")
@@ -116,11 +131,13 @@ def _table_head(scale: Scale) -> str:
     return element("colgroup", widths) + group("thead", row(names) + row(seasons)) + "\n"
 
 
-def _totals(portfolio: Portfolio) -> str:
+def _totals(portfolio: Portfolio, limit: Optional[int]) -> str:
     colours = ("", "green", "red", "")
+    sums = reasons.summed(reasons.counts(station, limit) for station in portfolio.stations)
     said = "".join((bold(escape(one.head), colour) if one.head else "") + escape(one.detail)
-                   for one, colour in zip(reasons.totals(portfolio), colours))
-    return element("p", said + "".join(f" {escape(note)}" for note in reasons.notes(portfolio)), "totals") + "\n"
+                   for one, colour in zip(reasons.totals(sums, portfolio.licensed), colours))
+    notes = reasons.notes(portfolio) + ([reasons.rises_above(sums.rises, limit) + "."] if limit is not None else [])
+    return element("p", said + "".join(f" {escape(note)}" for note in notes), "totals") + "\n"
 
 
 def _key(scale: Scale, licensed: bool) -> str:
@@ -138,16 +155,35 @@ def _key(scale: Scale, licensed: bool) -> str:
 
 
 def _foot(source: Source, first: str = "", last: str = "", below: str = "") -> str:
-    said = (f"{first}{span(escape(source.sheet))} {span('SHA-256 ' + element('code', source.sha, 'full'))} "
-            f"{span('Hocsimbur ' + escape(source.version))} {span(escape(source.date))}{last}")
+    sheets = [f"{span(escape(one.name))} {span('SHA-256 ' + element('code', one.sha, 'full'))}" for one in source.sheets]
+    shown = sheets[0] if len(sheets) == 1 else span(f"{len(sheets)} sheets, listed on the first page")
+    named = f"{span(escape(source.project))} " if source.project else ""
+    said = f"{first}{named}{shown} {span('Hocsimbur ' + escape(source.version))} {span(escape(source.date))}{last}"
     return element("footer", element("p", said) + below, "foot")
+
+
+def _sheets(source: Source) -> str:
+    """The files and their SHA-256 on the first page, where there are several."""
+    if len(source.sheets) == 1:
+        return ""
+    listed = "".join(element("li", f"{escape(one.name)} {element('code', one.sha, 'full')}") for one in source.sheets)
+    return element("p", "Sheets, each with its SHA-256:") + element("ol", listed, "sheets")
 
 
 def _meta(source: Source) -> str:
     """What the report was made of, at the head of the first page."""
-    said = (("Date", escape(source.date)), ("Sheet", escape(source.sheet)), ("SHA-256", element("code", source.sha[:12])),
-            ("Library", f"Hocsimbur {escape(source.version)}"))
-    return element("dl", "".join(element("div", element("dt", name) + element("dd", value)) for name, value in said), "meta")
+    one = len(source.sheets) == 1
+    said = [("Project", escape(source.project)), ("Date", escape(source.date)), ("Sheet" if one else "Sheets", escape(source.called) if one else
+            str(len(source.sheets))), ("SHA-256", element("code", source.sheets[0].sha[:12]) if one else ""),
+            ("Library", f"Hocsimbur {escape(source.version)}"), ("Engineer", escape(source.engineer))]
+    return element("dl", "".join(element("div", element("dt", name) + element("dd", value)) for name, value in said if value), "meta")
+
+
+def _signature(source: Source) -> str:
+    """A line to sign, under the engineer's name."""
+    if not source.engineer:
+        return ""
+    return element("p", span("", "line") + span(f"{escape(source.engineer)}, date"), "sign") + "\n"
 
 
 def portfolio_page(portfolio: Portfolio, source: Source, scale: Scale) -> str:
@@ -157,7 +193,8 @@ def portfolio_page(portfolio: Portfolio, source: Source, scale: Scale) -> str:
     caption = element("caption", "Decision for each station, with a mark for every season, the nearest limit, the greatest fault current "
                                  "still safe and the wire", "vh")
     stations = table("pf", caption, _table_head(scale) + _stations("Held", held, scale) + _stations("Released", released, scale)) + "\n"
-    inside = title + _totals(portfolio) + stations + _key(scale, portfolio.licensed) + _foot(source, below=element("p", _PROVED))
+    inside = title + _totals(portfolio, source.rise_limit) + stations + _key(scale, portfolio.licensed) + _signature(source) \
+        + _foot(source, below=_sheets(source) + element("p", _PROVED))
     return element("section", inside, "page portfolio", aria_labelledby="top") + "\n"
 
 
@@ -167,17 +204,22 @@ def _parted(portfolio: Portfolio) -> Tuple[List[Station], List[Station]]:
     return [station for station in stations if not station.released], [station for station in stations if station.released]
 
 
-def _asides(station: Station) -> str:
-    """What is told under the decision, and cautions."""
-    said = [reasons.differences(station), reasons.outside(station), *reasons.undecided(station), reasons.current(station)]
+def _asides(station: Station, limit: Optional[int], changes: Sequence[Change]) -> str:
+    """What is said under the decision, cautions, and what to change of a station that is held."""
+    said = [reasons.differences(station), reasons.outside(station), *reasons.undecided(station), reasons.current(station),
+            reasons.rise(station, limit) if limit is not None else "", reasons.places(station)]
     if not station.answer.small_wire:
         said.append(reasons.wire(station))
     items = [element("li", escape(one)) for one in said if one]
     items += [element("li", f"{mark('caution')}{bold('Caution:')} {escape(one)}", "caution") for one in reasons.cautions(station)]
+    if changes:
+        said = "".join(element("li", escape(change.words)) for change in changes)
+        items.append(element("li", f"{bold('What to change:')} each of these alone is answered safe in every season, or named as not enough."
+                             f"{element('ul', said)}", "next"))
     return element("ul", "".join(items), "asides") + "\n"
 
 
-def station_page(station: Station, source: Source, scale: Scale) -> str:
+def station_page(station: Station, source: Source, scale: Scale, changes: Sequence[Change] = ()) -> str:
     """A station's page: the decision, bars and plan, results, inputs and working."""
     number = station.station
     first, rest = reasons.decision(station)
@@ -186,12 +228,12 @@ def station_page(station: Station, source: Source, scale: Scale) -> str:
     top = element("div", f"{tables.bars(station, scale)}\n{plan.figure(station)}", "two top")
     low = element("div", f"{element('div', tables.inputs(station))}\n{element('div', tables.working(station))}", "two low")
     foot = _foot(source, span(f"Station {number}") + " ", " " + element("a", "All stations", "up", href="#top"))
-    inside = "\n".join([element("header", title, "head"), decided, _asides(station) + top, tables.results(station), low, foot])
+    inside = "\n".join([element("header", title, "head"), decided, _asides(station, source.rise_limit, changes) + top, tables.results(station), low, foot])
     return element("section", inside, f"page station n{len(station.shown)}", id=f"s{number}", aria_labelledby=f"h{number}") + "\n"
 
 
-def pages(portfolio: Portfolio, source: Source, scale: Scale) -> str:
+def pages(portfolio: Portfolio, source: Source, scale: Scale, changes: Dict[int, List[Change]]) -> str:
     """All pages, the stations in the order of the first one; a station without a line has none of its own."""
     held, released = _parted(portfolio)
     return portfolio_page(portfolio, source, scale) + "".join(
-        station_page(station, source, scale) for station in held + released if station.lines)
+        station_page(station, source, scale, changes.get(station.station, ())) for station in held + released if station.lines)

@@ -50,6 +50,17 @@ def length(text: str) -> int:
     return whole(found[1], _LENGTHS[found[2]], found[2] or "mm", "mm")
 
 
+_VOLTAGES: Dict[str, int] = {"mv": 1, "v": 1000, "": 1000, "kv": 1000000}
+
+
+def voltage(text: str) -> int:
+    """A voltage in mV: 5kV, 5000V or 5000."""
+    found = re.fullmatch(r"\s*([0-9.,]+)\s*(mV|kV|V|)\s*", text, re.IGNORECASE)
+    if not found:
+        raise Unclear(f"'{text}' is no voltage; write for example 5kV, 5000V or 5000 (V)")
+    return whole(found[1], _VOLTAGES[found[2].lower()], found[2] or "V", "mV")
+
+
 def _cosine(degrees: Fraction) -> Tuple[Fraction, Fraction]:
     """Two ends that hold the cosine of an angle; equal where it is rational, which it is only at multiples of 60 and 90 degrees."""
     degrees = abs(degrees) % 360

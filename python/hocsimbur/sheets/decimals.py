@@ -49,3 +49,8 @@ def grouped(number: int) -> str:
 def percent(per_mille: int) -> str:
     """Tenths of a percent, without a sign: the words around it say above or below."""
     return _shown(abs(per_mille), 1)
+
+
+def volts(millivolts: int) -> str:
+    """Millivolts in volts, exactly: '5,000 V'."""
+    return f"{exact(millivolts, 3)} V"

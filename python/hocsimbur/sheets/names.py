@@ -73,3 +73,6 @@ METALS: Dict[int, str] = {
     10: "zinc-coated steel rod",
     11: "stainless steel 304",
 }
+
+# Kf of each metal in hundredths, after IEEE Std 80, Table 2, as docs/manual.md lists them; only guesses that are then asked use them
+KF: Dict[int, int] = {1: 700, 2: 706, 3: 1178, 4: 1045, 5: 1206, 6: 1464, 7: 1726, 8: 1839, 9: 1472, 10: 2896, 11: 3005}

@@ -32,6 +32,7 @@ class Asked:
     former: bool = False                           # a sheet of the former 18 names
     most_lines: int = LINES
     line_numbers: Optional[Sequence[int]] = None   # the lines of the file from which each line of the sheet came
+    places: Optional[Sequence[Tuple[str, int]]] = None  # the files and lines from which the value lines of the sheet came
     side: int = 0                                  # mm
     readings: Sequence[Tuple[int, int]] = ()       # mm, milliohms
     parts: Sequence[Tuple[int, int]] = ()          # mA
@@ -53,7 +54,16 @@ class Asked:
 
     def number(self, line: int) -> int:
         """The line of the file from which a line of the sheet came; itself where there is no such line."""
+        if self.places and line > 1:
+            return self.places[line - 2][1]
         return self.line_numbers[line - 1] if self.line_numbers and 1 <= line <= len(self.line_numbers) else line
+
+    def beside(self, line: int, other: int) -> str:
+        """A line in words beside another one: with its file, where that is another."""
+        if not self.places:
+            return self.place(line)
+        file, number = self.places[line - 2]
+        return f"line {number}" + (f" of {file}" if file != self.places[other - 2][0] else "")
 
     def place(self, line: int, name: str = "") -> str:
         """A line, or a cell of it, in words."""
@@ -116,7 +126,7 @@ def _repeated(refused: Refused, asked: Asked) -> str:
         return asked.value(line, "station"), asked.value(line, "season")
     station, season = key(refused.line)
     earlier = next(line for line in range(2, refused.line) if key(line) == (station, season))
-    return (f"{asked.place(refused.line)}: station {station}, season {season} stands already in {asked.place(earlier)}; "
+    return (f"{asked.place(refused.line)}: station {station}, season {season} stands already in {asked.beside(earlier, refused.line)}; "
             "a station has one line for a season")
 
 
