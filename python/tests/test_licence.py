@@ -27,6 +27,19 @@ class Read(unittest.TestCase):
     def test_other_order_of_columns(self):
         self.assertEqual(licence.read(b"seasons,station,name\n4 1,7,\n").stations, (Licensed(7, "", (1, 4)),))
 
+    def test_what_people_write(self):
+        """Semicolons, tabs, quotes, other letters, old code pages, UTF-16 and empty columns."""
+        wanted = (Licensed(7, "N\u00f6rd, A", (1, 2, 3, 4)), Licensed(8, "B", (1, 2)))
+        for text in ("Station;Name;Seasons\n7;N\u00f6rd, A;1-4\n8;B;1,2\n", 'STATION,NAME,SEASONS\n7,"N\u00f6rd, A",all\n8.0,B,"1,2"\n',
+                     "station\tname\tseasons\t\n7\tN\u00f6rd, A\t1 2 3 4\t\n8\tB\t1 2\t\n", "sep=;\nseasons;name;station\n1-4;N\u00f6rd, A;7\n1+2;B;8\n"):
+            for encoding in ("utf-8", "utf-8-sig", "cp1252", "utf-16"):
+                self.assertEqual(licence.read(text.encode(encoding)).stations, wanted, (text, encoding))
+
+    def test_written_and_read_again(self):
+        made = licence.of_cases([dict(station=9, season=2), dict(station=7, season=1), dict(station=9, season=1)], {9: 'A, "B"; C'})
+        self.assertEqual(made.stations, (Licensed(9, 'A, "B"; C', (1, 2)), Licensed(7, "", (1,))))
+        self.assertEqual(licence.read(licence.text(made).encode()), made)
+
     def test_no_line_end(self):
         self.assertEqual(licence.read(HEAD + b"7,A,1").stations, (Licensed(7, "A", (1,)),))
 
@@ -64,8 +77,7 @@ class Refusals(unittest.TestCase):
         HEAD + b"7,A,12\n": "licence line 2, seasons: '12' is not 1, 2, 3 or 4; write for example 1 2 4, 1-4 or all",
         HEAD + b"7,A,1 2 1\n": "licence line 2, seasons: '1 2 1' names a season twice",
         HEAD + b"7,A\x07B,1\n": "licence line 2, name: it has a character that cannot be printed",
-        HEAD + b"7,\xff,1\n": "licence line 2: its bytes are no UTF-8; save the licence as UTF-8",
-        HEAD + b'7,"A,1\n': "licence line 2: unexpected end of data",
+        HEAD + b'7,"A,1\n': "licence: line 2: unexpected end of data",
     }
 
     def test_each(self):

@@ -7,7 +7,7 @@ import unittest
 from .common import PYTHON
 
 FOLDERS = ("portfolio", "report", "sheets")
-READING = ("amounts.py", "spreadsheet.py")  # what people write is read exactly, as fractions
+READING = ("amounts.py", "site.py", "spreadsheet.py", "units.py")  # what people write is read exactly, as fractions
 
 
 class Source(unittest.TestCase):

@@ -104,14 +104,16 @@ def _fewest(parser: argparse.ArgumentParser) -> None:
 
 
 def _wenner(parser: argparse.ArgumentParser) -> None:
-    parser.add_argument("file", metavar="FILE", nargs="?", help="readings under the names metres,ohms; - for standard input")
-    parser.add_argument("--reading", metavar="METRES,OHMS", action="append", help="a reading, in place of a file; once for each")
+    parser.add_argument("file", metavar="FILE", nargs="?", help="readings under the names metres,ohms or feet,ohms; - for standard "
+                        "input")
+    parser.add_argument("--reading", metavar="METRES,OHMS", action="append", help="a reading, in place of a file, as 2.5,7.3 or 10ft,0.7125; "
+                        "once for each")
     _csv(parser)
 
 
 def _staged(parser: argparse.ArgumentParser) -> None:
-    parser.add_argument("file", metavar="FILE", nargs="?", help="currents in A under the names in_phase,quadrature or size,angle, the "
-                        "injected one first; - for standard input")
+    parser.add_argument("file", metavar="FILE", nargs="?", help="currents in A under the names in_phase,quadrature or size,angle or "
+                        "current, the injected one first; - for standard input")
     parser.add_argument("--injected", metavar="CURRENT", help="the injected current: IN-PHASE,QUADRATURE in A, or SIZE@ANGLE in A and "
                         "degrees")
     parser.add_argument("--branch", metavar="CURRENT", action="append", help="a branch, positive away from the grid; once for each")
@@ -129,8 +131,12 @@ def _carry(parser: argparse.ArgumentParser) -> None:
 def _import(parser: argparse.ArgumentParser) -> None:
     parser.add_argument("file", metavar="FILE", help="what a spreadsheet wrote: CSV, or .xlsx where openpyxl is installed; - for "
                         "standard input")
-    parser.add_argument("-o", "--output", metavar="FILE", help="the sheet to write; without it standard output")
-    parser.add_argument("--force", action="store_true", help="replace a file that is there")
+    parser.add_argument("-o", "--output", metavar="FILE", help="the sheet to write; without it, or with -, standard output")
+    parser.add_argument("--round", choices=("cautious",), help="round values that are no whole numbers to the side on which no yard comes out "
+                        "better, and report each")
+    parser.add_argument("--worksheet", metavar="NAME", help="the worksheet of a workbook, by its name or number; without it the first")
+    parser.add_argument("--licence-out", metavar="FILE", help="also write a licence for the stations, with their names from a column name")
+    parser.add_argument("--force", action="store_true", help="replace files that are there")
 
 
 def _nothing(parser: argparse.ArgumentParser) -> None:

@@ -8,7 +8,7 @@ from typing import Callable, Iterable, List, NamedTuple, Optional, Sequence, Tup
 
 from .. import core
 from ..portfolio import advice, decision, licence, reasons
-from ..sheets import files
+from ..sheets import files, spreadsheet
 from ..sheets.amounts import voltage
 from ..sheets.decimals import grouped
 from .inputs import Inputs, gathered, named, refused
@@ -43,6 +43,8 @@ def _asked(arguments: argparse.Namespace) -> Asked:
             granted = licence.read(read(arguments.licence))
         except licence.LicenceRefused as error:
             raise Stopped([str(error)], of=arguments.licence) from None
+        except spreadsheet.Unreadable as error:
+            raise Failed(f"{arguments.licence}: {error}") from None
     try:
         seasons = licence.seasons(arguments.seasons) if arguments.seasons else licence.ALL_SEASONS
     except ValueError as error:

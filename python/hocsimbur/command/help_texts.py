@@ -27,8 +27,8 @@ class Text(NamedTuple):
 
 COMMANDS: Dict[str, Text] = {
     "check": Text(
-        "every refusal of a sheet, in words",
-        "Asks about each line of a sheet by itself, so that the first refusal of every line is told; nothing is worked.\n"
+        "every refusal of sheets, in words",
+        "Every wrong cell of every line, and stations and seasons that stand twice; nothing is computed.\n"
         "With --csv: refused, number, line, column.",
         """  $ hocsimbur check examples/refused-5.csv
   line 2, depth (column 16): 60 mm is not in 250..2500
@@ -124,7 +124,7 @@ COMMANDS: Dict[str, Text] = {
     "wenner": Text(
         "the soil from four-pin readings",
         "The apparent resistivity of each reading, the least, greatest and mean, and the value for the column soil.\n"
-        "A reading is a distance in m and a resistance in Ω; both become whole mm and mΩ exactly, or are refused.",
+        "A reading is a distance in m, or with a unit as 10ft, and a resistance in Ω; what is no whole mm or mΩ is rounded to both sides.",
         """  $ hocsimbur wenner --reading 1,10 --reading 2,4.5 --reading 3,2.5
   reading   distance  resistance  lower Ω·m  upper Ω·m
   1              1 m        10 Ω     62.831     62.832
@@ -138,7 +138,7 @@ COMMANDS: Dict[str, Text] = {
     "staged": Text(
         "the split from a staged test",
         "The grid's part of an injected current, less the branches, and the value for the column split.\n"
-        "A current is IN-PHASE,QUADRATURE in A, or SIZE@ANGLE in A and degrees; all share one phase reference, and a branch counts\n"
+        "A current is IN-PHASE,QUADRATURE in A, or SIZE@ANGLE in A and degrees (or 20∠0); all share one phase reference, and a branch counts\n"
         "positive away from the grid. Parts of sizes at angles are rounded to mA so that the split is not too small.",
         """  $ hocsimbur staged --injected 1000,0 --branch 400,0
             in-phase A  quadrature A
@@ -166,9 +166,9 @@ COMMANDS: Dict[str, Text] = {
 """),
     "import": Text(
         "a sheet of what a spreadsheet wrote",
-        "Takes away what spreadsheets add (byte-order mark, carriage returns, semicolons, quotes, spaces, blank lines, empty cells),\n"
-        "writes names in small letters and 3180.0 as 3180, and tells each change on standard error.\n"
-        "A value that is no whole number of its unit is refused, never rounded.",
+        "Takes away what spreadsheets add (byte-order mark, carriage returns, semicolons, quotes, spaces, blank lines, a title, empty cells),\n"
+        "reads units in cells and heads (0.5s, 8.7kA, 18in, 30 cycles, 4/0, soil [ohm m]), and reports each kind of change on standard error.\n"
+        "A value that is no whole number is refused with the cautious side, or with --round cautious rounded to it.",
         """  $ hocsimbur import examples/refused-2-semicolons.csv
   3 lines: semicolons made commas
   station,season,soil,layer,thick,shock,clear,wire,body,fault,split,xr,across,along,space,depth,dia,rods,rodlen,place,metal,hz

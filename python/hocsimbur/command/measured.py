@@ -32,10 +32,32 @@ def soil_notes(soil: Soil) -> List[str]:
     return notes
 
 
-def soil_text(measured: Sequence[Tuple[int, int]], each: Sequence[Soil], soil: Soil) -> str:
+def between(lower: Soil, upper: Soil) -> Soil:
+    """The soil of readings that lie between those of two answers: the lower ends of one, the upper ends of the other, and its soil."""
+    pairs = zip((lower.least, lower.greatest, lower.mean), (upper.least, upper.greatest, upper.mean))
+    return Soil(*(Pair(one.lower, other.upper) for one, other in pairs), upper.soil)
+
+
+def rounding_notes(lower: Sequence[Tuple[int, int]], upper: Sequence[Tuple[int, int]]) -> List[str]:
+    """That readings were rounded to both sides."""
+    count = sum(one != other for one, other in zip(lower, upper))
+    if not count:
+        return []
+    return [f"note: {count} reading{' is' if count == 1 else 's are'} no whole mm or mΩ; each was rounded to both sides, so that the ends hold the "
+            "exact value, and the column soil goes by the upper ends"]
+
+
+def _both(low: int, high: int, unit: str) -> str:
+    """An amount in thousandths of a unit, or both of its ends."""
+    return f"{exact(low, 3)} {unit}" if low == high else f"{exact(low, 3)} to {exact(high, 3)} {unit}"
+
+
+def soil_text(lower: Sequence[Tuple[int, int]], upper: Sequence[Tuple[int, int]], soil: Soil) -> str:
     """The readings with the apparent resistivity of each, then least, greatest and mean, and the value for the column soil."""
-    lines = [(f"{place}", exact(distance, 3) + " m", exact(resistance, 3) + " Ω", *_ohm_metres(one.mean))
-             for place, ((distance, resistance), one) in enumerate(zip(measured, each), 1)]
+    lines = []
+    for place, (low, high) in enumerate(zip(lower, upper), 1):
+        one = between(core.soil([low]), core.soil([high]))
+        lines.append((f"{place}", _both(low[0], high[0], "m"), _both(low[1], high[1], "Ω"), *_ohm_metres(one.mean)))
     head = ("reading", "distance", "resistance", "lower Ω·m", "upper Ω·m")
     lines += [(called, "", "", *_ohm_metres(ends)) for called, ends in
               (("least", soil.least), ("greatest", soil.greatest), ("mean", soil.mean))]
@@ -49,11 +71,6 @@ def _ohm_metres(ends: Pair) -> Tuple[str, str]:
 def soil_csv(soil: Soil) -> str:
     names = [f"{called}_{end}_uohm_m" for called in ("least", "greatest", "mean") for end in ("lower", "upper")]
     return commas([*names, "soil_ohm_m"], [(*soil.least, *soil.greatest, *soil.mean, soil.soil)])
-
-
-def each_soil(measured: Sequence[Tuple[int, int]]) -> List[Soil]:
-    """The soil of each reading by itself."""
-    return [core.soil([one]) for one in measured]
 
 
 def split_notes(split: Split, moved: int) -> List[str]:

@@ -18,9 +18,10 @@ def wenner(arguments: argparse.Namespace) -> int:
         found = clear(arguments.file, site.readings, read(arguments.file))
     else:
         found = [clear(f"reading {one}", site.reading_of, one) for one in arguments.reading]
-    soil = ask(lambda: core.soil(found), Asked(readings=found))
-    show(measured.soil_csv(soil) if arguments.csv else measured.soil_text(found, measured.each_soil(found), soil))
-    for note in measured.soil_notes(soil):
+    lower, upper = site.ends(found)
+    soil = measured.between(ask(lambda: core.soil(lower), Asked(readings=lower)), ask(lambda: core.soil(upper), Asked(readings=upper)))
+    show(measured.soil_csv(soil) if arguments.csv else measured.soil_text(lower, upper, soil))
+    for note in measured.soil_notes(soil) + measured.rounding_notes(lower, upper):
         tell(note)
     return WELL
 

@@ -1,14 +1,14 @@
-"""A licence: which stations in which seasons are to be released, from a text of three columns, station, name and seasons.
+"""A licence: which stations in which seasons are to be released, from a text or workbook of three columns, station, name and seasons.
 
-The columns stand in any order; the seasons of a station are parted by spaces, as `1 2 4`.
+The columns stand in any order and their names in any letters; the seasons of a station are written as `1 2 4`, `1,2,4`, `1-4` or `all`.
 A name is any printable text on one line; one with a comma stands in double quotes."""
 from __future__ import annotations
 
-import csv
-import io
 import re
 from dataclasses import dataclass
-from typing import List, Optional, Tuple
+from typing import Dict, List, Optional, Sequence, Tuple
+
+from ..sheets import spreadsheet
 
 COLUMNS = ("station", "name", "seasons")
 ALL_SEASONS = (1, 2, 3, 4)
@@ -54,35 +54,30 @@ def _refuse(line: Optional[int], said: str) -> LicenceRefused:
     return LicenceRefused(f"licence line {line}{said}" if line else f"licence{said}")
 
 
-def _lines(text: bytes) -> List[Tuple[int, List[str]]]:
-    """The lines that are not blank, with their numbers and cells."""
+def _lines(data: bytes, worksheet: Optional[str]) -> List[Tuple[int, List[str]]]:
+    """The lines that are not blank, with their numbers and cells, of a text or a workbook."""
     try:
-        decoded = text.decode("utf-8-sig")
-    except UnicodeDecodeError as error:
-        raise _refuse(text[:error.start].count(b"\n") + 1, ": its bytes are no UTF-8; save the licence as UTF-8") from None
-    reader = csv.reader(io.StringIO(decoded, newline=""), strict=True)
-    found = []
-    try:
-        for cells in reader:
-            if any(cell.strip() for cell in cells):
-                found.append((reader.line_num, [cell.strip() for cell in cells]))
-    except csv.Error as error:
-        raise _refuse(reader.line_num, f": {error}") from None
-    return found
+        return spreadsheet.table(data, spreadsheet.Changes(), worksheet)[0]
+    except spreadsheet.Refusals as refusals:
+        raise _refuse(None, f": {refusals}") from None
 
 
 def _order(head: Tuple[int, List[str]]) -> List[int]:
     """The places of the three columns."""
     line, names = head
-    if sorted(names) != sorted(COLUMNS):
+    bare = [name.casefold() for name in names]
+    while bare and not bare[-1]:
+        bare.pop()
+    if sorted(bare) != sorted(COLUMNS):
         raise _refuse(line, f": the names are {','.join(names)}, not station,name,seasons")
-    return [names.index(column) for column in COLUMNS]
+    return [bare.index(column) for column in COLUMNS]
 
 
 def _station(line: int, cell: str) -> int:
-    if not (cell.isascii() and cell.isdigit() and len(cell) <= 5 and 1 <= int(cell) <= 65535):
+    digits = re.fullmatch(r"([0-9]{1,5})(?:\.0*)?", cell)
+    if not digits or not 1 <= int(digits[1]) <= 65535:
         raise _refuse(line, f", station: '{cell}' is not a number in 1..65535")
-    return int(cell)
+    return int(digits[1])
 
 
 def seasons(text: str) -> Tuple[int, ...]:
@@ -109,14 +104,16 @@ def _seasons(line: int, cell: str) -> Tuple[int, ...]:
         raise _refuse(line, f", seasons: {error}") from None
 
 
-def read(text: bytes) -> Licence:
-    """The licence that a text has, or `LicenceRefused`."""
-    lines = _lines(text)
+def read(data: bytes, worksheet: Optional[str] = None) -> Licence:
+    """The licence that a text or a workbook has, or `LicenceRefused`."""
+    lines = _lines(data, worksheet)
     if not lines:
         raise _refuse(None, ": it is empty; its first line is station,name,seasons")
     order, stations = _order(lines[0]), []
     places = {}
     for line, cells in lines[1:]:
+        if len(cells) > len(COLUMNS) and not any(cells[len(COLUMNS):]):
+            cells = cells[:len(COLUMNS)]
         if len(cells) != len(COLUMNS):
             raise _refuse(line, f": {len(cells)} cells and not 3; a name with a comma stands in double quotes")
         station, name, seasons = (cells[place] for place in order)
@@ -130,3 +127,19 @@ def read(text: bytes) -> Licence:
     if not stations:
         raise _refuse(None, ": it names no station")
     return Licence(tuple(stations))
+
+
+def of_cases(cases: Sequence[Dict[str, int]], names: Dict[int, str]) -> Licence:
+    """A licence for the stations of some lines, each in the seasons that have a line, with their names."""
+    found: Dict[int, List[int]] = {}
+    for case in cases:
+        found.setdefault(case["station"], []).append(case["season"])
+    return Licence(tuple(Licensed(station, names.get(station, ""), tuple(sorted(own))) for station, own in found.items()))
+
+
+def text(licence: Licence) -> str:
+    """A licence as the text that `read` reads."""
+    def quoted(name: str) -> str:
+        return '"' + name.replace('"', '""') + '"' if any(sign in name for sign in ',;"') else name
+    lines = [f"{one.station},{quoted(one.name)},{' '.join(map(str, one.seasons))}\n" for one in licence.stations]
+    return "station,name,seasons\n" + "".join(lines)

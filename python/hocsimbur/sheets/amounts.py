@@ -31,6 +31,18 @@ def decimal(text: str) -> Fraction:
     return Fraction(bare if not bare.endswith(".") else bare + "0")
 
 
+def shown(number: Fraction) -> str:
+    """A number as people write it: all its decimals, or where they do not end the first six and an ellipsis."""
+    sign, number = "-" if number < 0 else "", abs(number)
+    for places in range(13):
+        scaled = number * 10 ** places
+        if scaled.denominator == 1:
+            digits = str(int(scaled)).rjust(places + 1, "0")
+            return sign + (f"{digits[:-places]}.{digits[-places:]}" if places else digits)
+    digits = str(int(number * 10 ** 6)).rjust(7, "0")
+    return f"{sign}{digits[:-6]}.{digits[-6:]}…"
+
+
 def whole(text: str, scale: int, unit: str, small: str) -> int:
     """An amount in a unit as a whole number of a unit `scale` times smaller, exactly."""
     number = decimal(text) * scale

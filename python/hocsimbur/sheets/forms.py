@@ -7,6 +7,7 @@ import difflib
 import re
 from typing import List, Sequence, Tuple
 
+from . import rounding
 from .names import BY_NAME
 
 CARRY = "`hocsimbur carry` makes today's sheet of it"
@@ -49,7 +50,7 @@ def _parted(line: str) -> str:
     """What parts the fields of a line instead of commas; '' where commas do."""
     for sign, called in ((";", "semicolons"), ("\t", "tabs")):
         if sign in line:
-            return f"the fields are parted by {called} and not by commas; {IMPORT}"
+            return f"the fields are separated by {called} and not by commas; {IMPORT}"
     return ""
 
 
@@ -110,13 +111,14 @@ def whole_number(unit: str) -> str:
     return "a whole number" + (f" {'' if unit == 'per mille' else 'of '}{unit}" if unit else "")
 
 
-def _number(text: str, unit: str, allowed: str) -> str:
+def _number(text: str, name: str, unit: str, allowed: str) -> str:
     """What is wrong with a field that should be a whole number."""
     whole = f"{whole_number(unit)}, {allowed}"
     if re.fullmatch(r"\d+[.]0*", text):
         return f"{short(text)} has a decimal point; write {short(text.split('.')[0])}, or let `hocsimbur import` do so"
     if re.fullmatch(r"\d*[.]\d+", text):
-        return f"{short(text)} is not {whole}"
+        advice = rounding.advice(name)
+        return f"{short(text)} is not {whole}" + (f"; {advice}" if advice else "")
     if re.fullmatch(r"0\d+", text):
         return f"{short(text)} starts with 0; write {text.lstrip('0') or '0'}"
     if re.fullmatch(r"[0-9]{7,}", text):
@@ -134,7 +136,7 @@ def wrong_value(names: List[str], values: List[str], line: int, column: int) -> 
     if values == [""]:
         return where, "the line is empty; take it out, or let `hocsimbur import` do so"
     if column > len(names):
-        return f"{where}, column {column}", f"there are {len(values)} values for {len(names)} names; a decimal comma parts a value in two"
+        return f"{where}, column {column}", f"there are {len(values)} values for {len(names)} names; a decimal comma splits a value in two"
     name = names[column - 1]
     if column > len(values):
         return f"{where}, {cell(name, column)}", f"there are only {len(values)} values for {len(names)} names; this one is missing"
@@ -147,7 +149,7 @@ def wrong_value(names: List[str], values: List[str], line: int, column: int) -> 
     unit, allowed = (own.unit, own.allowed) if own else FORMER_ONLY[name]
     if not value:
         return where, f"no value stands here; it must be {whole_number(unit)}, {allowed}"
-    return where, _number(value, unit, allowed)
+    return where, _number(value, name, unit, allowed)
 
 
 # unit and range of the two names that only the former sheet has

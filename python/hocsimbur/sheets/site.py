@@ -6,11 +6,11 @@ from __future__ import annotations
 import csv
 import io
 import re
+from fractions import Fraction
 from typing import Dict, List, NamedTuple, Sequence, Tuple
 
 from ..core import Pair
 from .amounts import Unclear, decimal, parts, whole
-from .decimals import exact
 
 # a number with a decimal comma; one with three digits behind it may also have its thousands parted, and is not taken
 DECIMAL_COMMA = re.compile(r"[+-]?(\d+,(\d{1,2}|\d{4,})|\d{4,},\d+)")
@@ -63,43 +63,81 @@ def _at(where: str, made, *arguments):
 
 # ---- four-pin readings
 
-def reading(metres: str, ohms: str) -> Tuple[int, int]:
-    """A reading of a distance in metres and a resistance in ohms, in mm and milliohms."""
-    distance = _at("distance", whole, metres, 1000, "m", "mm")
-    resistance = _at("resistance", whole, ohms, 1000, "Ω", "mΩ")
-    for called, number in (("distance", distance), ("resistance", resistance)):
-        if not 0 <= number < 2 ** 32:
-            raise Unclear(f"{called}: {exact(number, 3)} is far out of range")
-    return distance, resistance
+class Reading(NamedTuple):
+    """A reading: its distance in mm and its resistance in milliohms, each between two whole numbers, which are one where it is whole."""
+
+    distance: Pair
+    resistance: Pair
 
 
-def pair(text: str) -> Tuple[str, str]:
-    """Two amounts parted by a comma."""
+_DISTANCES = {"m": Fraction(1000), "metres": Fraction(1000), "mm": Fraction(1), "cm": Fraction(10), "ft": Fraction(3048, 10),
+              "feet": Fraction(3048, 10), "'": Fraction(3048, 10), "in": Fraction(254, 10)}
+_RESISTANCES = {"ω": Fraction(1000), "ohm": Fraction(1000), "ohms": Fraction(1000), "mω": Fraction(1), "mohm": Fraction(1),
+                "kω": Fraction(1000000), "kohm": Fraction(1000000)}
+_ALLOWED = {"distance": "m, cm, mm, ft or in", "resistance": "Ω, mΩ or kΩ"}
+FORM = "METRES,OHMS as 2.5,7.3, or with units as 10ft,0.7125"
+
+
+def _amount(text: str, own: str, units: Dict[str, Fraction], called: str) -> Pair:
+    """An amount with a unit, or in its own, between two whole numbers of the smallest unit."""
+    found = re.fullmatch(r"\s*([0-9.,+\u2212-]+)\s*(.*?)\s*", text)
+    if not found:
+        raise Unclear(f"{called}: '{text.strip()}' is no number")
+    unit = found[2].casefold() or own
+    if unit not in units:
+        raise Unclear(f"{called}: '{text.strip()}' has the unit '{found[2]}'; it may have {_ALLOWED[called]}")
+    number = decimal(found[1]) * units[unit]
+    if not 0 <= number < 2 ** 32 - 1:
+        raise Unclear(f"{called}: {text.strip()} is far out of range")
+    return Pair(number.numerator // number.denominator, -(-number.numerator // number.denominator))
+
+
+def reading(distance: str, ohms: str, own: str = "m") -> Reading:
+    """A reading of a distance, in metres or in another unit, and a resistance in ohms."""
+    return Reading(_at_amount("distance", distance, own, _DISTANCES), _at_amount("resistance", ohms, "ohm", _RESISTANCES))
+
+
+def _at_amount(called: str, text: str, own: str, units: Dict[str, Fraction]) -> Pair:
+    try:
+        return _amount(text, own, units, called)
+    except Unclear as error:
+        raise Unclear(str(error) if str(error).startswith(called) else f"{called}: {error}") from None
+
+
+def pair(text: str, form: str) -> Tuple[str, str]:
+    """Two amounts separated by a comma."""
     cells = text.split(",")
     if len(cells) != 2:
-        raise Unclear(f"'{text}' is not two numbers parted by a comma; write a decimal point inside a number")
+        raise Unclear(f"'{text}' is not two numbers separated by a comma; write {form}, with a decimal point inside a number")
     return cells[0], cells[1]
 
 
-def reading_of(text: str) -> Tuple[int, int]:
+def reading_of(text: str) -> Reading:
     """A reading as METRES,OHMS."""
-    return reading(*pair(text))
+    return reading(*pair(text, FORM))
 
 
-def readings(text: bytes) -> List[Tuple[int, int]]:
-    """The readings of a text with the names metres and ohms."""
-    _, lines = _table(text, [("metres", "ohms")])
-    return [_at(f"line {number}", reading, line["metres"], line["ohms"]) for number, line in lines]
+def readings(text: bytes) -> List[Reading]:
+    """The readings of a text with the names metres or feet, and ohms."""
+    form, lines = _table(text, [("metres", "ohms"), ("feet", "ohms")])
+    own = "ft" if form[0] == "feet" else "m"
+    return [_at(f"line {number}", reading, line[form[0]], line["ohms"], own) for number, line in lines]
+
+
+def ends(found: Sequence[Reading]) -> Tuple[List[Tuple[int, int]], List[Tuple[int, int]]]:
+    """The readings as the library takes them: with every amount rounded down, and with every one rounded up."""
+    return ([(one.distance.lower, one.resistance.lower) for one in found], [(one.distance.upper, one.resistance.upper) for one in found])
 
 
 # ---- staged tests
 
+CURRENT = "IN-PHASE,QUADRATURE in A as 1000,-50, or SIZE@ANGLE in A and degrees as 1000@-22.5 or 1000\u2220-22.5"
+
+
 def current(text: str) -> Part:
-    """A current in amperes: 1000,-50 (in-phase, quadrature) or 1000@-22.5 (size, angle in degrees)."""
-    if "@" in text:
-        size, _, angle = text.partition("@")
-        return polar(size, angle)
-    return rectangular(*pair(text))
+    """A current in amperes: 1000,-50 (in-phase, quadrature), or 1000@-22.5 or 1000\u2220-22.5 (size, angle in degrees)."""
+    found = re.fullmatch(r"(.*?)[ Aa]*[@\u2220](.*)", text.strip())
+    return polar(found[1], found[2]) if found else rectangular(*pair(text, CURRENT))
 
 
 def rectangular(in_phase: str, quadrature: str) -> Part:
@@ -112,7 +150,7 @@ def rectangular(in_phase: str, quadrature: str) -> Part:
 
 def polar(size: str, angle: str) -> Part:
     """A current of a size in amperes at an angle in degrees."""
-    turned = decimal(angle.rstrip("°"))
+    turned = decimal(angle.strip().rstrip("°"))
     if abs(turned) > 360:
         raise Unclear(f"angle: {angle} is not in −360..360 degrees")
     amperes = decimal(size)
@@ -122,8 +160,10 @@ def polar(size: str, angle: str) -> Part:
 
 
 def currents(text: bytes) -> List[Part]:
-    """The currents of a text, the injected one first, by the names in_phase and quadrature, or size and angle."""
-    form, lines = _table(text, [("in_phase", "quadrature"), ("size", "angle")])
+    """The currents of a text, the injected one first, by the names in_phase and quadrature, or size and angle, or current alone."""
+    form, lines = _table(text, [("in_phase", "quadrature"), ("size", "angle"), ("current",)])
+    if form == ("current",):
+        return [_at(f"line {number}", current, line["current"]) for number, line in lines]
     made = rectangular if form[0] == "in_phase" else polar
     return [_at(f"line {number}", made, line[form[0]], line[form[1]]) for number, line in lines]
 
