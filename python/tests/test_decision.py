@@ -9,7 +9,7 @@ from hocsimbur.portfolio import asking, decision, licence
 from hocsimbur.sheets import layout
 from hocsimbur.core import Verdict
 from hocsimbur.portfolio.decision import Missing, OtherYard, SmallWire, Undecided, Unsafe
-from hocsimbur.portfolio.lines import ABOVE, BELOW, NOT_PARTED
+from hocsimbur.portfolio.compared import ABOVE, BELOW, NOT_PARTED
 
 from .portfolios import CASES, LICENCE, SHEET, case, granted, station
 

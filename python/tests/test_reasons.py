@@ -4,11 +4,11 @@ from __future__ import annotations
 import unittest
 
 from hocsimbur.sheets import layout
-from hocsimbur.portfolio import decision, reasons
+from hocsimbur.portfolio import compared, decision, reasons
 from hocsimbur.report import plan
 from hocsimbur.core import Pair
 from hocsimbur.sheets.decimals import NO_BREAK
-from hocsimbur.portfolio.lines import Compared
+from hocsimbur.portfolio.compared import Compared
 
 from .portfolios import LICENCE, SHEET, case, granted, station
 
@@ -120,7 +120,7 @@ class OnOneLine(unittest.TestCase):
 
 class Margins(unittest.TestCase):
     def words(self, margin, lower, upper):
-        return plain(reasons.margin(Compared("touch", Pair(lower, upper), Pair(1000000, 1000002), margin)))
+        return plain(compared.margin(Compared("touch", Pair(lower, upper), Pair(1000000, 1000002), margin)))
 
     def test_each(self):
         self.assertEqual(self.words(180, 1179990, 1180000), "18.0 % above")

@@ -8,13 +8,13 @@ from typing import Callable, Iterable, List, NamedTuple, Optional, Sequence, Tup
 
 from .. import core
 from ..portfolio import advice, decision, licence, reasons
+from ..portfolio.compared import rises_above
 from ..sheets import files, spreadsheet
-from ..sheets.amounts import voltage
 from ..sheets.decimals import grouped
-from .inputs import Inputs, gathered, named, refused
+from .inputs import Inputs, gathered, named, refused, rise_limit
 from .output import HELD, WELL, Failed, read, show, tell, write
 from .progress import watched
-from .stopped import Stopped, clear
+from .stopped import Stopped
 from .terminal import commas, paint
 
 NEXT_NAMES = ("station", "change", "kind", "season", "name", "value")
@@ -49,8 +49,7 @@ def _asked(arguments: argparse.Namespace) -> Asked:
         seasons = licence.seasons(arguments.seasons) if arguments.seasons else licence.ALL_SEASONS
     except ValueError as error:
         raise Stopped([f"seasons: {error}"]) from None
-    limit = clear("gpr-limit", voltage, arguments.gpr_limit) if getattr(arguments, "gpr_limit", None) else None
-    return Asked(gathered(arguments), granted, seasons, limit)
+    return Asked(gathered(arguments), granted, seasons, rise_limit(arguments))
 
 
 def _answered(arguments: argparse.Namespace, asked: Asked,
@@ -148,7 +147,7 @@ def release(arguments: argparse.Namespace) -> int:
     else:
         told, others = _answered(arguments, asked, lambda station: (station.station, _decided(station, limit)))
         sums = reasons.summed(one.counts for _, one in told)
-        rises = f"{reasons.rises_above(sums.rises, limit)}\n" if limit is not None else ""
+        rises = f"{rises_above(sums.rises, limit)}\n" if limit is not None else ""
         show(f"{_shown([one for _, one in told])}{_totals(sums, asked.licence is not None)}\n{rises}")
         stations = [station for station, one in told if one.lineless]
     _notes(asked, sums, stations, others)

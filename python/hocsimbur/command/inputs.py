@@ -3,26 +3,27 @@ from __future__ import annotations
 
 import argparse
 import os
-import pathlib
-import shlex
-from typing import Callable, List, NamedTuple, Optional, Sequence, Tuple, TypeVar
+from typing import TYPE_CHECKING, Callable, List, NamedTuple, Optional, Sequence, Tuple, TypeVar
 
 from .. import core
-from ..sheets import checking, files
+from ..sheets import files
 from ..sheets.files import Batch, File, Lines
 from ..sheets.words import Asked, refusal
 from .output import Failed, read, reason, tell
 from .progress import watched
-from .stopped import Stopped
+from .stopped import Stopped, clear
 from .terminal import field
+
+if TYPE_CHECKING:
+    from ..sheets import checking  # imported where something is refused
 
 Answer = TypeVar("Answer")
 
 
-def _inside(folder: pathlib.Path) -> List[str]:
+def _inside(folder: str) -> List[str]:
     """The files of a folder that end in .csv, in the order of their names."""
     try:
-        found = sorted(str(one) for one in folder.iterdir() if one.suffix.lower() == ".csv" and one.is_file())
+        found = sorted(one.path for one in os.scandir(folder) if one.name.lower().endswith(".csv") and one.is_file())
     except OSError as error:
         raise Failed(f"{folder}: {reason(error)}") from None
     if not found:
@@ -47,7 +48,7 @@ def named(names: Sequence[str], apart: Optional[str] = None, quiet: bool = False
     seen = {}
     for name in names:
         folder = name != "-" and os.path.isdir(name)
-        for one in _inside(pathlib.Path(name)) if folder else [name]:
+        for one in _inside(name) if folder else [name]:
             key = (one,) if one == "-" else _same(one)
             if key in seen:
                 quiet or tell(f"note: {_called(one)} is named twice{'' if seen[key] == one else f', first as {seen[key]}'}; it is read once")
@@ -80,6 +81,7 @@ def _files(arguments: argparse.Namespace) -> Tuple[List[File], bool]:
 
 def checked(arguments: argparse.Namespace) -> Tuple[List[File], bool, List[checking.Found]]:
     """The files of a command with all their refusals."""
+    from ..sheets import checking
     read_, several = _files(arguments)
     return read_, several, checking.check(read_)
 
@@ -91,6 +93,7 @@ def printed(one: checking.Found, several: bool) -> str:
 
 def _stopped(arguments: argparse.Namespace, given: List[File], several: bool) -> Stopped:
     """The first refusal of each file, and how to see all of them."""
+    from ..sheets import checking
     if len(given) == 1 and len(given[0].data) <= core.SHEET_BYTES:
         try:
             core.count(given[0].data)
@@ -107,10 +110,19 @@ def _stopped(arguments: argparse.Namespace, given: List[File], several: bool) ->
 
 
 def _told(arguments: argparse.Namespace, found: List[checking.Found], several: bool) -> Stopped:
+    import shlex  # only where something is refused
     asked = "" if "-" in arguments.files else \
         f"; `hocsimbur check {' '.join(shlex.quote(name) for name in arguments.files)}` reports every refusal"
     said = [f"{one.file}: {one.said}" if one.file != "standard input" else one.said for one in found]
     return Stopped(said, "".join(printed(one, several) for one in found), after=f"nothing was computed{asked}")
+
+
+def rise_limit(arguments: argparse.Namespace) -> Optional[int]:
+    """The limit of the ground potential rise in mV, where one is given."""
+    if not getattr(arguments, "gpr_limit", None):
+        return None
+    from ..sheets.amounts import voltage
+    return clear("gpr-limit", voltage, arguments.gpr_limit)
 
 
 def gathered(arguments: argparse.Namespace) -> Inputs:

@@ -6,8 +6,7 @@ from typing import Iterable, List, NamedTuple, Optional, Sequence, Tuple
 
 from .. import core
 from ..core import Margins, Row, Station
-from ..portfolio import reasons
-from ..portfolio.decision import Compared
+from ..portfolio.compared import Compared, above_rise, margin, rises_above
 from ..sheets.decimals import NO_BREAK, down, grouped, up, volts
 from ..sheets.files import Place
 from ..sheets.words import verdict
@@ -96,7 +95,7 @@ def compared(row: Row, margins_: Margins) -> Tuple[Compared, Compared]:
 
 
 def _margin(one: Compared) -> str:
-    return reasons.margin(one).replace(NO_BREAK, " ")
+    return margin(one).replace(NO_BREAK, " ")
 
 
 def _volts(one: Compared) -> Tuple[str, str]:
@@ -151,11 +150,11 @@ def margins(found: Sequence[Margin], places: Places = None, limit: Optional[int]
     names = ["station", "season", "verdict", "mesh V", "touch limit V", "margin", "step V", "step limit V", "margin"]
     lines: List[Tuple[object, ...]] = []
     for one in (found[i] for i in order):
-        rise = () if limit is None else (up(one.rise, 3, 1), reasons.above_rise(one.rise, limit) or "below")
+        rise = () if limit is None else (up(one.rise, 3, 1), above_rise(one.rise, limit) or "below")
         lines.append((one.station, one.season, verdict(one.verdict), *one.cells, *rise))
     names += [] if limit is None else ["potential rise V", f"of {volts(limit)}"]
     text = _aligned(names, lines, [places[i] for i in order] if places else None)
-    return text + ("" if limit is None else f"{reasons.rises_above(sum(one.rise > limit for one in found), limit)}\n")
+    return text + ("" if limit is None else f"{rises_above(sum(one.rise > limit for one in found), limit)}\n")
 
 
 def summary_csv(stations: Sequence[Station], of_files: Optional[Sequence[str]] = None) -> str:

@@ -7,7 +7,6 @@ import os
 import pathlib
 import stat
 import sys
-import tempfile
 from typing import Iterable, Optional, TextIO
 
 from ..sheets.forms import printable
@@ -126,6 +125,7 @@ def write(name: str, data: bytes, force: bool, sources: Iterable[Optional[str]] 
 def _rename_into(path: pathlib.Path, data: bytes) -> None:
     """The bytes under a temporary name in the same folder, then renamed; the temporary file is taken away where that fails."""
     mode = path.stat().st_mode & 0o777 if path.exists() else 0o666 & ~_umask()
+    import tempfile  # only where a file is written
     handle, temporary = tempfile.mkstemp(prefix=".hocsimbur-", dir=path.parent)
     try:
         with os.fdopen(handle, "wb") as file:

@@ -5,14 +5,11 @@ import argparse
 from typing import List, Optional, Sequence, Tuple
 
 from .. import core
-from ..sheets import checking
-from ..sheets.amounts import voltage
 from ..sheets.decimals import grouped
 from ..sheets.files import Batch, Place
 from . import listing
-from .inputs import Inputs, answered, checked, gathered, printed
+from .inputs import Inputs, answered, checked, gathered, printed, rise_limit
 from .output import HELD, REFUSED, WELL, show
-from .stopped import clear
 
 
 def _status(verdicts: Sequence[core.Verdict]) -> int:
@@ -25,6 +22,7 @@ def _places(inputs: Inputs) -> Optional[List[Place]]:
 
 
 def check(arguments: argparse.Namespace) -> int:
+    from ..sheets import checking
     files, several, found = checked(arguments)
     if arguments.csv:
         show("".join(printed(one, several) for one in found))
@@ -62,7 +60,7 @@ def rows(arguments: argparse.Namespace) -> int:
 
 
 def margins(arguments: argparse.Namespace) -> int:
-    limit = clear("gpr-limit", voltage, arguments.gpr_limit) if arguments.gpr_limit else None
+    limit = rise_limit(arguments)
     inputs = gathered(arguments)
 
     def question(batch: Batch) -> List[listing.Margin]:

@@ -4,7 +4,7 @@ from __future__ import annotations
 from typing import Callable, List, TypeVar
 
 from .. import core
-from ..sheets.amounts import Unclear
+from ..sheets.forms import Unclear
 from ..sheets.words import Asked, refusal
 
 Answer = TypeVar("Answer")

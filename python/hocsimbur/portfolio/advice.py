@@ -13,8 +13,9 @@ from ..sheets import labels, layout
 from ..sheets.decimals import NO_BREAK, exact
 from ..sheets.labels import listed
 from ..sheets.names import BY_NAME
-from . import asking, reasons
+from . import asking
 from .candidates import Cases, Tried, kinds, with_values
+from .compared import share
 from .decision import Missing, OtherYard, SmallWire, Station
 from .lines import YARD
 
@@ -66,7 +67,7 @@ def _nearest(lines: Cases) -> str:
     answered = core.margins(layout.text(list(lines)))
     margin, limit, season = max(((one, limit, case["season"]) for case, both in zip(lines, answered)
                                  for one, limit in ((both.mesh, "touch"), (both.step, "step"))), key=lambda found: found[0])
-    size = f"{reasons.share(margin)} below" if margin else "under 0.1 % below"
+    size = f"{share(margin)} below" if margin else "under 0.1 % below"
     return f"nearest limit then {size} ({limit}, season {season})".replace(NO_BREAK, " ")
 
 

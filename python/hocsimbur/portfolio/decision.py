@@ -8,8 +8,9 @@ from typing import Callable, Dict, Iterable, List, NamedTuple, Optional, Sequenc
 
 from .. import core
 from ..sheets.files import Batch, Given, Lines, Place, each
+from .compared import ABOVE, NOT_PARTED, Compared
 from .licence import ALL_SEASONS, Licence, Licensed, unlicensed
-from .lines import ABOVE, NOT_PARTED, YARD, Compared, Line, differing, gather
+from .lines import YARD, Line, differing, gather
 
 Answer = TypeVar("Answer")
 

@@ -8,8 +8,6 @@ import re
 from dataclasses import dataclass
 from typing import Dict, List, Optional, Sequence, Tuple
 
-from ..sheets import spreadsheet
-
 COLUMNS = ("station", "name", "seasons")
 ALL_SEASONS = (1, 2, 3, 4)
 
@@ -56,6 +54,7 @@ def _refuse(line: Optional[int], said: str) -> LicenceRefused:
 
 def _lines(data: bytes, worksheet: Optional[str]) -> List[Tuple[int, List[str]]]:
     """The lines that are not blank, with their numbers and cells, of a text or a workbook."""
+    from ..sheets import spreadsheet  # only where there is a licence to read
     try:
         return spreadsheet.table(data, spreadsheet.Changes(), worksheet)[0]
     except spreadsheet.Refusals as refusals:

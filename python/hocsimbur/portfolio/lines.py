@@ -5,40 +5,17 @@ from __future__ import annotations
 
 from dataclasses import dataclass
 from functools import cached_property
-from typing import Dict, List, NamedTuple, Optional, Sequence, Tuple
+from typing import Dict, List, Optional, Sequence, Tuple
 
 from .. import core
 from ..sheets import layout
 from ..sheets.files import Place
 from ..sheets.names import NAMES
 from . import asking
+from .compared import Compared
 
 # the columns that describe the yard, on which the lines of a station must agree, as docs/manual.md lists them
 YARD = ("across", "along", "space", "depth", "dia", "rods", "rodlen", "place", "metal")
-
-BELOW, ABOVE, NOT_PARTED = "below", "above", "not parted"
-
-
-class Compared(NamedTuple):
-    """A voltage of a line and what is tolerable of it, in millivolts, with the margin per mille."""
-
-    limit: str  # 'touch' or 'step'
-    voltage: core.Pair
-    tolerable: core.Pair
-    margin: int
-
-    @property
-    def kind(self) -> str:
-        """The voltage's name: 'mesh' against touch, 'step' against step."""
-        return "mesh" if self.limit == "touch" else "step"
-
-    @property
-    def side(self) -> str:
-        """Where the voltage lies, by the ends that are reported: below its limit (or at it), above, or not parted from it."""
-        if self.voltage.upper <= self.tolerable.lower:
-            return BELOW
-        return ABOVE if self.voltage.lower > self.tolerable.upper else NOT_PARTED
-
 
 class Answers:
     """What the core answers of the lines of a sheet."""

@@ -13,8 +13,9 @@ from ..sheets.decimals import grouped
 from ..sheets.files import Place
 from ..sheets.labels import listed
 from .asking import FAULT_MOST
+from .compared import NOT_PARTED, Compared, margin, share
 from .decision import Missing, OtherYard, Portfolio, Reason, Size, Station, Undecided, Unsafe, kcmil
-from .lines import BELOW, NOT_PARTED, Compared, Line
+from .lines import Line
 
 
 NAMED = 20  # stations outside the licence that are named one by one
@@ -25,22 +26,6 @@ class Told(NamedTuple):
 
     head: str
     detail: str
-
-
-def share(per_mille: int) -> str:
-    """The size of a margin: tenths of a percent; from 1,000 % whole percent, rounded up."""
-    if per_mille >= 10000:
-        return f"{grouped(-(-per_mille // 10))}{NB}%"
-    return f"{decimals.percent(per_mille)}{NB}%"
-
-
-def margin(one: Compared) -> str:
-    """A margin in words: '18.0 % above', '7.5 % below', 'under 0.1 % below', 'not parted'."""
-    if one.side == NOT_PARTED:
-        return NOT_PARTED
-    if one.side == BELOW and one.margin == 0:
-        return f"under 0.1{NB}% below"
-    return f"{share(one.margin)} {one.side}"
 
 
 def _above(one: Compared) -> str:
@@ -285,11 +270,6 @@ def above(station: Station, limit: int) -> List[Line]:
     return [line for line in station.lines if line.row.rise.upper > limit]
 
 
-def above_rise(rise: int, limit: int) -> str:
-    """What is said of a potential rise in mV above a limit; '' where it is not."""
-    return "above" if rise > limit else ""
-
-
 def rise(station: Station, limit: int) -> str:
     """The seasons in which the potential rise is above a limit; '' where there are none."""
     lines = above(station, limit)
@@ -298,11 +278,6 @@ def rise(station: Station, limit: int) -> str:
     most = decimals.up(max(line.row.rise.upper for line in lines), 3, 0)
     return (f"Potential rise above {decimals.volts(limit)} in {_seasons([line.season for line in lines])}, up to {most}{NB}V; it decides "
             f"nothing.")
-
-
-def rises_above(count: int, limit: int) -> str:
-    """How many lines have a potential rise above a limit."""
-    return f"{grouped(count)} line{'' if count == 1 else 's'} with a potential rise above {decimals.volts(limit)}; it decides nothing"
 
 
 def _asked(seasons: Tuple[int, ...]) -> str:

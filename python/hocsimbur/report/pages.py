@@ -8,6 +8,7 @@ from typing import Dict, List, NamedTuple, Optional, Sequence, Tuple
 from ..core import Verdict
 from ..portfolio import reasons
 from ..portfolio.advice import Change
+from ..portfolio.compared import rises_above, share
 from ..portfolio.decision import Portfolio, Station
 from ..portfolio.licence import ALL_SEASONS
 from ..sheets.decimals import NO_BREAK as NB
@@ -65,7 +66,7 @@ def _nearest_cell(station: Station, scale: Scale) -> str:
     if not station.lines:
         return cell(span(escape(said.detail), "sub"), "near")
     worst, one = station.worst, station.worst.nearest
-    title = (f"Station {station.station}: nearest limit, {one.kind} voltage at {reasons.share(LIMIT + one.margin)} of tolerable "
+    title = (f"Station {station.station}: nearest limit, {one.kind} voltage at {share(LIMIT + one.margin)} of tolerable "
              f"{one.limit} in season {worst.season}")
     others = [LIMIT + line.nearest.margin for line in station.lines if line is not worst]
     drawn = bar(LIMIT + one.margin, scale, f"near{station.station}", title, others)
@@ -136,7 +137,7 @@ def _totals(portfolio: Portfolio, limit: Optional[int]) -> str:
     sums = reasons.summed(reasons.counts(station, limit) for station in portfolio.stations)
     said = "".join((bold(escape(one.head), colour) if one.head else "") + escape(one.detail)
                    for one, colour in zip(reasons.totals(sums, portfolio.licensed), colours))
-    notes = reasons.notes(portfolio) + ([reasons.rises_above(sums.rises, limit) + "."] if limit is not None else [])
+    notes = reasons.notes(portfolio) + ([rises_above(sums.rises, limit) + "."] if limit is not None else [])
     return element("p", said + "".join(f" {escape(note)}" for note in notes), "totals") + "\n"
 
 

@@ -7,7 +7,8 @@ from typing import Callable, List, NamedTuple, Tuple
 from ..core import Pair
 from ..portfolio import reasons
 from ..portfolio.decision import Station
-from ..portfolio.lines import ABOVE, BELOW, NOT_PARTED, YARD, Compared, Line
+from ..portfolio.compared import ABOVE, BELOW, NOT_PARTED, Compared, margin, share
+from ..portfolio.lines import YARD, Line
 from ..sheets import decimals, labels
 from ..sheets.decimals import NO_BREAK as NB
 from ..sheets.names import METALS
@@ -95,10 +96,10 @@ def _of(station: Station, one: Quantity) -> str:
 def _bar_row(line: Line, one: Compared, scale: Scale) -> str:
     """A season's voltage against its limit: the voltage's upper end rounded up, the limit's lower end rounded down."""
     voltage, limit = decimals.up(one.voltage.upper, 3, 1), decimals.down(one.tolerable.lower, 3, 1)
-    share, said = LIMIT + one.margin, reasons.margin(one)
-    title = (f"Season {line.season}: {one.kind} voltage {voltage} V is {reasons.share(share)} of the tolerable {one.limit} voltage "
+    size, said = LIMIT + one.margin, margin(one)
+    title = (f"Season {line.season}: {one.kind} voltage {voltage} V is {share(size)} of the tolerable {one.limit} voltage "
              f"{limit} V, {said}")
-    drawn = bar(share, scale, f"bar{line.row.station}-{line.season}-{one.limit}", title)
+    drawn = bar(size, scale, f"bar{line.row.station}-{line.season}-{one.limit}", title)
     values = (cell(drawn, "bc") + cell(span(voltage), "num", data_l="voltage") + cell(span(limit), "num", data_l="limit")
               + cell(mark(_ICONS[one.side]) + escape(said), "bw"))
     return row(head(f"Season {line.season}", "row") + values, one.side.replace(" ", "-"))

@@ -8,10 +8,7 @@ from fractions import Fraction
 from typing import Dict, Tuple
 
 from ..core import Pair
-
-
-class Unclear(Exception):
-    """An amount that is none, or is no whole number of its unit: the message says what is there and what is allowed."""
+from .forms import Unclear
 
 
 # the first 40 decimals of pi, cut off

@@ -3,7 +3,6 @@
 That something is wrong, and in which cell, the library has said; here it is only described."""
 from __future__ import annotations
 
-import difflib
 import re
 from typing import List, Sequence, Tuple
 
@@ -21,6 +20,10 @@ _SPREADSHEETS = (  # what stands at the start of a file that is no plain text of
     (b"\xfe\xff", "the text is UTF-16, two bytes a character"),
     (b"\xef\xbb\xbf", "a byte-order mark (bytes 239, 187, 191) stands before the first name"),
 )
+
+
+class Unclear(Exception):
+    """An amount that is none, or is no whole number of its unit: the message says what is there and what is allowed."""
 
 
 def cell(name: str, column: int) -> str:
@@ -82,6 +85,7 @@ def _unknown(name: str, names: Sequence[str], form: Sequence[str]) -> str:
         return f"{name} is one of today's 22 names; `hocsimbur carry` reads sheets of the former 18, and today's need no carry"
     if name.lower() in form:
         return f"names are in small letters, {name.lower()} and not {name}; {IMPORT}"
+    import difflib  # only where a name is wrong
     near = difflib.get_close_matches(name.lower(), [one for one in form if one not in names] or form, 1)
     if near:
         return f"'{short(name)}' is no name of a sheet; did you mean {near[0]}?"
