@@ -16,10 +16,14 @@ METADATA = """Metadata-Version: 2.1
 Name: hocsimbur
 Version: {version}
 Summary: Substation ground grids after IEEE Std 80: proved verdicts, release, reports and refusals in words
+License: all rights reserved; use by agreement
+License-File: LICENSE
 Requires-Python: >=3.9
 Provides-Extra: xlsx
 Requires-Dist: openpyxl; extra == 'xlsx'
-"""
+Description-Content-Type: text/markdown
+
+{description}"""
 WHEEL = f"""Wheel-Version: 1.0
 Generator: hocsimbur make_wheel
 Root-Is-Purelib: false
@@ -37,7 +41,10 @@ def files(version: str, library: pathlib.Path) -> Files:
     inside = [*sorted(PACKAGE.rglob("*.py")), PACKAGE / "py.typed"]
     found: Files = {path.relative_to(PACKAGE.parent).as_posix(): (path.read_bytes(), 0o644) for path in inside}
     found["hocsimbur/libhocsimbur.so.1"] = (library.read_bytes(), 0o755)
-    for name, text in (("METADATA", METADATA.format(version=version)), ("WHEEL", WHEEL), ("entry_points.txt", SCRIPTS)):
+    description = (PACKAGE.parent / "README.md").read_text(encoding="utf-8")
+    licence = (PACKAGE.parents[1] / "LICENSE").read_text(encoding="utf-8")
+    for name, text in (("METADATA", METADATA.format(version=version, description=description)), ("WHEEL", WHEEL), ("LICENSE", licence),
+                       ("entry_points.txt", SCRIPTS)):
         found[f"{info}/{name}"] = (text.encode(), 0o644)
     return found
 

@@ -19,7 +19,7 @@ from .common import PYTHON, ROOT
 BUILT = ROOT / "target" / "host" / "libhocsimbur.so.1"
 STANDARD = {
     "__future__", "argparse", "bisect", "collections", "concurrent", "contextlib", "csv", "ctypes", "dataclasses", "datetime", "decimal", "difflib", "enum", "fractions", "functools",
-    "hashlib", "html", "importlib", "io", "itertools", "math", "os", "pathlib", "re", "shlex", "stat", "sys", "tempfile", "time", "typing",
+    "hashlib", "html", "importlib", "io", "itertools", "math", "operator", "os", "pathlib", "re", "shlex", "stat", "sys", "tempfile", "time", "typing",
 }
 
 
@@ -66,6 +66,21 @@ class Wheel(unittest.TestCase):
     def test_the_same_bytes(self):
         again = make_wheel.build(__version__, library(), self.folder / "again")
         self.assertEqual(again.read_bytes(), self.wheel.read_bytes())
+
+    def test_metadata(self):
+        with zipfile.ZipFile(self.wheel) as archive:
+            text = archive.read(f"hocsimbur-{__version__}.dist-info/METADATA").decode()
+            licence = archive.read(f"hocsimbur-{__version__}.dist-info/LICENSE").decode()
+        head, _, description = text.partition("\n\n")
+        self.assertIn("License: all rights reserved", head)
+        self.assertIn("Description-Content-Type: text/markdown", head)
+        self.assertEqual(description, (PYTHON / "README.md").read_text(encoding="utf-8"))
+        self.assertEqual(licence, (ROOT / "LICENSE").read_text(encoding="utf-8"))
+
+    def test_as_a_library(self):
+        code = "import hocsimbur; print(hocsimbur.soil([(1, 10), (2, 3), (3, 1)]).soil)"
+        done = subprocess.run([str(self.bin / "python"), "-c", code], cwd=self.folder, env=self.clean(), capture_output=True, text=True, check=True)
+        self.assertEqual(done.stdout, "40\n")
 
     def test_every_module_is_inside(self):
         with zipfile.ZipFile(self.wheel) as archive:
