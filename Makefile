@@ -39,7 +39,6 @@ WRAP = -Wl,--wrap=hocsimbur_rows,--wrap=hocsimbur_rows_at
 
 # what a customer gets beside the libraries
 PROGRAMS = verdict rows margins summary fewest carry carry_back
-MANUAL = $(firstword $(wildcard docs/manual.md) README.md)
 DIST = hocsimbur-$(VERSION)
 
 .NOTPARALLEL:
@@ -136,7 +135,7 @@ target/bin/%:
 
 dist: libraries $(PROGRAMS:%=target/bin/%)
 	rm -rf target/dist
-	bash host/dist.sh target/dist/$(DIST) $(VERSION) $(MANUAL) $(PROGRAMS)
+	bash host/dist.sh target/dist/$(DIST) $(VERSION) $(PROGRAMS)
 	tar -C target/dist --sort=name --owner=0 --group=0 --numeric-owner --mtime=@0 -czf target/dist/$(DIST).tar.gz $(DIST)
 
 check: libraries panel harness sanitized wrong

@@ -1,4 +1,4 @@
-# A release of Hocsimbur for x86-64 Linux: libraries, header, man pages, manual, examples, programs and the command ./hocsimbur. Needs cc
+# A release of Hocsimbur for x86-64 Linux: libraries, header, man pages, docs, examples, programs and the command ./hocsimbur. Needs cc
 # and make; the command needs Python 3.9 or newer.
 #
 #   make check                        the checksums, the example by both libraries, a program and the command, beside their stored lines

@@ -1,9 +1,9 @@
 #!/usr/bin/env bash
-# The folder of a release, for a customer without the Rattle kit: dist.sh FOLDER VERSION MANUAL PROGRAM..
+# The folder of a release, for a customer without the Rattle kit: dist.sh FOLDER VERSION PROGRAM..
 set -euo pipefail
 cd "$(dirname "$0")/.."
-folder=$1 version=$2 manual=$3
-shift 3
+folder=$1 version=$2
+shift 2
 shared=libhocsimbur.so.$version
 mkdir -p "$folder"/{include,lib,man/man1,man/man3,bin,examples/panel,examples/site,python/hocsimbur/{sheets,portfolio,report,command}}
 install -m 644 include/hocsimbur.h "$folder/include/"
@@ -19,7 +19,8 @@ for package in sheets portfolio report command; do
     install -m 644 python/hocsimbur/$package/*.py "$folder/python/hocsimbur/$package/"
 done
 ln -s "../../lib/$shared" "$folder/python/hocsimbur/libhocsimbur.so.${version%%.*}"
-install -m 644 "$manual" "$folder/manual.md"
+python3 host/papers.py "$folder" "$version"
+chmod -R u=rwX,go=rX "$folder/docs"
 install -m 644 examples/*.csv examples/panel.c "$folder/examples/"
 install -m 644 tests/sample.csv "$folder/examples/"
 install -m 644 examples/site/*.csv "$folder/examples/site/"

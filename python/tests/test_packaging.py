@@ -4,6 +4,7 @@ from __future__ import annotations
 import ast
 import os
 import pathlib
+import re
 import subprocess
 import sys
 import tempfile
@@ -88,6 +89,29 @@ class Wheel(unittest.TestCase):
             names = set(archive.namelist())
         self.assertLessEqual({path.relative_to(PYTHON).as_posix() for path in (PYTHON / "hocsimbur").rglob("*.py")} | {"hocsimbur/py.typed"}, names)
         self.assertIn("hocsimbur/libhocsimbur.so.1", names)
+
+
+class Papers(unittest.TestCase):
+    """The papers of a release without the kit."""
+
+    def test_every_link_leads_somewhere(self):
+        with tempfile.TemporaryDirectory() as folder:
+            subprocess.run([sys.executable, str(ROOT / "host" / "papers.py"), folder, "9.8.7"], check=True)
+            papers = sorted(pathlib.Path(folder).rglob("*.md"))
+            self.assertEqual([path.relative_to(folder).as_posix() for path in papers], [
+                "CHANGELOG.md", "README.md", "docs/api.md", "docs/commands.md", "docs/manual.md", "docs/programs.md", "docs/specification.md",
+                "docs/speed.md"])
+            links = 0
+            for path in papers:
+                for target in re.findall(r"\]\(([^)#:\s]+)", path.read_text(encoding="utf-8")):
+                    self.assertTrue((path.parent / target).exists(), f"{path.name}: {target}")
+                    links += 1
+            self.assertGreater(links, 15)
+            self.assertTrue((pathlib.Path(folder) / "README.md").read_text(encoding="utf-8").startswith("# Hocsimbur 9.8.7\n"))
+            self.assertIn("use by agreement", (pathlib.Path(folder) / "LICENSE").read_text(encoding="utf-8").lower())
+            manual = (pathlib.Path(folder) / "docs" / "manual.md").read_text(encoding="utf-8")
+            self.assertIn("[README](../README.md)", manual)
+            self.assertNotIn("](../crates", (pathlib.Path(folder) / "docs" / "specification.md").read_text(encoding="utf-8"))
 
 
 class Sources(unittest.TestCase):

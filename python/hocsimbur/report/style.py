@@ -86,6 +86,9 @@ td{vertical-align:top}
 .decision.hold{border-color:var(--red)}.decision.rel{border-color:var(--green)}
 .asides{list-style:none;padding:0;margin:.6rem 0 0;font-size:.9rem;line-height:1.4}
 .asides .caution .mark{margin-right:.3em}
+.next ul{margin:.1rem 0 0;padding-left:1.3em;list-style:disc}
+.sign{display:flex;align-items:flex-end;gap:1rem;margin:2.2rem 0 .6rem}.sign .line{flex:0 0 16rem;border-bottom:1px solid var(--ink)}
+.sheets{margin:.3rem 0;padding-left:2em}
 .two{display:grid;gap:0 2rem;align-items:start}
 .two.top{grid-template-columns:minmax(0,1.75fr) minmax(0,1fr);margin-top:1.2rem}
 .two.low{grid-template-columns:minmax(min-content,1.12fr) minmax(min-content,1fr);margin-top:1.1rem}
@@ -197,9 +200,14 @@ figcaption{font-size:.78rem;color:var(--grey);line-height:1.35;margin-top:.2rem}
   .foot span{display:inline-block}
 }
 
+/* pages of stations that are not in sight are laid out when they come into sight: a thousand open fast */
+@media screen{.station{content-visibility:auto;contain-intrinsic-size:auto 1500px}}
+
 @page{size:A4;margin:12mm 12mm 15mm;@bottom-right{content:"Page " counter(page) " of " counter(pages);font:7pt "Segoe UI",Roboto,"Helvetica Neue",Arial,"Liberation Sans",sans-serif;color:#505a5f}}
 @media print{
-  html{font-size:8.8pt}
+  /* so that four seasons with what to change fit one page of A4, also where the only font is as wide as DejaVu Sans */
+  html{font-size:7.5pt}
+  .next ul{margin:0}.next li{font-size:.86em;line-height:1.2;margin:0!important}
   main{max-width:none;padding:0}
   .page{padding:0;min-height:268mm;display:flex;flex-direction:column}
   .station{break-before:page;border-top:0}
