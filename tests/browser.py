@@ -146,7 +146,8 @@ def judge_pages(name, pages, portfolio, first):
     stations = [one for one in portfolio.stations if one.lines]
     ordered = [one.station for one in stations if not one.released] + [one.station for one in stations if one.released]
     wrong = [] if len(pages) == first + len(ordered) else [f"{name}: {len(pages)} pages, not {first} and {len(ordered)}"]
-    wrong += [f"{name}: page {place} of the portfolio has no head" for place, page in enumerate(pages[:first], 1) if "Decision" not in page]
+    wrong += [f"{name}: page {place} of the portfolio has no head" for place, page in enumerate(pages[:first], 1)
+              if "Decision" not in page.replace(" ", "")]
     for place, (page, station) in enumerate(zip(pages[first:], ordered), first + 1):
         if not re.match(rf"\s*{station}\b", page):
             wrong.append(f"{name}: page {place} does not start with station {station}")

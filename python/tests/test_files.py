@@ -334,13 +334,15 @@ class Long(Folder):
         self.assertFalse(progress.shown())
 
     def test_interrupted(self):
-        lines = [dict(case(101, season), station=number, season=season) for number in range(1, 12001) for season in (1, 2, 3, 4)]
-        name = self.file("large.csv", sheet(*lines))
-        started = subprocess.Popen([sys.executable, "-m", "hocsimbur", "release", "--csv", name], cwd=ROOT, stdout=subprocess.PIPE,
-                                   stderr=subprocess.PIPE, env={**os.environ, "PYTHONPATH": str(PYTHON)})
-        time.sleep(0.6)
+        lines = [dict(case(101, season), station=number, season=season) for number in range(1, 20001) for season in (1, 2, 3, 4)]
+        started = subprocess.Popen([sys.executable, "-m", "hocsimbur", "release", "--csv", "-"], cwd=ROOT, stdin=subprocess.PIPE,
+                                   stdout=subprocess.PIPE, stderr=subprocess.PIPE, env={**os.environ, "PYTHONPATH": str(PYTHON)})
+        started.stdin.write(sheet(*lines))  # it has started when it has read nearly all of this
+        started.stdin.close()
+        started.stdin = None
+        time.sleep(0.3)
         started.send_signal(signal.SIGINT)
-        out, err = started.communicate(timeout=20)
+        out, err = started.communicate(timeout=60)
         self.assertEqual((started.returncode, out, err), (130, b"", b""))
 
 

@@ -215,7 +215,7 @@ def _asides(station: Station, limit: Optional[int], changes: Sequence[Change]) -
     items += [element("li", f"{mark('caution')}{bold('Caution:')} {escape(one)}", "caution") for one in reasons.cautions(station)]
     if changes:
         said = "".join(element("li", escape(change.words)) for change in changes)
-        items.append(element("li", f"{bold('What to change:')} each of these alone is answered safe in every season, or named as not enough."
+        items.append(element("li", f"{bold('What to change:')} the least change of each kind, asked by itself of the library."
                              f"{element('ul', said)}", "next"))
     return element("ul", "".join(items), "asides") + "\n"
 
