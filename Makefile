@@ -113,7 +113,11 @@ install: libraries
 	        > $(DESTDIR)$(LIBDIR)/pkgconfig/$$name.pc || exit 1; \
 	done
 	install -m 644 host/hocsimbur.1 $(DESTDIR)$(MANDIR)/man1/hocsimbur.1
-	install -m 644 python/hocsimbur/*.py $(DESTDIR)$(PYTHONDIR)/hocsimbur
+	for package in . sheets portfolio report command; do \
+	    install -d $(DESTDIR)$(PYTHONDIR)/hocsimbur/$$package && \
+	    install -m 644 python/hocsimbur/$$package/*.py $(DESTDIR)$(PYTHONDIR)/hocsimbur/$$package || exit 1; \
+	done
+	install -m 644 python/hocsimbur/py.typed $(DESTDIR)$(PYTHONDIR)/hocsimbur
 	ln -sf $(LIBDIR)/$(SONAME) $(DESTDIR)$(PYTHONDIR)/hocsimbur/$(SONAME)
 	! command -v $(PYTHON) > /dev/null || $(PYTHON) -m compileall -q $(DESTDIR)$(PYTHONDIR)/hocsimbur
 	sed 's|@PYTHONDIR@|$(PYTHONDIR)|' host/hocsimbur.in > $(DESTDIR)$(BINDIR)/hocsimbur

@@ -54,7 +54,11 @@ install:
 	ln -sf $(SONAME) $(DESTDIR)$(LIBDIR)/libhocsimbur.so
 	cp man/man3/hocsimbur.3 $(DESTDIR)$(MANDIR)/man3/
 	cp man/man1/hocsimbur.1 $(DESTDIR)$(MANDIR)/man1/
-	cp python/hocsimbur/*.py $(DESTDIR)$(PYTHONDIR)/hocsimbur/
+	for package in . sheets portfolio report command; do \
+	    mkdir -p $(DESTDIR)$(PYTHONDIR)/hocsimbur/$$package && \
+	    cp python/hocsimbur/$$package/*.py $(DESTDIR)$(PYTHONDIR)/hocsimbur/$$package/ || exit 1; \
+	done
+	cp python/hocsimbur/py.typed $(DESTDIR)$(PYTHONDIR)/hocsimbur/
 	ln -sf $(LIBDIR)/$(SONAME) $(DESTDIR)$(PYTHONDIR)/hocsimbur/$(SONAME)
 	sed 's|@PYTHONDIR@|$(PYTHONDIR)|' python/hocsimbur.in > $(DESTDIR)$(BINDIR)/hocsimbur
 	chmod 755 $(DESTDIR)$(BINDIR)/hocsimbur

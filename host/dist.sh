@@ -11,7 +11,7 @@ soname=libhocsimbur.so.${version%%.*}
 mkdir -p "$folder"/{include,lib,docs,examples/panel,examples/site}
 install -m 644 include/hocsimbur.h "$folder/include/"
 install -m 644 docs/{manual,commands,api,programs,proofs,specification}.md "$folder/docs/"
-install -m 644 CHANGELOG.md "$folder/"
+install -m 644 CHANGELOG.md LICENSE "$folder/"
 install -m 644 examples/*.csv examples/panel.c examples/panel.mjs tests/sample.csv "$folder/examples/"
 install -m 644 examples/site/*.csv "$folder/examples/site/"
 install -m 644 examples/panel/sample.out examples/panel/refused.csv examples/panel/refused.out "$folder/examples/panel/"
@@ -21,14 +21,17 @@ target/bin/verdict <tests/sample.csv >"$folder/examples/sample.verdicts"
 linux() { # FOLDER_OF_THE_LIBRARIES PROGRAM..
     local built=$1
     shift
-    mkdir -p "$folder"/{man/man1,man/man3,python/hocsimbur}
+    mkdir -p "$folder"/{man/man1,man/man3,python/hocsimbur/{sheets,portfolio,report,command}}
     install -m 644 "$built/libhocsimbur.a" "$folder/lib/"
     install -m 755 "$built/$shared" "$folder/lib/"
     install -m 644 host/hocsimbur.pc.in host/hocsimbur-static.pc.in "$folder/lib/"
     install -m 644 host/hocsimbur.3 "$folder/man/man3/"
     install -m 644 host/hocsimbur.1 "$folder/man/man1/"
     install -m 755 hocsimbur "$folder/"
-    install -m 644 python/hocsimbur/*.py "$folder/python/hocsimbur/"
+    install -m 644 python/hocsimbur/*.py python/hocsimbur/py.typed "$folder/python/hocsimbur/"
+    for package in sheets portfolio report command; do
+        install -m 644 python/hocsimbur/$package/*.py "$folder/python/hocsimbur/$package/"
+    done
     install -m 644 host/hocsimbur.in "$folder/python/"
     ln -s "../../lib/$shared" "$folder/python/hocsimbur/$soname"
     for program in "$@"; do

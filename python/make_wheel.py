@@ -17,17 +17,21 @@ METADATA = """Metadata-Version: 2.1
 Name: hocsimbur
 Version: {version}
 Summary: Substation ground grids after IEEE Std 80: proved verdicts, release, reports and refusals in words
+License: all rights reserved; use by agreement
+License-File: LICENSE
 Requires-Python: >=3.9
 Provides-Extra: xlsx
 Requires-Dist: openpyxl; extra == 'xlsx'
-"""
+Description-Content-Type: text/markdown
+
+{description}"""
 WHEEL = """Wheel-Version: 1.0
 Generator: hocsimbur make_wheel
 Root-Is-Purelib: false
 Tag: {tag}
 """
 SCRIPTS = """[console_scripts]
-hocsimbur = hocsimbur.cli:main
+hocsimbur = hocsimbur.command.cli:main
 """
 Files = Dict[str, Tuple[bytes, int]]  # bytes and rights by name
 
@@ -45,9 +49,13 @@ def library_name(version: str, platform: str) -> str:
 def files(version: str, platform: str, library: pathlib.Path) -> Files:
     """What the wheel holds, but for its record."""
     info = f"hocsimbur-{version}.dist-info"
-    found: Files = {f"hocsimbur/{path.name}": (path.read_bytes(), 0o644) for path in sorted(PACKAGE.glob("*.py"))}
+    inside = [*sorted(PACKAGE.rglob("*.py")), PACKAGE / "py.typed"]
+    found: Files = {path.relative_to(PACKAGE.parent).as_posix(): (path.read_bytes(), 0o644) for path in inside}
     found[f"hocsimbur/{library_name(version, platform)}"] = (library.read_bytes(), 0o755)
-    texts = {"METADATA": METADATA.format(version=version), "WHEEL": WHEEL.format(tag=tag(platform)), "entry_points.txt": SCRIPTS}
+    description = (PACKAGE.parent / "README.md").read_text(encoding="utf-8")
+    licence = (PACKAGE.parents[1] / "LICENSE").read_text(encoding="utf-8")
+    texts = {"METADATA": METADATA.format(version=version, description=description), "WHEEL": WHEEL.format(tag=tag(platform)),
+             "LICENSE": licence, "entry_points.txt": SCRIPTS}
     for name, text in texts.items():
         found[f"{info}/{name}"] = (text.encode(), 0o644)
     return found

@@ -1,6 +1,6 @@
 """Runs the command: python3 -m hocsimbur."""
 import sys
 
-from .cli import main
+from .command.cli import main
 
 sys.exit(main())

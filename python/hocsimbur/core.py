@@ -18,6 +18,7 @@ from . import __version__
 
 LINES = 256          # most value lines of a sheet
 SHEET_BYTES = 65536  # most bytes of a sheet
+ROW_BYTES = 160      # bytes of a row
 
 
 class Refused(Exception):
@@ -151,14 +152,14 @@ class Split:
     split: int
 
 
-def _library_name(system: str) -> str:
+def library_name(system: str) -> str:
     """The file of the shared library, as `sys.platform` names the system."""
     return "hocsimbur.dll" if system == "win32" else f"libhocsimbur.so.{__version__.split('.', maxsplit=1)[0]}"
 
 
 def _library() -> ctypes.CDLL:
     """The shared library: the one that HOCSIMBUR_LIBRARY names, the one inside this package, the one of a checkout, or the system's."""
-    here, name = pathlib.Path(__file__).resolve().parent, _library_name(sys.platform)
+    here, name = pathlib.Path(__file__).resolve().parent, library_name(sys.platform)
     named = os.environ.get("HOCSIMBUR_LIBRARY")
     places = [named] if named else [
         str(place) for place in (here / name, here.parents[1] / "target" / "host" / name) if place.exists()
@@ -235,6 +236,11 @@ def version() -> str:
     """The version of the library, as 2.0.0."""
     number = _asked.entry("hocsimbur_version")()
     return f"{number // 10000}.{number // 100 % 100}.{number % 100}"
+
+
+def count(sheet: bytes) -> int:
+    """How many value lines a sheet has; nothing of them is kept."""
+    return _ask("rows_at", _bytes(sheet), _slice((ctypes.c_uint8 * (ROW_BYTES * LINES))()))
 
 
 def summary_and_rows(sheet: bytes) -> Tuple[List[Station], List[Row]]:

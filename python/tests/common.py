@@ -9,12 +9,13 @@ import subprocess
 import sys
 from typing import Dict, NamedTuple, Optional, Sequence, TextIO
 
-from hocsimbur import cli, sheets
+from hocsimbur.command import cli
+from hocsimbur.sheets import layout
 
 ROOT = pathlib.Path(__file__).resolve().parents[2]
 PYTHON = ROOT / "python"
 SAMPLE = (ROOT / "tests" / "sample.csv").read_bytes()
-NAMES = sheets.cells(sheets.lines(SAMPLE)[0])
+NAMES = layout.cells(layout.lines(SAMPLE)[0])
 
 
 class Run(NamedTuple):
@@ -27,7 +28,7 @@ class Run(NamedTuple):
 
 def changed(sheet: bytes = SAMPLE, line: int = 2, **values: object) -> bytes:
     """A sheet with other values in a line, as text, whether they are right or not."""
-    lines = [sheets.cells(one) for one in sheets.lines(sheet)]
+    lines = [layout.cells(one) for one in layout.lines(sheet)]
     for name, value in values.items():
         lines[line - 1][lines[0].index(name)] = str(value)
     return "".join(",".join(one) + "\n" for one in lines).encode()

@@ -6,9 +6,9 @@ from __future__ import annotations
 
 import pathlib
 
-from hocsimbur import licence, report
+from hocsimbur.portfolio import licence
 
-from .portfolios import LICENCE, SHEET
+from .portfolios import LICENCE, SHEET, rendered
 
 STATIONS = (101, 131, 152, 215)  # released; undecided; unsafe, missing a season and with a small wire; without a line
 DATE = "1 July 2026"
@@ -18,7 +18,7 @@ FILE = pathlib.Path(__file__).parent / "golden" / "report.html"
 def made() -> str:
     """The report that is stored."""
     granted = licence.Licence(tuple(one for one in LICENCE.stations if one.station in STATIONS))
-    return report.render(SHEET, "portfolio.csv", granted, DATE)
+    return rendered(SHEET, "portfolio.csv", granted, DATE)
 
 
 if __name__ == "__main__":

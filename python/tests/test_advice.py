@@ -4,10 +4,13 @@ from __future__ import annotations
 import decimal
 import unittest
 
-from hocsimbur import advice, asking, candidates, core, decision, sheets
+from hocsimbur import core
+from hocsimbur.portfolio import advice, asking, candidates, decision
+from hocsimbur.sheets import layout
 from hocsimbur.core import Verdict
 
 from .portfolios import CASES, LICENCE, SHEET, case, granted, verdicts
+from .portfolios import changes as changes_of
 
 KINDS = {"rods": candidates.rods, "conductors": candidates.conductors, "spacing": candidates.spacing, "thickness": candidates.thickness,
          "resistivity": candidates.resistivity, "layer": candidates.layer, "shock": candidates.shock}
@@ -16,7 +19,7 @@ CHANGED = {"rods": {"rods", "rodlen", "place"}, "conductors": {"across", "along"
 
 
 def of(station: int):
-    return advice.changes(SHEET, station, LICENCE)
+    return changes_of(SHEET, station, LICENCE)
 
 
 def own(station: int):
@@ -25,7 +28,7 @@ def own(station: int):
 
 def length(one, name: str) -> int:
     """Conductor or rods in micrometres, as the core works them."""
-    return getattr(core.working(sheets.text([one]))[0], name).upper
+    return getattr(core.working(layout.text([one]))[0], name).upper
 
 
 class Safe(unittest.TestCase):
@@ -83,7 +86,7 @@ class Safe(unittest.TestCase):
             seasons = next(one.mask for one in LICENCE.stations if one.station == station)
             for change in self.found[station]:
                 if change.lines:
-                    self.assertTrue(core.release(sheets.text(list(change.lines)), [(station, seasons)])[0].released, change.words)
+                    self.assertTrue(core.release(layout.text(list(change.lines)), [(station, seasons)])[0].released, change.words)
 
     def test_released_stations_need_nothing(self):
         self.assertEqual([station for station, changes in self.found.items() if not changes], [101, 140, 160, 204])
@@ -91,7 +94,7 @@ class Safe(unittest.TestCase):
     def test_margin_told(self):
         for station, change in self.each():
             if change.kind in KINDS:
-                margins = core.margins(sheets.text(list(change.lines)))
+                margins = core.margins(layout.text(list(change.lines)))
                 greatest = max(max(one.mesh, one.step) for one in margins)
                 size = f"{-greatest // 10}.{-greatest % 10} %" if greatest else "under 0.1 %"
                 self.assertIn(f"nearest limit then {size} below", change.words)
@@ -132,21 +135,21 @@ class Words(unittest.TestCase):
             self.assertEqual(self.words(station, kind)[:len(words)], words)
 
     def test_rods_of_a_station_without_any(self):
-        sheet = sheets.text([case(104, 2, rods=0, rodlen=0, place=0, fault=3000)])
-        words = [change.words for change in advice.changes(sheet, 104, granted(104, (2,))) if change.kind == "rods"]
+        sheet = layout.text([case(104, 2, rods=0, rodlen=0, place=0, fault=3000)])
+        words = [change.words for change in changes_of(sheet, 104, granted(104, (2,))) if change.kind == "rods"]
         self.assertRegex(words[0], r"^rods: \d+ rods of 3 m at the perimeter \(now none\); ")
 
     def test_undecided_is_not_enough(self):
         """With 16 rods the line is undecided, with 17 it is safe."""
-        sheet = sheets.text([case(131, 2, rods=15)])
+        sheet = layout.text([case(131, 2, rods=15)])
         self.assertEqual(verdicts([case(131, 2, rods=16)]), [Verdict.UNDECIDED])
-        found = next(change for change in advice.changes(sheet, 131, granted(131, (2,))) if change.kind == "rods")
+        found = next(change for change in changes_of(sheet, 131, granted(131, (2,))) if change.kind == "rods")
         self.assertEqual(found.lines[0]["rods"], 17)
 
     def test_no_line_is_made_worse(self):
         """A line that has more of it already keeps it."""
         lines = [case(104, 1, layer=9000, thick=250, shock=40), case(104, 2)]
-        found = {change.kind: change.lines for change in advice.changes(sheets.text(lines), 104, granted(104, (1, 2)))}
+        found = {change.kind: change.lines for change in changes_of(layout.text(lines), 104, granted(104, (1, 2)))}
         self.assertEqual([one["layer"] for one in found["resistivity"]], [9000, 3200])
         self.assertEqual([one["shock"] for one in found["shock"]], [40, 350])
         self.assertEqual({one.lines[0]["thick"] for one in candidates.thickness(tuple(lines)) if one.lines[1]["thick"] <= 250}, {250})
@@ -175,19 +178,19 @@ class Words(unittest.TestCase):
     def test_missing(self):
         self.assertEqual([change.words for change in of(110)], ["missing: measure and add a line for season 3"])
         self.assertEqual([change.words for change in of(215)], ["missing: measure and add lines for seasons 1 and 2"])
-        self.assertEqual([change.words for change in advice.changes(SHEET, 7)],
+        self.assertEqual([change.words for change in changes_of(SHEET, 7)],
                          ["missing: measure and add lines for seasons 1, 2, 3 and 4"])
 
     def test_no_licence_asks_for_all_seasons(self):
-        self.assertEqual([change.words for change in advice.changes(SHEET, 160)], ["missing: measure and add lines for seasons 3 and 4"])
+        self.assertEqual([change.words for change in changes_of(SHEET, 160)], ["missing: measure and add lines for seasons 3 and 4"])
 
     def test_yard(self):
         self.assertEqual([change.words for change in of(123)], [
             "yard: agree on depth and rods in all lines",
             "yard: that of season 1 in all lines: every line is safe, nearest limit then 18.1 % below (touch, season 2)",
             "yard: that of season 2 in all lines: every line is safe, nearest limit then 17.7 % below (touch, season 2)"])
-        worse = sheets.text([case(123, 1), case(123, 2, across=2, along=2)])
-        changes = advice.changes(worse, 123, granted(123, (1, 2)))
+        worse = layout.text([case(123, 1), case(123, 2, across=2, along=2)])
+        changes = changes_of(worse, 123, granted(123, (1, 2)))
         self.assertIn("yard: that of season 2 in all lines: not every line is safe", [change.words for change in changes])
         self.assertFalse({"rods", "conductors", "spacing"} & {change.kind for change in changes})
 
@@ -195,19 +198,19 @@ class Words(unittest.TestCase):
         self.assertEqual([change.words for change in of(118)],
                          ["wire: 17.9 mm, solid and round (now 5.0 mm); a stranded one must be thicker"])
         wire = next(change for change in of(118))
-        self.assertEqual(core.release(sheets.text(list(wire.lines)), [(118, 7)])[0].small_wire, 0)
+        self.assertEqual(core.release(layout.text(list(wire.lines)), [(118, 7)])[0].small_wire, 0)
         less = [dict(one, dia=one["dia"] - 1) for one in wire.lines]
-        self.assertGreater(core.release(sheets.text(less), [(118, 7)])[0].small_wire, 0)
-        self.assertEqual({one["dia"] for one in advice.changes(sheets.text(less), 118, granted(118, (1, 2, 3)))[0].lines}, {179})
+        self.assertGreater(core.release(layout.text(less), [(118, 7)])[0].small_wire, 0)
+        self.assertEqual({one["dia"] for one in changes_of(layout.text(less), 118, granted(118, (1, 2, 3)))[0].lines}, {179})
 
     def test_no_wire_is_enough(self):
-        sheet = sheets.text([case(101, 1, fault=80000, wire=3000, metal=11, soil=10, split=10)])
-        self.assertEqual([change.words for change in advice.changes(sheet, 101, granted(101, (1,)))],
+        sheet = layout.text([case(101, 1, fault=80000, wire=3000, metal=11, soil=10, split=10)])
+        self.assertEqual([change.words for change in changes_of(sheet, 101, granted(101, (1,)))],
                          ["wire: no solid round up to 30.0 mm is enough; try another metal or a shorter back-up time"])
 
     def test_a_refused_sheet(self):
         with self.assertRaises(core.Refused):
-            advice.changes(SHEET[:-1], 104)
+            changes_of(SHEET[:-1], 104)
 
 
 if __name__ == "__main__":

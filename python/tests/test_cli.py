@@ -10,7 +10,10 @@ import sys
 import tempfile
 import unittest
 
-from hocsimbur import cli, core, help_texts, report, sheets, terminal
+from hocsimbur import core
+from hocsimbur.command import cli, help_texts, terminal
+from hocsimbur.report import document
+from hocsimbur.sheets import layout
 
 from .common import PYTHON, ROOT, SAMPLE, process, run
 
@@ -58,13 +61,13 @@ class Help(unittest.TestCase):
         with tempfile.TemporaryDirectory() as folder:
             sheet = pathlib.Path(folder) / "a sheet.csv"
             sheet.write_bytes(b"")
-            self.assertIn(f"`hocsimbur check '{sheet}'` tells", run("verdict", str(sheet)).err)
+            self.assertIn(f"`hocsimbur check '{sheet}'` reports", run("verdict", str(sheet)).err)
 
 
 class Statuses(unittest.TestCase):
     def test_release(self):
         done = run("release", "examples/portfolio.csv", "--licence", "examples/licence.csv")
-        self.assertEqual((done.status, done.err), (2, ""))
+        self.assertEqual((done.status, done.err), (2, "note: 1 station of the licence stands in no file: 215\n"))
         self.assertEqual(run("release", "examples/refused-5.csv").status, 1)
         self.assertEqual(run("release", "-", "--licence", "examples/licence.csv", stdin=b"").status, 1)
         with tempfile.TemporaryDirectory() as folder:
@@ -73,7 +76,9 @@ class Statuses(unittest.TestCase):
             safe = b"".join(SAMPLE.splitlines(keepends=True)[i] for i in (0, 2))
             done = run("release", "-", "--licence", str(licence), stdin=safe)
             self.assertEqual(done.status, 0)
-            self.assertEqual(done.out, "station 7 Seven  RELEASED  1 season; nearest limit 68.2 % below (touch, season 2); safe up to 10,023 A\n")
+            self.assertEqual(done.out, "station 7 Seven  RELEASED  1 season; nearest limit 68.2 % below (touch, season 2); voltages safe up to 10,023 A; "
+                             "wire up to 30,515 A\n1 station: 1 released, 0 held. 1 season line: 1 safe, 0 unsafe, 0 undecided; every season of the "
+                             "licence has a line.\n")
             self.assertEqual(run("next", "-", "--licence", str(licence), stdin=safe), (0, "nothing is held, nothing is to be changed\n", ""))
             licence.write_text("station,name,seasons\n7,Seven,5\n")
             done = run("release", "tests/sample.csv", "--licence", str(licence))
@@ -83,16 +88,25 @@ class Statuses(unittest.TestCase):
     def test_release_for_machines(self):
         done = run("release", "tests/sample.csv", "--csv")
         answer = core.release(SAMPLE, [(7, 15)])[0]
-        self.assertEqual(done.out, "station,decision,missing,unsafe,undecided,other_yard,small_wire,fault_A\n"
-                         f"7,held,{answer.missing},{answer.unsafe},{answer.undecided},{answer.other_yard},{answer.small_wire},{answer.fault}\n")
+        self.assertEqual(done.out, "station,decision,missing,unsafe,undecided,other_yard,small_wire,fault_A,wire_A,stranded_caution,"
+                         f"few_rods_caution\n7,held,{answer.missing},{answer.unsafe},{answer.undecided},{answer.other_yard},{answer.small_wire},"
+                         f"{answer.fault},30515,0,0\n")
+        done = run("release", "examples/portfolio.csv", "--licence", "examples/licence.csv", "--csv", "--gpr-limit", "5000")
+        lines = {line.split(",")[0]: line.split(",")[8:] for line in done.out.split()}
+        self.assertEqual(lines["station"], ["wire_A", "stranded_caution", "few_rods_caution", "rise_above_limit"])
+        self.assertEqual([lines["160"], lines["188"], lines["215"]], [["14568", "1", "0", "1"], ["34946", "0", "1", "0"], ["0", "0", "0", "0"]])
 
     def test_unlicensed_stations_are_told(self):
         with tempfile.TemporaryDirectory() as folder:
             licence = pathlib.Path(folder) / "licence.csv"
             licence.write_text("station,name,seasons\n101,Ashgrove,1 2 3 4\n")
             done = run("release", "examples/portfolio.csv", "--licence", str(licence))
-            self.assertEqual((done.status, len(done.out.split("\n"))), (0, 2))
-            self.assertTrue(done.err.startswith("note: the licence does not name stations 104, 110,"))
+            self.assertEqual((done.status, len(done.out.split("\n"))), (0, 3))
+            self.assertEqual(done.err, "note: the licence does not name 11 stations of the files: 104, 110, 118, 123, 131, 140, 152, 160, 171, "
+                             "188, 204\n")
+            licence.write_text("station,name,seasons\n9,Nowhere,1\n")
+            self.assertTrue(run("release", "tests/sample.csv", "--licence", str(licence)).err.startswith(
+                "note: no station of the licence stands in the files; is it the licence for them?\n"))
 
     def test_fewest(self):
         self.assertEqual(run("fewest", "examples/rods.csv", "--station", "303", "--side", "60m", "--csv"), (0, "found,9,28,63\n", ""))
@@ -120,7 +134,7 @@ class Statuses(unittest.TestCase):
             self.assertEqual(run("report", "tests/sample.csv", "--date", "1 July 2026").out, page.read_text(encoding="utf-8"))
             self.assertIn("sample.csv, 1 July 2026", page.read_text(encoding="utf-8"))
             self.assertEqual(run("report", "-", "-o", str(page), stdin=SAMPLE).status, 2)
-            self.assertIn(f"standard input, {report.today()}", page.read_text(encoding="utf-8"))
+            self.assertIn(f"standard input, {document.today()}", page.read_text(encoding="utf-8"))
             self.assertEqual(run("report", "examples/refused-5.csv", "-o", str(page)).status, 1)
 
     def test_next_for_machines(self):
@@ -131,10 +145,10 @@ class Statuses(unittest.TestCase):
         self.assertEqual((done.status, names), (2, ["station", "change", "kind", "season", "name", "value"]))
         self.assertLess({"rods", "conductors", "spacing", "resistivity", "shock"}, {line[2] for line in lines} | {"more"})
         for number in {line[1] for line in lines}:
-            cases = [case for case in sheets.cases(sheet) if case["station"] == 104]
+            cases = [case for case in layout.cases(sheet) if case["station"] == 104]
             for _, _, _, season, name, value in (line for line in lines if line[1] == number):
                 next(case for case in cases if case["season"] == int(season))[name] = int(value)
-            self.assertEqual({row.verdict for row in core.rows(sheets.text(cases))}, {core.Verdict.SAFE})
+            self.assertEqual({row.verdict for row in core.rows(layout.text(cases))}, {core.Verdict.SAFE})
 
     def test_next_of_no_station(self):
         done = run("next", "tests/sample.csv", "--station", "8")
@@ -169,7 +183,7 @@ class Failing(unittest.TestCase):
             read, write = os.pipe()
             os.close(read)
             with os.fdopen(write, "wb") as closed:
-                self.hold(process(*arguments, stdout=closed), "hocsimbur: standard output: Broken pipe")
+                self.assertEqual(process(*arguments, stdout=closed), (3, "", ""))
 
     def test_a_reader_that_goes_away(self):
         command = f"{shlex.quote(sys.executable)} -m hocsimbur report examples/portfolio.csv | true; echo ${{PIPESTATUS[0]}}"
@@ -201,7 +215,8 @@ class Failing(unittest.TestCase):
 
     def test_files_that_cannot_be_read(self):
         self.hold(run("verdict", "no-such-file.csv"), "hocsimbur: no-such-file.csv: No such file or directory")
-        self.hold(run("verdict", "examples"), "hocsimbur: examples: Is a directory")
+        self.hold(run("verdict", "crates"), "hocsimbur: crates: the folder has no file that ends in .csv")
+        self.hold(run("import", "examples"), "hocsimbur: examples: Is a directory")
         self.hold(run("verdict", "tests/sample.csv\0"), "null byte")
         self.hold(run("release", "tests/sample.csv", "--licence", "no-such-file.csv"), "hocsimbur: no-such-file.csv: No such file or directory")
         with tempfile.TemporaryDirectory() as folder:
@@ -213,14 +228,14 @@ class Failing(unittest.TestCase):
             self.hold(run("report", "tests/sample.csv", "-o", f"{folder}/no/such/page.html"), "No such file or directory")
 
     def test_a_file_without_end(self):
-        self.hold(run("check", "/dev/zero"), "/dev/zero: it has more than 33,554,432 bytes")
+        self.hold(run("check", "/dev/zero"), "/dev/zero: it has more than 268,435,456 bytes")
 
     def test_no_library(self):
         self.hold(process("verdict", "tests/sample.csv", env={"HOCSIMBUR_LIBRARY": "/no/such/libhocsimbur.so.1"}),
                   "build it by `make`, or name it in the environment variable HOCSIMBUR_LIBRARY")
 
     def test_another_library(self):
-        self.hold(process("verdict", "tests/sample.csv", env={"HOCSIMBUR_LIBRARY": "libc.so.6"}), "the library has no hocsimbur_summary")
+        self.hold(process("verdict", "tests/sample.csv", env={"HOCSIMBUR_LIBRARY": "libc.so.6"}), "the library has no hocsimbur_rows_at")
 
 
 class Terminals(unittest.TestCase):

@@ -4,8 +4,9 @@ from __future__ import annotations
 import random
 import unittest
 
-from hocsimbur import checking, core, sheets, spreadsheet, words
-from hocsimbur.words import Asked
+from hocsimbur import core
+from hocsimbur.sheets import checking, layout, spreadsheet, words
+from hocsimbur.sheets.words import Asked
 
 from .common import ROOT, SAMPLE
 
@@ -62,7 +63,7 @@ class Damaged(unittest.TestCase):
                 continue
             again = spreadsheet.make(sheet)
             self.assertEqual((again.sheet, again.changes.told()), (sheet, []))
-            self.assertEqual(sheets.text(sheets.cases(sheet)), sheet)
+            self.assertEqual(layout.text(layout.cases(sheet)), sheet)
 
 
 def written(source: random.Random) -> bytes:
@@ -79,7 +80,7 @@ def written(source: random.Random) -> bytes:
         text = source.choice(("", "", " ", "\u00a0")) + text + source.choice(("", "", " ", "  "))
         return f'"{text}"' if "," in text and sign == "," or source.random() < 0.2 else text
 
-    lines = [sign.join(cell(text) for text in sheets.cells(line)) + sign * source.choice((0, 0, 2)) for line in sheets.lines(SAMPLE)]
+    lines = [sign.join(cell(text) for text in layout.cells(line)) + sign * source.choice((0, 0, 2)) for line in layout.lines(SAMPLE)]
     spread = [one for line in lines for one in ([line] if source.random() < 0.8 else [sign * source.choice((0, 3)), line])]
     text = end.join(spread) + source.choice(("", end, end + end))
     encoding = source.choice(("utf-8", "utf-8", "utf-8-sig", "utf-16"))

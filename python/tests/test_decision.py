@@ -4,10 +4,12 @@ from __future__ import annotations
 import random
 import unittest
 
-from hocsimbur import asking, core, decision, licence, sheets
+from hocsimbur import core
+from hocsimbur.portfolio import asking, decision, licence
+from hocsimbur.sheets import layout
 from hocsimbur.core import Verdict
-from hocsimbur.decision import Missing, OtherYard, SmallWire, Undecided, Unsafe
-from hocsimbur.lines import ABOVE, BELOW, NOT_PARTED
+from hocsimbur.portfolio.decision import Missing, OtherYard, SmallWire, Undecided, Unsafe
+from hocsimbur.portfolio.compared import ABOVE, BELOW, NOT_PARTED
 
 from .portfolios import CASES, LICENCE, SHEET, case, granted, station
 
@@ -20,7 +22,7 @@ def scattered(seed: int) -> bytes:
     keys = rng.sample([(number, season) for number in range(1, 13) for season in range(1, 5)], 30)
     lines = [dict(rng.choice(CASES), station=number, season=season, fault=rng.randint(100, 80000), dia=rng.randint(50, 300))
              for number, season in keys]
-    return sheets.text(lines)
+    return layout.text(lines)
 
 
 class Answers(unittest.TestCase):
@@ -75,7 +77,7 @@ class Answers(unittest.TestCase):
 
     def test_lines_are_the_sheet_s(self):
         for sheet, portfolio in self.portfolios:
-            rows, lines = core.rows(sheet), sheets.cases(sheet)
+            rows, lines = core.rows(sheet), layout.cases(sheet)
             for line in [line for one in portfolio.stations for line in one.lines]:
                 self.assertEqual(line.row, rows[line.number - 2])
                 self.assertEqual(line.case, lines[line.number - 2])
@@ -133,7 +135,7 @@ class Licences(unittest.TestCase):
 
     def test_as_many_lines_as_a_sheet_has(self):
         lines = [dict(CASES[0], station=1 + place // 4, season=1 + place % 4) for place in range(core.LINES)]
-        portfolio = decision.portfolio(sheets.text(lines), licence.Licence(tuple(licence.Licensed(one, "", (1,)) for one in range(1, 257))))
+        portfolio = decision.portfolio(layout.text(lines), licence.Licence(tuple(licence.Licensed(one, "", (1,)) for one in range(1, 257))))
         self.assertEqual([len(one.lines) for one in portfolio.stations], [4] * 64 + [0] * 192)
 
 

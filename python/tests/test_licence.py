@@ -3,8 +3,8 @@ from __future__ import annotations
 
 import unittest
 
-from hocsimbur import licence
-from hocsimbur.licence import Licensed, LicenceRefused
+from hocsimbur.portfolio import licence
+from hocsimbur.portfolio.licence import Licensed, LicenceRefused
 
 from .portfolios import LICENCE
 
@@ -27,22 +27,40 @@ class Read(unittest.TestCase):
     def test_other_order_of_columns(self):
         self.assertEqual(licence.read(b"seasons,station,name\n4 1,7,\n").stations, (Licensed(7, "", (1, 4)),))
 
+    def test_what_people_write(self):
+        """Semicolons, tabs, quotes, other letters, old code pages, UTF-16 and empty columns."""
+        wanted = (Licensed(7, "N\u00f6rd, A", (1, 2, 3, 4)), Licensed(8, "B", (1, 2)))
+        for text in ("Station;Name;Seasons\n7;N\u00f6rd, A;1-4\n8;B;1,2\n", 'STATION,NAME,SEASONS\n7,"N\u00f6rd, A",all\n8.0,B,"1,2"\n',
+                     "station\tname\tseasons\t\n7\tN\u00f6rd, A\t1 2 3 4\t\n8\tB\t1 2\t\n", "sep=;\nseasons;name;station\n1-4;N\u00f6rd, A;7\n1+2;B;8\n"):
+            for encoding in ("utf-8", "utf-8-sig", "cp1252", "utf-16"):
+                self.assertEqual(licence.read(text.encode(encoding)).stations, wanted, (text, encoding))
+
+    def test_written_and_read_again(self):
+        made = licence.of_cases([dict(station=9, season=2), dict(station=7, season=1), dict(station=9, season=1)], {9: 'A, "B"; C'})
+        self.assertEqual(made.stations, (Licensed(9, 'A, "B"; C', (1, 2)), Licensed(7, "", (1,))))
+        self.assertEqual(licence.read(licence.text(made).encode()), made)
+
     def test_no_line_end(self):
         self.assertEqual(licence.read(HEAD + b"7,A,1").stations, (Licensed(7, "A", (1,)),))
 
-    def test_as_many_as_the_core_takes(self):
-        lines = [b"%d,,1\n" % station for station in range(1, 258)]
-        self.assertEqual(len(licence.read(HEAD + b"".join(lines[:256])).stations), 256)
-        with self.assertRaises(LicenceRefused) as refused:
-            licence.read(HEAD + b"".join(lines))
-        self.assertEqual(str(refused.exception), "licence: it names 257 stations; 1 to 256 are allowed")
+    def test_more_than_the_core_takes_at_once(self):
+        lines = [b"%d,,1\n" % station for station in range(1, 3001)]
+        self.assertEqual(len(licence.read(HEAD + b"".join(lines)).stations), 3000)
+
+    def test_seasons_as_people_write_them(self):
+        for text, seasons in (("1 2 4", (1, 2, 4)), ("1,2,4", (1, 2, 4)), ("1-4", (1, 2, 3, 4)), ("all", (1, 2, 3, 4)), ("ALL", (1, 2, 3, 4)),
+                              ("2", (2,)), ("4;1", (1, 4)), ("1-2, 4", (1, 2, 4)), (" 3+1 ", (1, 3)), ("2\u20133", (2, 3))):
+            self.assertEqual(licence.seasons(text), seasons, text)
+        for text in ("0", "5", "4-1", "1-5", "a", "", " ", "1 1", "1-3 2", "12"):
+            with self.assertRaises(ValueError, msg=text):
+                licence.seasons(text)
 
 
 class Refusals(unittest.TestCase):
     CASES = {
         b"": "licence: it is empty; its first line is station,name,seasons",
         b"\n \n": "licence: it is empty; its first line is station,name,seasons",
-        HEAD: "licence: it names 0 stations; 1 to 256 are allowed",
+        HEAD: "licence: it names no station",
         b"station,name\n7,A\n": "licence line 1: the names are station,name, not station,name,seasons",
         b"station,name,season\n": "licence line 1: the names are station,name,season, not station,name,seasons",
         b"station,name,seasons,seasons\n": "licence line 1: the names are station,name,seasons,seasons, not station,name,seasons",
@@ -54,13 +72,12 @@ class Refusals(unittest.TestCase):
         HEAD + b",A,1\n": "licence line 2, station: '' is not a number in 1..65535",
         HEAD + "\u0667,A,1\n".encode(): "licence line 2, station: '\u0667' is not a number in 1..65535",
         HEAD + b"7,A,1\n8,B,2\n7,C,3\n": "licence line 4, station: 7 stands in line 2 too",
-        HEAD + b"7,A,\n": "licence line 2, seasons: none is named; write for example 1 2 3 4",
-        HEAD + b"7,A,5\n": "licence line 2, seasons: '5' is not 1, 2, 3 or 4; part seasons by spaces",
-        HEAD + b"7,A,12\n": "licence line 2, seasons: '12' is not 1, 2, 3 or 4; part seasons by spaces",
+        HEAD + b"7,A,\n": "licence line 2, seasons: none is named; write for example 1 2 3 4, 1-4 or all",
+        HEAD + b"7,A,5\n": "licence line 2, seasons: '5' is not 1, 2, 3 or 4; write for example 1 2 4, 1-4 or all",
+        HEAD + b"7,A,12\n": "licence line 2, seasons: '12' is not 1, 2, 3 or 4; write for example 1 2 4, 1-4 or all",
         HEAD + b"7,A,1 2 1\n": "licence line 2, seasons: '1 2 1' names a season twice",
         HEAD + b"7,A\x07B,1\n": "licence line 2, name: it has a character that cannot be printed",
-        HEAD + b"7,\xff,1\n": "licence line 2: its bytes are no UTF-8; save the licence as UTF-8",
-        HEAD + b'7,"A,1\n': "licence line 2: unexpected end of data",
+        HEAD + b'7,"A,1\n': "licence: line 2: unexpected end of data",
     }
 
     def test_each(self):

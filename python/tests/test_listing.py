@@ -90,7 +90,7 @@ class ForPeople(unittest.TestCase):
         done = run("verdict", "examples/refused-5.csv")
         self.assertEqual(done.out, "")
         self.assertEqual(done.err, "examples/refused-5.csv: line 2, depth (column 16): 60 mm is not in 250..2500\n"
-                         "nothing was worked; `hocsimbur check examples/refused-5.csv` tells the refusal of every line\n")
+                         "nothing was computed; `hocsimbur check examples/refused-5.csv` reports every refusal\n")
 
 
 if __name__ == "__main__":

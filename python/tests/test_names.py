@@ -4,8 +4,9 @@ from __future__ import annotations
 import re
 import unittest
 
-from hocsimbur import __version__, core, words
-from hocsimbur.names import FORMER, METALS, NAMES
+from hocsimbur import __version__, core
+from hocsimbur.sheets import words
+from hocsimbur.sheets.names import FORMER, METALS, NAMES
 
 from .common import ROOT, SAMPLE, changed
 

@@ -4,6 +4,7 @@ from __future__ import annotations
 import ast
 import os
 import pathlib
+import re
 import subprocess
 import sys
 import tempfile
@@ -16,10 +17,10 @@ from hocsimbur import __version__, core
 
 from .common import PYTHON, ROOT
 
-BUILT = ROOT / "target" / "host" / core._library_name("linux")
+BUILT = ROOT / "target" / "host" / core.library_name("linux")
 STANDARD = {
-    "__future__", "argparse", "contextlib", "csv", "ctypes", "dataclasses", "datetime", "decimal", "difflib", "enum", "fractions", "functools",
-    "hashlib", "html", "io", "itertools", "math", "os", "pathlib", "re", "shlex", "stat", "sys", "tempfile", "typing",
+    "__future__", "argparse", "bisect", "collections", "concurrent", "contextlib", "csv", "ctypes", "dataclasses", "datetime", "decimal", "difflib", "enum", "fractions", "functools",
+    "hashlib", "html", "importlib", "io", "itertools", "math", "operator", "os", "pathlib", "re", "shlex", "stat", "sys", "tempfile", "time", "typing",
 }
 
 
@@ -67,12 +68,27 @@ class Wheel(unittest.TestCase):
         again = make_wheel.build(__version__, "linux-x86_64", library(), self.folder / "again")
         self.assertEqual(again.read_bytes(), self.wheel.read_bytes())
 
+    def test_metadata(self):
+        with zipfile.ZipFile(self.wheel) as archive:
+            text = archive.read(f"hocsimbur-{__version__}.dist-info/METADATA").decode()
+            licence = archive.read(f"hocsimbur-{__version__}.dist-info/LICENSE").decode()
+        head, _, description = text.partition("\n\n")
+        self.assertIn("License: all rights reserved", head)
+        self.assertIn("Description-Content-Type: text/markdown", head)
+        self.assertEqual(description, (PYTHON / "README.md").read_text(encoding="utf-8"))
+        self.assertEqual(licence, (ROOT / "LICENSE").read_text(encoding="utf-8"))
+
+    def test_as_a_library(self):
+        code = "import hocsimbur; print(hocsimbur.soil([(1, 10), (2, 3), (3, 1)]).soil)"
+        done = subprocess.run([str(self.bin / "python"), "-c", code], cwd=self.folder, env=self.clean(), capture_output=True, text=True, check=True)
+        self.assertEqual(done.stdout, "40\n")
+
     def test_every_module_is_inside(self):
         with zipfile.ZipFile(self.wheel) as archive:
             self.assertIsNone(archive.testzip())
             names = set(archive.namelist())
-        self.assertLessEqual({f"hocsimbur/{path.name}" for path in (PYTHON / "hocsimbur").glob("*.py")}, names)
-        self.assertIn(f"hocsimbur/{core._library_name(sys.platform)}", names)
+        self.assertLessEqual({path.relative_to(PYTHON).as_posix() for path in (PYTHON / "hocsimbur").rglob("*.py")} | {"hocsimbur/py.typed"}, names)
+        self.assertIn(f"hocsimbur/{core.library_name(sys.platform)}", names)
 
     def test_other_platforms(self):
         """The tag and the library's name are the platform's, and the package looks for that name there."""
@@ -80,7 +96,7 @@ class Wheel(unittest.TestCase):
             wheel = make_wheel.build(__version__, platform, library(), self.folder / platform)
             self.assertTrue(wheel.name.endswith(f"-{tag}.whl"), wheel.name)
             with zipfile.ZipFile(wheel) as archive:
-                self.assertIn(f"hocsimbur/{core._library_name(system)}", archive.namelist())
+                self.assertIn(f"hocsimbur/{core.library_name(system)}", archive.namelist())
                 self.assertIn(f"Tag: {tag}\n", archive.read(f"hocsimbur-{__version__}.dist-info/WHEEL").decode())
 
 
@@ -88,7 +104,7 @@ class Sources(unittest.TestCase):
     """What holds of every module."""
 
     def sources(self):
-        return [(path, path.read_text(encoding="utf-8")) for path in sorted((PYTHON / "hocsimbur").glob("*.py"))]
+        return [(path, path.read_text(encoding="utf-8")) for path in sorted((PYTHON / "hocsimbur").rglob("*.py"))]
 
     def test_python_3_9_reads_them(self):
         for path, text in self.sources():
@@ -104,10 +120,26 @@ class Sources(unittest.TestCase):
                     if (path.name, name) != ("spreadsheet.py", "openpyxl"):
                         self.assertIn(name.split(".")[0], STANDARD, path.name)
 
-    def test_lines(self):
-        """No line is over 140 characters outside strings; style.py is one string."""
+    def test_no_private_name_is_imported(self):
         for path, text in self.sources():
-            if path.name == "style.py":
+            for node in ast.walk(ast.parse(text)):
+                if isinstance(node, ast.ImportFrom) and node.level:
+                    for one in node.names:
+                        self.assertFalse(one.name.startswith("_") and one.name != "__version__", f"{path.name}: {one.name}")
+
+    def test_packages_are_in_layers(self):
+        """Sheets know nothing of portfolios, portfolios nothing of reports, and nothing knows the command but itself."""
+        above = {"sheets": {"portfolio", "report", "command"}, "portfolio": {"report", "command"}, "report": {"command"}}
+        for path, text in self.sources():
+            for node in ast.walk(ast.parse(text)):
+                if isinstance(node, ast.ImportFrom) and node.level == 2:
+                    named = {node.module.split(".")[0]} if node.module else {one.name for one in node.names}
+                    self.assertFalse(named & above.get(path.parent.name, set()), f"{path.parent.name}/{path.name}: {named}")
+
+    def test_lines(self):
+        """No line is over 140 characters outside strings; style.py and help_texts.py are strings alone."""
+        for path, text in self.sources():
+            if path.name in ("style.py", "help_texts.py"):
                 continue
             for number, line in enumerate(text.split("\n"), 1):
                 self.assertTrue(len(line) <= 140 or '"' in line or "'" in line, f"{path.name}, line {number}")

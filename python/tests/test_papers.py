@@ -9,7 +9,9 @@ import shlex
 import subprocess
 import unittest
 
-from hocsimbur import cli, core
+import hocsimbur
+from hocsimbur import core
+from hocsimbur.command import cli
 
 from .common import ROOT, run
 
@@ -47,7 +49,7 @@ class Shown(unittest.TestCase):
 
 class FromPython(unittest.TestCase):
     def test_the_lines_of_python(self):
-        code, = re.findall(r"^```python\n(.*?)^```$", API, re.MULTILINE | re.DOTALL)
+        (code, shown), = re.findall(r"^```python\n(.*?)^```\n\nIt prints\n\n((?:    [^\n]*\n)+)", API, re.MULTILINE | re.DOTALL)
         out, before = io.StringIO(), os.getcwd()
         os.chdir(ROOT)
         try:
@@ -55,8 +57,12 @@ class FromPython(unittest.TestCase):
                 exec(compile(code, "docs/api.md", "exec"), {})
         finally:
             os.chdir(before)
-        lines = out.getvalue().strip().split("\n")
-        self.assertIn(f"It prints `{lines[0]}` and `{lines[1]}`", API)
+        self.assertEqual(out.getvalue(), "".join(line[4:] + "\n" for line in shown.split("\n")[:-1]))
+
+    def test_every_function_of_the_library_is_named(self):
+        for name in hocsimbur.__all__:
+            if name[0].islower() and name != "version":
+                self.assertRegex(API, rf"`{name}\(", name)
 
     def test_every_question_is_there(self):
         rows = [line.split(" | ") for line in API.split("## From Rattle")[0].split("\n") if line.startswith("| ")]
@@ -69,8 +75,8 @@ class FromPython(unittest.TestCase):
         table = API.split("| module | what it has |")[1].split("\n\n")[0]
         cells = [line.split(" | ")[0] for line in table.split("\n")[2:]]
         self.assertGreater(len(cells), 5)
-        for name in re.findall(r"`(\w+)`", " ".join(cells)):
-            self.assertTrue((ROOT / "python" / "hocsimbur" / f"{name}.py").exists(), name)
+        for name in re.findall(r"`([\w.]+)`", " ".join(cells)):
+            self.assertTrue((ROOT / "python" / "hocsimbur" / f"{name.replace('.', '/')}.py").exists(), name)
 
 
 if __name__ == "__main__":

@@ -3,10 +3,12 @@ from __future__ import annotations
 
 import unittest
 
-from hocsimbur import decision, plan, reasons
+from hocsimbur.sheets import layout
+from hocsimbur.portfolio import compared, decision, reasons
+from hocsimbur.report import plan
 from hocsimbur.core import Pair
-from hocsimbur.decimals import NO_BREAK
-from hocsimbur.lines import Compared
+from hocsimbur.sheets.decimals import NO_BREAK
+from hocsimbur.portfolio.compared import Compared
 
 from .portfolios import LICENCE, SHEET, case, granted, station
 
@@ -74,18 +76,43 @@ class OnOneLine(unittest.TestCase):
 
     def test_each(self):
         said = {
-            101: "4 seasons; nearest limit 7.5 % below (touch, season 3); safe up to 9,623 A",
-            104: "season 2: mesh 18.0 % above tolerable touch; no line for seasons 3, 4",
-            110: "no line for season 3",
-            118: "no line for season 4; wire: 495 kcmil needed, 5.0 mm solid has 38",
-            123: "no line for seasons 3, 4; yard differs between lines: depth and rods",
-            131: "season 2: mesh and tolerable touch not parted; no line for season 4",
+            101: "4 seasons; nearest limit 7.5 % below (touch, season 3); voltages safe up to 9,623 A; wire up to 37,991 A",
+            104: "season 2: mesh 18.0 % above tolerable touch; no line for seasons 3, 4; voltages safe up to 3,476 A where there is a line; "
+                 "wire up to 33,620 A",
+            110: "no line for season 3; voltages safe up to 25,857 A where there is a line; wire up to 36,081 A",
+            118: "no line for season 4; wire: 495 kcmil needed, 5.0 mm solid has 38; voltages safe up to 67,751 A where there is a line; "
+                 "wire up to 2,822 A",
         }
         for number, sentence in said.items():
             self.assertEqual(reasons.sentence(UNLICENSED[number]), sentence)
+        starts = {
+            123: "no line for seasons 3, 4; yard differs between lines: depth and rods; voltages safe up to ",
+            131: "season 2: mesh and tolerable touch not parted; no line for season 4; voltages safe up to ",
+        }
+        for number, start in starts.items():
+            self.assertTrue(reasons.sentence(UNLICENSED[number]).startswith(start), reasons.sentence(UNLICENSED[number]))
         self.assertEqual(reasons.sentence(EXAMPLE[215]), "no line for any season")
         self.assertEqual(reasons.sentence(station([case(101, 3)])),
-                         "1 season; nearest limit 7.5 % below (touch, season 3); safe up to 9,623 A")
+                         "1 season; nearest limit 7.5 % below (touch, season 3); voltages safe up to 9,623 A; wire up to 37,991 A")
+
+    def test_currents(self):
+        """The two fault currents are the library's answers; none where no current is safe."""
+        for one in EXAMPLE.values():
+            if one.lines:
+                self.assertIn(f"safe up to {one.answer.fault:,} A", plain(reasons.currents(one)))
+                self.assertTrue(plain(reasons.currents(one)).endswith(f"; wire up to {min(line.wire_to for line in one.lines):,} A"))
+        never = station([case(101, 1, soil=5000, layer=0, thick=0, across=2, along=2, shock=3000, split=1000, rods=0, rodlen=0, place=0)])
+        self.assertEqual(never.fault, 0)
+        self.assertTrue(plain(reasons.currents(never)).startswith("voltages safe at no fault current in range; wire up to "))
+
+    def test_potential_rise(self):
+        rises = {line.season: line.row.rise.upper for line in EXAMPLE[160].lines}
+        self.assertEqual(sorted(rises, key=rises.get), [1, 2])
+        self.assertEqual(plain(reasons.rise(EXAMPLE[160], 5000000)), "Potential rise above 5,000 V in season 2, up to 7,283 V; it decides nothing.")
+        self.assertEqual(reasons.rise(EXAMPLE[160], rises[2]), "")
+        self.assertEqual([line.season for line in reasons.above(EXAMPLE[160], rises[2] - 1)], [2])
+        self.assertEqual(reasons.counts(EXAMPLE[160], rises[1] - 1).rises, 2)
+        self.assertEqual(reasons.counts(EXAMPLE[160]).rises, 0)
 
     def test_no_no_break_space(self):
         self.assertFalse([one for one in EXAMPLE.values() if NO_BREAK in reasons.sentence(one)])
@@ -93,7 +120,7 @@ class OnOneLine(unittest.TestCase):
 
 class Margins(unittest.TestCase):
     def words(self, margin, lower, upper):
-        return plain(reasons.margin(Compared("touch", Pair(lower, upper), Pair(1000000, 1000002), margin)))
+        return plain(compared.margin(Compared("touch", Pair(lower, upper), Pair(1000000, 1000002), margin)))
 
     def test_each(self):
         self.assertEqual(self.words(180, 1179990, 1180000), "18.0 % above")
@@ -203,7 +230,8 @@ class Asides(unittest.TestCase):
 
 class Totals(unittest.TestCase):
     def said(self, portfolio):
-        return "".join(one.head + one.detail for one in reasons.totals(portfolio))
+        return "".join(one.head + one.detail for one in reasons.totals(
+            reasons.summed(map(reasons.counts, portfolio.stations)), portfolio.licensed))
 
     def test_each(self):
         self.assertEqual(self.said(decision.portfolio(SHEET, LICENCE)),
@@ -221,8 +249,16 @@ class Totals(unittest.TestCase):
         self.assertEqual(reasons.notes(decision.portfolio(SHEET)),
                          ["No licence was handed over: every station of the sheet is asked for all four seasons."])
         self.assertEqual(reasons.notes(decision.portfolio(SHEET, granted(101, (1,)))), [
-            "Stations 104, 110, 118, 123, 131, 140, 152, 160, 171, 188 and 204 of the sheet are not in the licence, and nothing is said of "
-            "them."])
+            "11 stations of the sheet are not in the licence, and nothing is said of them: 104, 110, 118, 123, 131, 140, 152, 160, 171, 188 and "
+            "204."])
+        two = layout.text([case(101, 1), case(104, 1)])
+        self.assertEqual(reasons.notes(decision.portfolio(two, granted(101, (1,)))),
+                         ["Station 104 of the sheet is not in the licence, and nothing is said of it."])
+        many = layout.text([case(101, 1, station=number) for number in range(1, 24)])
+        self.assertEqual(reasons.notes(decision.portfolio(many, granted(1, (1,))))[0].split(": ")[1],
+                         "2, 3, 4, 5, 6, 7, 8, 9, 10, 11, 12, 13, 14, 15, 16, 17, 18, 19, 20, 21 and 2 more.")
+        seasons = decision.Portfolio((), False, (), (1, 2))
+        self.assertEqual(reasons.notes(seasons), ["No licence was handed over: every station of the sheet is asked for seasons 1 and 2."])
 
 
 if __name__ == "__main__":

@@ -7,15 +7,18 @@ import re
 import unittest
 from typing import Dict, List
 
-from hocsimbur import core, decision, licence, reasons, report, sheets
-from hocsimbur.lines import YARD
+from hocsimbur import core
+from hocsimbur.portfolio import advice, decision, licence, reasons
+from hocsimbur.report import document
+from hocsimbur.sheets import layout
+from hocsimbur.portfolio.lines import YARD
 
 from . import golden
 from .dom import Node, cells, read
-from .portfolios import LICENCE, SHEET, case, granted
+from .portfolios import LICENCE, SHEET, case, granted, rendered
 
 DATE = "1 July 2026"
-PAGE = report.render(SHEET, "portfolio.csv", LICENCE, DATE)
+PAGE = rendered(SHEET, "portfolio.csv", LICENCE, DATE)
 TREE = read(PAGE)
 STATIONS = {one.station: one for one in LICENCE.stations}
 
@@ -57,8 +60,8 @@ class Asked:
     """What the library answers of the example, each line by station and season."""
 
     def __init__(self) -> None:
-        keys = [(one["station"], one["season"]) for one in sheets.cases(SHEET)]
-        self.cases = dict(zip(keys, sheets.cases(SHEET)))
+        keys = [(one["station"], one["season"]) for one in layout.cases(SHEET)]
+        self.cases = dict(zip(keys, layout.cases(SHEET)))
         self.rows = dict(zip(keys, core.rows(SHEET)))
         self.margins = dict(zip(keys, core.margins(SHEET)))
         self.working = dict(zip(keys, core.working(SHEET)))
@@ -138,7 +141,7 @@ class StationPages(unittest.TestCase):
         for station in with_lines():
             lines = [one for (number, _), one in ASKED.cases.items() if number == station]
             rows = list(section(station).one("table", "inp").one("tbody").all("tr"))
-            names = [name for name in sheets.cases(SHEET)[0] if name not in ("station", "season")]
+            names = [name for name in layout.cases(SHEET)[0] if name not in ("station", "season")]
             marked = [name for name, row in zip(names, rows) if "differs" in row.classes]
             self.assertEqual(marked, [name for name in names if len({one[name] for one in lines}) > 1])
             of_yard = [name for name, row in zip(names, rows) if "yard" in row.classes]
@@ -295,7 +298,11 @@ class Page(unittest.TestCase):
                 self.assertEqual(page.one("p", "decision").text(), plain(" ".join(reasons.decision(one))))
                 said = [reasons.differences(one), reasons.outside(one), *reasons.undecided(one), reasons.current(one), *wire]
                 cautions = [f"Caution: {caution}" for caution in reasons.cautions(one)]
-                self.assertEqual([item.text() for item in page.all("li")], [plain(text) for text in said + cautions if text])
+                changes = [] if one.released else advice.changes(one)
+                told = [item.text() for item in page.all("li")]
+                self.assertEqual(told[:len(told) - len(changes) - bool(changes)], [plain(text) for text in said + cautions if text])
+                self.assertEqual(told[len(told) - len(changes):], [change.words for change in changes])
+                self.assertEqual(any(text.startswith("What to change:") for text in told), bool(changes))
                 word = "Released" if ASKED.release[one.station].released else "Held"
                 self.assertEqual(page.one("p", "decision").text().split(":")[0], word)
 
@@ -350,10 +357,10 @@ class Page(unittest.TestCase):
 
 class Bytes(unittest.TestCase):
     def test_the_same_twice(self):
-        self.assertEqual(PAGE, report.render(SHEET, "portfolio.csv", LICENCE, DATE))
+        self.assertEqual(PAGE, rendered(SHEET, "portfolio.csv", LICENCE, DATE))
 
     def test_only_the_date(self):
-        other = report.render(SHEET, "portfolio.csv", LICENCE, "2 July 2026")
+        other = rendered(SHEET, "portfolio.csv", LICENCE, "2 July 2026")
         self.assertNotEqual(PAGE, other)
         self.assertEqual(PAGE, other.replace("2 July 2026", DATE))
 
@@ -362,7 +369,7 @@ class Bytes(unittest.TestCase):
         self.assertTrue(golden.made() == golden.FILE.read_text(encoding="utf-8"), f"another report than {golden.FILE} has")
 
     def test_today(self):
-        self.assertRegex(report.today(), r"^[1-9]\d? (January|February|March|April|May|June|July|August|September|October|November|"
+        self.assertRegex(document.today(), r"^[1-9]\d? (January|February|March|April|May|June|July|August|September|October|November|"
                                          r"December) 20\d\d$")
 
 
@@ -371,7 +378,7 @@ class Others(unittest.TestCase):
 
     def test_names_are_escaped(self):
         name = "<script>alert(1)</script> & \"O'Hara\" </style>"
-        page = report.render(SHEET, f"{name}.csv", granted(101, (1, 2, 3, 4), name), f"1 July <b>2026</b> {name}")
+        page = rendered(SHEET, f"{name}.csv", granted(101, (1, 2, 3, 4), name), f"1 July <b>2026</b> {name}")
         tree = read(page)
         self.assertFalse(list(tree.all("script")))
         self.assertNotIn("<script", page)
@@ -382,11 +389,11 @@ class Others(unittest.TestCase):
     def test_a_refused_sheet_has_no_report(self):
         for sheet, number in ((b"", 1), (SHEET[:-1], 1), (SHEET.replace(b",600,", b",60,", 1), 5), (SHEET + SHEET.splitlines(True)[1], 7)):
             with self.assertRaises(core.Refused) as refused:
-                report.render(sheet, "portfolio.csv", LICENCE, DATE)
+                rendered(sheet, "portfolio.csv", LICENCE, DATE)
             self.assertEqual(refused.exception.number, number)
 
     def test_without_a_licence_all_four_seasons(self):
-        tree = read(report.render(SHEET, "portfolio.csv", None, DATE))
+        tree = read(rendered(SHEET, "portfolio.csv", None, DATE))
         for one in tree.all("section", "station"):
             self.assertEqual(len(list(one.one("table", "res").one("thead").all("th", "num"))), 4)
         self.assertIn("No licence was handed over", tree.one("p", "totals").text())
@@ -394,8 +401,8 @@ class Others(unittest.TestCase):
         self.assertNotIn("in the licence", tree.one("main").text())
 
     def test_a_bar_that_is_cut(self):
-        sheet = sheets.text([case(101, 1, fault=80000, dia=300)])
-        page = report.render(sheet, "cut.csv", granted(101, (1,)), DATE)
+        sheet = layout.text([case(101, 1, fault=80000, dia=300)])
+        page = rendered(sheet, "cut.csv", granted(101, (1,)), DATE)
         tree = read(page)
         self.assertEqual({one.attributes["viewbox"] for one in tree.all("svg", "bar")}, {"0 0 2000 20"})
         self.assertTrue(list(tree.all("path", "cut")))
@@ -403,19 +410,19 @@ class Others(unittest.TestCase):
         self.assertNotIn("a bar that is cut", PAGE)
 
     def test_one_small_wire(self):
-        sheet = sheets.text([case(118, 1), case(118, 2, dia=300)])
-        tree = read(report.render(sheet, "wire.csv", granted(118, (1, 2)), DATE))
+        sheet = layout.text([case(118, 1), case(118, 2, dia=300)])
+        tree = read(rendered(sheet, "wire.csv", granted(118, (1, 2)), DATE))
         self.assertEqual(tree.one("td", "wire").text(), "495 of 38too small")
 
     def test_columns_in_another_order(self):
         names, *lines = [line.split(",") for line in SHEET.decode().splitlines()]
         turned = "".join(",".join(reversed(line)) + "\n" for line in [names, *lines]).encode()
-        page = report.render(turned, "portfolio.csv", LICENCE, DATE)
+        page = rendered(turned, "portfolio.csv", LICENCE, DATE)
         self.assertEqual(page, PAGE.replace(hashlib.sha256(SHEET).hexdigest(), hashlib.sha256(turned).hexdigest())
                          .replace(hashlib.sha256(SHEET).hexdigest()[:12], hashlib.sha256(turned).hexdigest()[:12]))
 
     def test_a_licence_without_any_line(self):
-        tree = read(report.render(SHEET, "portfolio.csv", licence.Licence((licence.Licensed(7, "Nowhere", (1, 2)),)), DATE))
+        tree = read(rendered(SHEET, "portfolio.csv", licence.Licence((licence.Licensed(7, "Nowhere", (1, 2)),)), DATE))
         self.assertEqual(len(list(tree.all("section"))), 1)
         self.assertEqual(tree.one("tbody", "st").one("span", "badge").text(), "HELD")
 

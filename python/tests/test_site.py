@@ -6,7 +6,8 @@ import random
 import unittest
 from fractions import Fraction
 
-from hocsimbur import amounts, core, site
+from hocsimbur import core
+from hocsimbur.sheets import amounts, site
 from hocsimbur.core import Pair
 
 from .common import run
@@ -78,28 +79,49 @@ class Readings(unittest.TestCase):
         self.assertEqual((done.status, done.out.split("\n")[1]), (0, "18849555,18849557,62831853,62831854,39793506,39793508,40"))
 
     def test_decimals_are_exact(self):
-        self.assertEqual(site.reading("1.5", "0.25"), (1500, 250))
-        self.assertEqual(site.readings(b"metres,ohms\n1.5,0.25\n2,3\n"), [(1500, 250), (2000, 3000)])
+        self.assertEqual(site.reading("1.5", "0.25"), (Pair(1500, 1500), Pair(250, 250)))
+        self.assertEqual(site.ends(site.readings(b"metres,ohms\n1.5,0.25\n2,3\n")), ([(1500, 250), (2000, 3000)],) * 2)
+
+    def test_feet_and_other_units(self):
+        self.assertEqual(site.reading("10ft", "712.5 mohm"), (Pair(3048, 3048), Pair(712, 713)))
+        self.assertEqual(site.reading("3.3", "1", "ft"), (Pair(1005, 1006), Pair(1000, 1000)))
+        self.assertEqual(site.readings("feet,ohms\n10,0.7125\n5 m,2 \u03a9\n".encode()),
+                         [(Pair(3048, 3048), Pair(712, 713)), (Pair(5000, 5000), Pair(2000, 2000))])
+
+    def test_readings_between_milliohms(self):
+        """Both sides are asked; the ends hold what the exact reading gives, and the soil is that of the upper side."""
+        done = run("wenner", "--reading", "3.0005,0.7125", "--reading", "10ft,2")
+        low, high = core.soil([(3000, 712), (3048, 2000)]), core.soil([(3001, 713), (3048, 2000)])
+        self.assertEqual(done.err, "warning: the greatest apparent resistivity is over 2.8 times the least. IEEE Std 80, 13.4: \"If there is a large "
+                         "variation in measured apparent resistivity, the uniform soil model is unlikely to yield accurate results.\" The standard "
+                         "gives no number; this warning stands above 2 times.\n"
+                         "note: 1 reading is no whole mm or mΩ; each was rounded to both sides, so that the ends hold the exact value, and the column "
+                         "soil goes by the upper ends\n")
+        self.assertIn("1         3 to 3.001 m  0.712 to 0.713 Ω     13.420     13.445\n2              3.048 m               2 Ω     38.302     38.303\n", done.out)
+        self.assertEqual(run("wenner", "--csv", "--reading", "3.0005,0.7125", "--reading", "10ft,2").out.split("\n")[1],
+                         ",".join(map(str, (low.least.lower, high.least.upper, low.greatest.lower, high.greatest.upper, low.mean.lower,
+                                            high.mean.upper, high.soil))))
 
     def test_a_text_with_other_columns_and_marks(self):
-        self.assertEqual(site.readings(b"\xef\xbb\xbfremark,Ohms,metres\r\ndry,3,2\r\n\r\n"), [(2000, 3000)])
+        self.assertEqual(site.readings(b"\xef\xbb\xbfremark,Ohms,metres\r\ndry,3,2\r\n\r\n"), [(Pair(2000, 2000), Pair(3000, 3000))])
 
     def test_decimal_commas_between_semicolons(self):
-        self.assertEqual(site.readings("metres;ohms\n1,5;10\n2;0,25\n".encode()), [(1500, 10000), (2000, 250)])
+        self.assertEqual(site.readings("metres;ohms\n1,5;10\n2;0,25\n".encode()), [(Pair(1500, 1500), Pair(10000, 10000)), (Pair(2000, 2000), Pair(250, 250))])
         with self.assertRaises(amounts.Unclear):
             site.readings(b"metres;ohms\n1,500;10\n")
 
     def test_refused(self):
         for arguments, said in (
-                (["--reading", "1.0005,10"], "reading 1.0005,10: distance: 1.0005 m is not a whole number of mm; it is not rounded"),
-                (["--reading", "1,10.0001"], "reading 1,10.0001: resistance: 10.0001 Ω is not a whole number of mΩ; it is not rounded"),
-                (["--reading", "1,5,10"], "reading 1,5,10: '1,5,10' is not two numbers parted by a comma; write a decimal point inside a number"),
-                (["--reading", "1"], "reading 1: '1' is not two numbers parted by a comma; write a decimal point inside a number"),
+                (["--reading", "1V,10"], "reading 1V,10: distance: '1V' has the unit 'V'; it may have m, cm, mm, ft or in"),
+                (["--reading", "1,10V"], "reading 1,10V: resistance: '10V' has the unit 'V'; it may have Ω, mΩ or kΩ"),
+                (["--reading", "x,10"], "reading x,10: distance: 'x' is no number"),
+                (["--reading", "1,5,10"], "reading 1,5,10: '1,5,10' is not two numbers separated by a comma; write METRES,OHMS as 2.5,7.3, or with units as 10ft,0.7125, with a decimal point inside a number"),
+                (["--reading", "1"], "reading 1: '1' is not two numbers separated by a comma; write METRES,OHMS as 2.5,7.3, or with units as 10ft,0.7125, with a decimal point inside a number"),
                 (["--reading", "0.4,1"], "reading 1, distance: 0.4 m is not in 0.5..50 m"),
                 (["--reading", "1,1001"], "reading 1, resistance: 1,001 Ω is not in 0.001..1,000 Ω"),
-                (["--reading", "4294968.296,10"], "reading 4294968.296,10: distance: 4,294,968.296 is far out of range"),
-                (["--reading=-1,1"], "reading -1,1: distance: −1 is far out of range"),
-                (["tests/sample.csv"], "tests/sample.csv: line 1: the names must be metres,ohms; here they are station,season")):
+                (["--reading", "4294968.296,10"], "reading 4294968.296,10: distance: 4294968.296 is far out of range"),
+                (["--reading=-1,1"], "reading -1,1: distance: -1 is far out of range"),
+                (["tests/sample.csv"], "tests/sample.csv: line 1: the names must be metres,ohms or feet,ohms; here they are station,season")):
             done = run("wenner", *arguments)
             self.assertEqual((done.status, done.out), (1, ""))
             self.assertTrue(done.err.startswith(said), done.err)
@@ -111,7 +133,7 @@ class Readings(unittest.TestCase):
             self.assertEqual((done.status, done.out, done.err[:16]), (3, "", "hocsimbur: give "))
 
     def test_texts_refused(self):
-        for text, said in ((b"", "the text is empty; its first line is metres,ohms"), (b"metres,ohms\n", "there is no reading"),
+        for text, said in ((b"", "the text is empty; its first line is metres,ohms or feet,ohms"), (b"metres,ohms\n", "there is no reading"),
                            (b"metres,ohms\n1,5,10\n", "line 2: there are 3 cells for 2 names; write a decimal point, no comma"),
                            (b"metres,ohms\n1,x\n", "line 2: resistance: 'x' is no number")):
             self.assertEqual(run("wenner", "-", stdin=text), (1, "", said + "\n"))
@@ -134,6 +156,17 @@ class Readings(unittest.TestCase):
 
 
 class Staged(unittest.TestCase):
+    def test_the_sign_of_an_angle(self):
+        for text in ("20@-22.5", "20\u2220-22.5", "20 \u2220 -22.5\u00b0", "20 A\u2220\u221222.5\u00b0", "20A @ -22.5"):
+            self.assertEqual(site.current(text), site.polar("20", "-22.5"), text)
+        self.assertEqual(run("staged", "--csv", "--injected", "20\u22200", "--branch", "5\u2220180").out.split("\n")[1], "25000,0,1250")
+        self.assertEqual(run("staged", "--csv", "-", stdin="current\n20\u22200\n5\u2220180\n".encode()).out.split("\n")[1], "25000,0,1250")
+
+    def test_the_form_that_is_wanted(self):
+        self.assertEqual(run("staged", "--injected", "20", "--branch", "1,0").err,
+                         "current 20: '20' is not two numbers separated by a comma; write IN-PHASE,QUADRATURE in A as 1000,-50, or SIZE@ANGLE in A and "
+                         "degrees as 1000@-22.5 or 1000\u2220-22.5, with a decimal point inside a number\n")
+
     def test_the_table_of_ieee_81_2(self):
         for (split, printed), (injected, *branches) in TABLE.items():
             options = [f"--branch={branch}" for branch in branches]

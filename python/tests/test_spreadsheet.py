@@ -7,9 +7,9 @@ import sys
 import tempfile
 import types
 import unittest
-from decimal import Decimal
+from fractions import Fraction
 
-from hocsimbur import spreadsheet
+from hocsimbur.sheets import spreadsheet
 
 from .common import ROOT, SAMPLE, changed, run
 
@@ -48,11 +48,12 @@ WRITTEN = {
 
 # cells that are refused, and why
 REFUSED = {
-    "3180.5": "3180.5 is not a whole number of A; it is not rounded",
-    "0.3180": "0.3180 is not a whole number of A; it is not rounded",
+    "3180.5": "3180.5 is not a whole number of A; the cautious side is up: write 3181, or give --round cautious",
+    "0.3180": "0.3180 is not a whole number of A; the cautious side is up: write 1, or give --round cautious",
     '"3,180"': "'3,180' may be 3180 or 3.180 with decimals; write it in digits alone",
     '"3,000"': "'3,000' may be 3000 or 3.000 with decimals; write it in digits alone",
-    "3180 A": "'3180 A' is no number; write only digits, a whole number of A",
+    "3180 V": "'3180 V' has the unit 'V'; fault may have A or kA",
+    "8.71234 kA": "8.71234 kA is 8712.34 A, not a whole number of A; the cautious side is up: write 8713, or give --round cautious",
     "3_180": "'3_180' is no number; write only digits, a whole number of A",
     "NaN": "'NaN' is no number; write only digits, a whole number of A",
     "1e999": "'1e999' is no number; write only digits, a whole number of A",
@@ -109,9 +110,9 @@ class Made(unittest.TestCase):
         self.assertEqual([said.split(":")[0] for said in caught.exception.said], ["line 2, hz (column 22)", "line 2, column 23"])
 
     def test_thousands_by_points(self):
-        self.assertEqual([spreadsheet._exact(text, ";") for text in ("1.234.567", "1.234.567,0", "1,234,567", "12,5", "12.5")],
-                         [1234567, 1234567, 1234567, Decimal("12.5"), Decimal("12.5")])
-        self.assertIsNone(spreadsheet._exact("1.23.456", ";"))
+        self.assertEqual([spreadsheet.exact(text, ";") for text in ("1.234.567", "1.234.567,0", "1,234,567", "12,5", "12.5")],
+                         [1234567, 1234567, 1234567, Fraction(25, 2), Fraction(25, 2)])
+        self.assertIsNone(spreadsheet.exact("1.23.456", ";"))
 
     def test_nothing_there(self):
         for data in (b"", b"\n\n", b" , ,\r\n"):
@@ -122,7 +123,8 @@ class Made(unittest.TestCase):
     def test_names_that_would_part_a_line(self):
         with self.assertRaises(spreadsheet.Refusals) as caught:
             spreadsheet.make(SAMPLE.replace(b"soil", b'"soil, ohm m"'))
-        self.assertEqual(caught.exception.said, ["line 1, column 3: 'soil, ohm m' is no name of a sheet"])
+        self.assertEqual(caught.exception.said, ["line 1, column 3: 'soil, ohm m' is no name of a sheet",
+                                                 "line 1: soil is missing: a sheet has 22 names, here are 21"])
 
     def test_open_quotes(self):
         with self.assertRaises(spreadsheet.Refusals):

@@ -4,8 +4,9 @@ from __future__ import annotations
 import re
 import unittest
 
-from hocsimbur import core, words
-from hocsimbur.words import Asked
+from hocsimbur import core
+from hocsimbur.sheets import words
+from hocsimbur.sheets.words import Asked
 
 from .common import NAMES, ROOT, SAMPLE, changed
 
@@ -83,8 +84,8 @@ class OfSheets(unittest.TestCase):
             (SAMPLE.replace(b"\n", b"\r\n"),
              f"line 1, hz (column 22): the line ends with two bytes, 13 and 10 (CRLF), and not with byte 10 alone; {IMPORT}"),
             (b"\xef\xbb\xbf" + SAMPLE, f"line 1: a byte-order mark (bytes 239, 187, 191) stands before the first name; {IMPORT}"),
-            (SAMPLE.replace(b",", b";"), f"line 1: the fields are parted by semicolons and not by commas; {IMPORT}"),
-            (SAMPLE.replace(b",", b"\t"), f"line 1: the fields are parted by tabs and not by commas; {IMPORT}"),
+            (SAMPLE.replace(b",", b";"), f"line 1: the fields are separated by semicolons and not by commas; {IMPORT}"),
+            (SAMPLE.replace(b",", b"\t"), f"line 1: the fields are separated by tabs and not by commas; {IMPORT}"),
             (SAMPLE.decode().encode("utf-16-le") + b"\n", "line 1: the file has bytes 0 and is no plain text; save it as CSV in UTF-8"),
             (b"\xff\xfe" + SAMPLE.decode().encode("utf-16-le") + b"\n", f"line 1: the text is UTF-16, two bytes a character; {IMPORT}"),
             (SAMPLE.replace(b",", b", "), f"line 1, season (column 2): there are spaces around 'season'; {IMPORT}"),
@@ -94,7 +95,7 @@ class OfSheets(unittest.TestCase):
     def test_3(self):
         soil = "line 2, soil (column 3): "
         self.hold([
-            (changed(soil="62.5"), soil + "62.5 is not a whole number of Ω·m, 10..5000"),
+            (changed(soil="62.5"), soil + "62.5 is not a whole number of Ω·m, 10..5000; the cautious side is up"),
             (changed(soil="400.0"), soil + "400.0 has a decimal point; write 400, or let `hocsimbur import` do so"),
             (changed(soil="0400"), soil + "0400 starts with 0; write 400"),
             (changed(soil="4000000"), soil + "4000000 has 7 digits, at most six are allowed; it must be a whole number of Ω·m, 10..5000"),
@@ -112,7 +113,7 @@ class OfSheets(unittest.TestCase):
     def test_3_too_few_and_too_many(self):
         self.hold([
             (ONE.replace(b",60\n", b"\n"), "line 2, hz (column 22): there are only 21 values for 22 names; this one is missing"),
-            (ONE.replace(b",60\n", b",60,\n"), "line 2, column 23: there are 23 values for 22 names; a decimal comma parts a value in two"),
+            (ONE.replace(b",60\n", b",60,\n"), "line 2, column 23: there are 23 values for 22 names; a decimal comma splits a value in two"),
             (SAMPLE + b"\n", "line 4: the line is empty; take it out, or let `hocsimbur import` do so"),
         ])
 

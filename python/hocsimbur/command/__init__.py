@@ -1,0 +1,1 @@
+"""The command hocsimbur: arguments, answers as text, files and exit statuses."""

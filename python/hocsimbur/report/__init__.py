@@ -1,0 +1,1 @@
+"""The report of a portfolio as one HTML file."""

@@ -1,0 +1,1 @@
+"""Sheets as people write them: names and ranges, refusals in words, amounts, and what spreadsheets and sites hand over."""
