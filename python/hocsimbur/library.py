@@ -13,7 +13,7 @@ from typing import Callable, Dict, Iterable, List, Mapping, NamedTuple, NoReturn
 from . import core
 from .core import Verdict
 from .portfolio import decision, reasons
-from .portfolio.licence import ALL_SEASONS, Licence, Licensed
+from .portfolio.licence import ALL_SEASONS, MOST_AREA, Licence, Licensed
 from .sheets import checking, layout, rounding
 from .sheets.amounts import shown
 from .sheets.files import Batch, File, Lines, each
@@ -270,15 +270,20 @@ def headroom(yards: Iterable[Yard]) -> List[Optional[int]]:
     return _asked(yards, lambda batch: [fault or None for fault in core.headroom(batch.sheet)])
 
 
-def release(yards: Iterable[Yard], licence: Optional[Mapping[int, Iterable[int]]] = None) -> List[Release]:
+def release(yards: Iterable[Yard], licence: Optional[Mapping[int, Iterable[int]]] = None,
+            wires: Optional[Mapping[int, int]] = None) -> List[Release]:
     """Which stations may be released: of a licence, which has the seasons of each station as a set of numbers, 1 to 4, in its order;
     without one every station in all four seasons, in the order of first appearance.
 
-    Every line of a station counts, also of seasons outside the licence."""
+    `wires` has of stations of the licence the conductor's own cross-section in whole kcmil, rounded down, 1 to 2000; of the others it is a
+    solid round wire of the yard's diameter. Every line of a station counts, also of seasons outside the licence."""
     cases = _cases(yards, _TODAY)
     if not cases:
         raise Refused("there is no yard")
-    granted = None if licence is None else Licence(tuple(_licensed(station, seasons) for station, seasons in licence.items()))
+    granted = None if licence is None else Licence(tuple(_licensed(station, seasons, (wires or {}).get(station, 0))
+                                                                for station, seasons in licence.items()))
+    if wires and (granted is None or not set(wires) <= set(licence or {})):
+        raise Refused("wires: a wire is given for a station that the licence does not name")
     if granted is not None and not granted.stations:
         raise Refused("the licence names no station")
     sheet = layout.text(cases)
@@ -295,14 +300,17 @@ def release(yards: Iterable[Yard], licence: Optional[Mapping[int, Iterable[int]]
         _refuse(sheet)
 
 
-def _licensed(station: object, seasons: Iterable[int]) -> Licensed:
+def _licensed(station: object, seasons: Iterable[int], area: object) -> Licensed:
     number = _number(station)
     if number is None or number.denominator != 1 or not 1 <= number <= 65535:
         raise Refused(f"licence: {printable(repr(station))} is not a station's number in 1..65535")
     found = sorted(set(seasons))
     if not found or any(isinstance(one, bool) or one not in ALL_SEASONS for one in found):
         raise Refused(f"licence: the seasons of station {int(number)} are {found}; they are some of 1, 2, 3 and 4")
-    return Licensed(int(number), "", tuple(int(one) for one in found))
+    own = _number(area)
+    if own is None or own.denominator != 1 or not 0 <= own <= MOST_AREA:
+        raise Refused(f"wires: the cross-section of station {int(number)} is {printable(repr(area))}; it is in whole kcmil, 1..{MOST_AREA}")
+    return Licensed(int(number), "", tuple(int(one) for one in found), area=int(own))
 
 
 def fewest(yard: Yard, side: Number) -> Fewest:

@@ -40,6 +40,21 @@ class Read(unittest.TestCase):
         self.assertEqual(made.stations, (Licensed(9, 'A, "B"; C', (1, 2)), Licensed(7, "", (1,))))
         self.assertEqual(licence.read(licence.text(made).encode()), made)
 
+    def test_wires(self):
+        """A size of the catalogue or a cross-section in kcmil, both rounded down; none is a solid round of the diameter."""
+        read = licence.read(b"station,name,seasons,wire\n7,A,1,4/0\n8,B,2,\n9,C,1 2,500 kcmil\n10,D,3,211 kcmil\n11,E,4,95 mm2\n")
+        self.assertEqual([one.numbers for one in read.stations], [(7, 1, 211), (8, 2, 0), (9, 3, 500), (10, 4, 211), (11, 8, 184)])
+        self.assertEqual(licence.wires(read)[0], "wire 4/0 is counted as 211 kcmil, its own cross-section rounded down")
+        self.assertEqual(len(licence.wires(read)), 4)
+        self.assertEqual(licence.read(licence.text(read).encode()), read)
+        self.assertEqual(licence.wires(LICENCE), [])
+        for wrong in ("5/0", "13.4", "2001 kcmil", "0 kcmil", "4", "95"):
+            with self.assertRaises(LicenceRefused) as refused:
+                licence.read(b"station,name,seasons,wire\n7,A,1,%s\n" % wrong.encode())
+            self.assertEqual(str(refused.exception),
+                             f"licence line 2, wire: '{wrong}' is no size of the catalogue; write for example 4/0, 250 kcmil or 95 mm2, "
+                             "or the cross-section in whole kcmil, rounded down, as 211 kcmil (1..2000)")
+
     def test_no_line_end(self):
         self.assertEqual(licence.read(HEAD + b"7,A,1").stations, (Licensed(7, "A", (1,)),))
 
@@ -61,9 +76,9 @@ class Refusals(unittest.TestCase):
         b"": "licence: it is empty; its first line is station,name,seasons",
         b"\n \n": "licence: it is empty; its first line is station,name,seasons",
         HEAD: "licence: it names no station",
-        b"station,name\n7,A\n": "licence line 1: the names are station,name, not station,name,seasons",
-        b"station,name,season\n": "licence line 1: the names are station,name,season, not station,name,seasons",
-        b"station,name,seasons,seasons\n": "licence line 1: the names are station,name,seasons,seasons, not station,name,seasons",
+        b"station,name\n7,A\n": "licence line 1: the names are station,name, not station,name,seasons, with wire where it is known",
+        b"station,name,season\n": "licence line 1: the names are station,name,season, not station,name,seasons, with wire where it is known",
+        b"station,name,seasons,seasons\n": "licence line 1: the names are station,name,seasons,seasons, not station,name,seasons, with wire where it is known",
         HEAD + b"7,A\n": "licence line 2: 2 cells and not 3; a name with a comma stands in double quotes",
         HEAD + b"7,A,B,1 2\n": "licence line 2: 4 cells and not 3; a name with a comma stands in double quotes",
         HEAD + b"0,A,1\n": "licence line 2, station: '0' is not a number in 1..65535",

@@ -41,6 +41,8 @@ def _asked(arguments: argparse.Namespace) -> Asked:
             raise Failed("give either --licence or --seasons: a licence names the seasons of each station itself")
         try:
             granted = licence.read(read(arguments.licence))
+            for said in licence.wires(granted):
+                tell(f"note: {said}")
         except licence.LicenceRefused as error:
             raise Stopped([str(error)], of=arguments.licence) from None
         except spreadsheet.Unreadable as error:

@@ -17,6 +17,7 @@ from . import asking
 from .candidates import Cases, Tried, kinds, with_values
 from .compared import share
 from .decision import Missing, OtherYard, SmallWire, Station
+from .licence import MOST_AREA
 from .lines import YARD
 
 
@@ -97,6 +98,14 @@ def _wire(lines: Cases) -> Change:
     return Change("wire", f"wire: no solid round up to {most} mm is enough; try another metal or a shorter back-up time")
 
 
+def _own_wire(station: Station) -> Change:
+    """The least cross-section that is enough in every line, where the licence has the conductor's own."""
+    needed, most = max(line.row.kcmil for line in station.lines), MOST_AREA
+    if needed > most:
+        return Change("wire", f"wire: no wire up to {most} kcmil is enough; try another metal or a shorter back-up time")
+    return Change("wire", f"wire: {needed} kcmil or more (now {station.licensed.area}); give its size in the licence")
+
+
 def _yards(lines: Cases, columns: Sequence[str]) -> List[Change]:
     """The yard of each line put into all of them, and whether every line is then safe."""
     found = [Change("yard", f"yard: agree on {labels.columns(columns)} in all lines")]
@@ -129,7 +138,7 @@ def changes(station: Station) -> List[Change]:
         elif isinstance(reason, OtherYard):
             found += _yards(lines, reason.columns)
         elif isinstance(reason, SmallWire):
-            found.append(_wire(lines))
+            found.append(_own_wire(station) if station.licensed.area else _wire(lines))
     if station.answer.unsafe or station.answer.undecided:
         found += _safe_changes(lines, not station.answer.other_yard)
     return found

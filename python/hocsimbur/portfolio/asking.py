@@ -35,11 +35,23 @@ def verdicts(cases: Sequence[Case]) -> List[core.Verdict]:
     return [row.verdict for row in _each(cases, lambda sheet, count: core.rows(sheet))]
 
 
+AREA = "own area"  # a case may have, beside its columns, its conductor's own cross-section in kcmil; without it, or with 0, it is a solid round
+
+
+def with_area(case: Case, area: int) -> Case:
+    """A case whose conductor has this cross-section of its own, in whole kcmil."""
+    return {**case, AREA: area}
+
+
 def small_wires(cases: Sequence[Case]) -> List[bool]:
     """Of each case, whether its conductor is too small."""
-    def ask(sheet: bytes, count: int) -> List[bool]:
-        return [answer.small_wire > 0 for answer in core.release(sheet, [(number, 1) for number in range(1, count + 1)])]
-    return _each(cases, ask)
+    answers: List[bool] = []
+    for first in range(0, len(cases), core.LINES):
+        part = cases[first:first + core.LINES]
+        sheet = _alone([{name: case[name] for name in case if name != AREA} for case in part])
+        licence = [(number, 1, case.get(AREA, 0)) for number, case in enumerate(part, 1)]
+        answers += [answer.small_wire > 0 for answer in core.release(sheet, licence)]
+    return answers
 
 
 def greatest(cases: Sequence[Case], name: str, low: int, high: int, good: Callable[[List[Case]], List[bool]]) -> List[int]:
@@ -60,10 +72,10 @@ def greatest(cases: Sequence[Case], name: str, low: int, high: int, good: Callab
 
 
 def _guess(case: Case, row: core.Row) -> int:
-    """About the greatest fault current in A for which a solid round conductor is enough: (needed kcmil) = kA · Kf · √s · Df.
+    """About the greatest fault current in A for which a conductor is enough: (needed kcmil) = kA · Kf · √s · Df.
 
     Only a guess: the library is asked at it and one ampere above."""
-    own = 1000 * case["dia"] * case["dia"] // 64516
+    own = case.get(AREA) or 1000 * case["dia"] * case["dia"] // 64516
     per_ampere = KF[case["metal"]] * row.factor.upper  # 10^-14 kcmil for an ampere and the root of a second
     return isqrt((own * 10 ** 14) ** 2 * 1000 // (per_ampere * per_ampere * case["wire"]))
 

@@ -53,7 +53,8 @@ class Size(NamedTuple):
 
     needed: int    # kcmil
     diameter: int  # tenths of a mm
-    own: int       # kcmil of a solid round of that diameter, rounded down
+    own: int       # kcmil, rounded down: the conductor's own, or those of a solid round of that diameter
+    solid: bool = True  # whether only the diameter is known
 
 
 @dataclass(frozen=True)
@@ -175,7 +176,7 @@ def size(lines: Tuple[Line, ...]) -> Size:
     """What the conductor needs and has in the line that needs the largest, of those in which it is too small where there are any."""
     small = [line for line in lines if line.small_wire] or lines
     line = max(small, key=lambda line: (line.row.kcmil, -line.case["dia"]))
-    return Size(line.row.kcmil, line.case["dia"], kcmil(line.case["dia"]))
+    return Size(line.row.kcmil, line.case["dia"], line.area or kcmil(line.case["dia"]), not line.area)
 
 
 def _reasons(licensed: Licensed, answer: core.Release, lines: Tuple[Line, ...]) -> List[Reason]:
@@ -200,7 +201,8 @@ def _stations(lines: Lines, batch: Batch, licence: Optional[Dict[int, Licensed]]
               seasons: Tuple[int, ...]) -> Tuple[List[Station], List[int]]:
     """What the core answers of the stations of a sheet that the licence names, and those that it does not name."""
     told = len(lines.files) > 1
-    gathered = gather(batch.sheet, [lines.place(line) if told else Place("", lines.place(line).line) for line in batch.lines])
+    areas = {one.station: one.area for one in (licence or {}).values() if one.area}
+    gathered = gather(batch.sheet, [lines.place(line) if told else Place("", lines.place(line).line) for line in batch.lines], areas)
     own: Dict[int, List[Line]] = {}
     for line in gathered:
         own.setdefault(line.case["station"], []).append(line)

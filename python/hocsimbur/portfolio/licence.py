@@ -1,7 +1,9 @@
-"""A licence: which stations in which seasons are to be released, from a text or workbook of three columns, station, name and seasons.
+"""A licence: which stations in which seasons are to be released, from a text or workbook of three columns, station, name and seasons, and
+a fourth, wire, that may be left out.
 
 The columns stand in any order and their names in any letters; the seasons of a station are written as `1 2 4`, `1,2,4`, `1-4` or `all`.
-A name is any printable text on one line; one with a comma stands in double quotes."""
+A name is any printable text on one line; one with a comma stands in double quotes. A wire is a size of the catalogue, as `4/0`, `250 kcmil`
+or `95 mm2`, or a cross-section in whole kcmil, as `211 kcmil`; an empty one is counted as a solid round wire of the sheet's diameter."""
 from __future__ import annotations
 
 import re
@@ -9,6 +11,8 @@ from dataclasses import dataclass
 from typing import Dict, List, Optional, Sequence, Tuple
 
 COLUMNS = ("station", "name", "seasons")
+WIRE = "wire"      # the fourth column, which may be left out
+MOST_AREA = 2000   # kcmil
 ALL_SEASONS = (1, 2, 3, 4)
 
 
@@ -24,6 +28,8 @@ class Licensed:
     name: str
     seasons: Tuple[int, ...]
     by_licence: bool = True  # no: all four seasons are asked, since there is no licence
+    wire: str = ""           # the size of its conductor, as the licence writes it
+    area: int = 0            # the conductor's own cross-section in whole kcmil, rounded down; 0: solid and round, from the diameter
 
     @property
     def mask(self) -> int:
@@ -31,9 +37,9 @@ class Licensed:
         return sum(1 << (season - 1) for season in self.seasons)
 
     @property
-    def numbers(self) -> Tuple[int, int]:
-        """What the core is handed of this station: its number and its seasons."""
-        return self.station, self.mask
+    def numbers(self) -> Tuple[int, int, int]:
+        """What the core is handed of this station: its number, its seasons and its conductor's own cross-section."""
+        return self.station, self.mask, self.area
 
 
 def unlicensed(station: int, seasons_: Tuple[int, ...] = ALL_SEASONS) -> Licensed:
@@ -62,14 +68,29 @@ def _lines(data: bytes, worksheet: Optional[str]) -> List[Tuple[int, List[str]]]
 
 
 def _order(head: Tuple[int, List[str]]) -> List[int]:
-    """The places of the three columns."""
+    """The places of the three columns, and of the fourth where it is there."""
     line, names = head
     bare = [name.casefold() for name in names]
     while bare and not bare[-1]:
         bare.pop()
-    if sorted(bare) != sorted(COLUMNS):
-        raise _refuse(line, f": the names are {','.join(names)}, not station,name,seasons")
-    return [bare.index(column) for column in COLUMNS]
+    columns = (*COLUMNS, WIRE) if WIRE in bare else COLUMNS
+    if sorted(bare) != sorted(columns):
+        raise _refuse(line, f": the names are {','.join(names)}, not station,name,seasons, with wire where it is known")
+    return [bare.index(column) for column in columns]
+
+
+def _area(line: int, cell: str) -> int:
+    """The cross-section of a wire in whole kcmil, rounded down; 0 where none is named."""
+    if not cell:
+        return 0
+    from ..sheets import catalogue  # only where a licence names a wire
+    found = catalogue.find(cell)
+    own = re.fullmatch(r"([1-9][0-9]{0,3}) ?kcmil", cell.strip().casefold())
+    area = found.kcmil if found else int(own[1]) if own else 0
+    if not 1 <= area <= MOST_AREA:
+        raise _refuse(line, f", wire: '{cell}' is no size of the catalogue; write for example 4/0, 250 kcmil or 95 mm2, "
+                            f"or the cross-section in whole kcmil, rounded down, as 211 kcmil (1..{MOST_AREA})")
+    return area
 
 
 def _station(line: int, cell: str) -> int:
@@ -111,18 +132,18 @@ def read(data: bytes, worksheet: Optional[str] = None) -> Licence:
     order, stations = _order(lines[0]), []
     places = {}
     for line, cells in lines[1:]:
-        if len(cells) > len(COLUMNS) and not any(cells[len(COLUMNS):]):
-            cells = cells[:len(COLUMNS)]
-        if len(cells) != len(COLUMNS):
-            raise _refuse(line, f": {len(cells)} cells and not 3; a name with a comma stands in double quotes")
-        station, name, seasons = (cells[place] for place in order)
+        if len(cells) > len(order) and not any(cells[len(order):]):
+            cells = cells[:len(order)]
+        if len(cells) != len(order):
+            raise _refuse(line, f": {len(cells)} cells and not {len(order)}; a name with a comma stands in double quotes")
+        station, name, seasons, wire = (*(cells[place] for place in order), "")[:4]
         number = _station(line, station)
         if not name.isprintable():
             raise _refuse(line, ", name: it has a character that cannot be printed")
         if number in places:
             raise _refuse(line, f", station: {number} stands in line {places[number]} too")
         places[number] = line
-        stations.append(Licensed(number, name, _seasons(line, seasons)))
+        stations.append(Licensed(number, name, _seasons(line, seasons), wire=wire.strip(), area=_area(line, wire)))
     if not stations:
         raise _refuse(None, ": it names no station")
     return Licence(tuple(stations))
@@ -140,5 +161,12 @@ def text(licence: Licence) -> str:
     """A licence as the text that `read` reads."""
     def quoted(name: str) -> str:
         return '"' + name.replace('"', '""') + '"' if any(sign in name for sign in ',;"') else name
-    lines = [f"{one.station},{quoted(one.name)},{' '.join(map(str, one.seasons))}\n" for one in licence.stations]
-    return "station,name,seasons\n" + "".join(lines)
+    wires = any(one.wire for one in licence.stations)
+    lines = [f"{one.station},{quoted(one.name)},{' '.join(map(str, one.seasons))}{f',{one.wire}' if wires else ''}\n" for one in licence.stations]
+    return f"station,name,seasons{',wire' if wires else ''}\n" + "".join(lines)
+
+
+def wires(licence: Licence) -> List[str]:
+    """How each wire that the licence names is counted, a sentence for each."""
+    named = {one.wire: one.area for one in licence.stations if one.wire}
+    return [f"wire {wire} is counted as {area} kcmil, its own cross-section rounded down" for wire, area in named.items()]

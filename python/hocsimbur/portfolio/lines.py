@@ -20,9 +20,11 @@ YARD = ("across", "along", "space", "depth", "dia", "rods", "rodlen", "place", "
 class Answers:
     """What the core answers of the lines of a sheet."""
 
-    def __init__(self, sheet: bytes) -> None:
+    def __init__(self, sheet: bytes, areas: Optional[Dict[int, int]] = None) -> None:
+        """`areas` has of stations their conductor's own cross-section in whole kcmil; of the others it is a solid round."""
         self.sheet = sheet
         self.cases = layout.cases(sheet)
+        self.areas = areas or {}
 
     @cached_property
     def rows(self) -> List[core.Row]:
@@ -42,7 +44,11 @@ class Answers:
 
     @cached_property
     def wires_to(self) -> List[int]:
-        return asking.wires_enough_to(self.cases, self.rows)
+        return asking.wires_enough_to([asking.with_area(case, self.area(case)) for case in self.cases], self.rows)
+
+    def area(self, case: Dict[str, int]) -> int:
+        """The conductor's own cross-section of a line's station, or 0."""
+        return self.areas.get(case["station"], 0)
 
 
 @dataclass(frozen=True)
@@ -86,6 +92,11 @@ class Line:
         return self.answers.wires_to[self.index]
 
     @property
+    def area(self) -> int:
+        """The conductor's own cross-section in whole kcmil, or 0 for a solid round of the diameter."""
+        return self.answers.area(self.case)
+
+    @property
     def small_wire(self) -> bool:
         """Whether its conductor is too small."""
         return self.case["fault"] > self.wire_to
@@ -112,7 +123,7 @@ def differing(lines: Tuple[Line, ...]) -> Tuple[str, ...]:
     return tuple(name.name for name in NAMES[2:] if len({line.case[name.name] for line in lines}) > 1)
 
 
-def gather(sheet: bytes, places: Optional[Sequence[Place]] = None) -> List[Line]:
-    """The lines of a sheet with all that the core answers of them, in the sheet's order."""
-    answers = Answers(sheet)
+def gather(sheet: bytes, places: Optional[Sequence[Place]] = None, areas: Optional[Dict[int, int]] = None) -> List[Line]:
+    """The lines of a sheet with all that the core answers of them, in the sheet's order; `areas` has conductors' own cross-sections."""
+    answers = Answers(sheet, areas)
     return [Line(answers, index, places[index] if places else Place("", index + 2)) for index in range(len(answers.cases))]

@@ -37,7 +37,8 @@ def _not_parted(one: Compared) -> str:
 
 
 def _size(size: Size) -> str:
-    return f"{grouped(size.needed)}{NB}kcmil needed, {labels.tenths(size.diameter)}{NB}mm solid has {grouped(size.own)}"
+    has = f"{labels.tenths(size.diameter)}{NB}mm solid has" if size.solid else "the wire has"
+    return f"{grouped(size.needed)}{NB}kcmil needed, {has} {grouped(size.own)}"
 
 
 def _no_line(reason: Missing) -> str:
@@ -212,8 +213,8 @@ def few_rods(station: Station) -> str:
 
 
 def stranded(station: Station) -> str:
-    """That a stranded wire of the diameter may be too small; '' where it would be enough."""
-    if any(not line.small_wire and 4 * line.row.kcmil > 3 * kcmil(line.case["dia"]) for line in station.lines):
+    """That a stranded wire of the diameter may be too small; '' where it would be enough, or where the licence has its own area."""
+    if any(not line.area and not line.small_wire and 4 * line.row.kcmil > 3 * kcmil(line.case["dia"]) for line in station.lines):
         return "The wire is counted as a solid round: a stranded one of that diameter has about a quarter less, which may be too little here."
     return ""
 
