@@ -1,2 +1,3 @@
 mod Answers
 pub mod Range
+pub mod Rooms

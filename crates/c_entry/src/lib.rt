@@ -1,10 +1,13 @@
 // The sheet asked by a program in C, and the manner of all that C asks: the answer is a count of 0 or more, or a refusal's number made
 // negative, with line and column in a lent place of two numbers and every other buffer as it was.
-ghost use Prim.Native.Nat.{_*_};
+ghost use Prim.Native.Nat.{_≤_};
 ghost use mathlib.Core.Path.{_≡_};
+ghost use mathlib.Core.Bool.{true};
 ghost use lib.ListN.{length};
-ghost use Rattle.case.specs.Columns.{nameCount};
-ghost use Rattle.judgement.specs.Limits.{mostLines};
+ghost use Rattle.text.specs.Text.{linesOf};
+ghost use Rattle.case.specs.declared.Form.the-variants.{Present};
+ghost use Rattle.case.specs.Parts.{formOf};
+ghost use Rattle.judgement.specs.Read.{Room};
 ghost use Rattle.c_entry.specs.Buffer.{InBytes, Answered};
 ghost use Rattle.c_entry.specs.Buffer.{AnsweredAt};
 use c_rows::ROW_BYTES;
@@ -12,18 +15,35 @@ use c_rows::write_rows;
 use c_tell::put_place;
 use c_tell::signed_answer;
 use case::Form;
+use case::NAMES;
 use judgement::Judgement;
 use judgement::VALUES;
-use judgement::read;
+use judgement::read_within;
 use sheet::Answer;
 use sheet::TABLE_SHORT;
+use text::count_lines;
 
-// The answer to a sheet, and its rows as bytes in the buffer, by way of a store for the values of the most lines.
+// A sheet of at most so many bytes and lines, that of the names among them, is short: to clear a store for the most lines would take longer
+// than all else that is done for it.
+const SHORT_BYTES: usize = 1024;
+
+const SHORT_LINES: usize = 8;
+
+fn is_short(s: &[u8]) -> bool
+    ensures { λ r. ⌜ (r ≡ true → length (linesOf (now (s .entry))) ≤ 8) ⌝ }
+{
+    if SHORT_BYTES < s.len() {
+        return false;
+    }
+    count_lines(s) <= SHORT_LINES
+}
+
+// The answer to a sheet, and its rows as bytes in the buffer, by way of a store with room for its lines.
 fn fill_buffer(s: &[u8], values: &mut [u32], buffer: &mut [u8]) -> Answer
-    requires { ⌜ length (now values) ≡ nameCount * mostLines ⌝ }
+    requires { ⌜ Room (formOf Present) (linesOf (now s)) (now values) ⌝ }
     ensures { λ r. ⌜ InBytes (now (s .entry)) (now (buffer .entry)) (now (buffer .exit)) r ⌝ }
 {
-    match read(Form::Present, s, values) {
+    match read_within(Form::Present, s, values) {
         Judgement::Refused(number, line, column) => Answer::Refused(number, line, column),
         Judgement::Lines(n) => {
             if buffer.len() < ROW_BYTES * n {
@@ -39,6 +59,10 @@ fn fill_buffer(s: &[u8], values: &mut [u32], buffer: &mut [u8]) -> Answer
 fn rows_in_bytes(s: &[u8], buffer: &mut [u8]) -> Answer
     ensures { λ r. ⌜ InBytes (now (s .entry)) (now (buffer .entry)) (now (buffer .exit)) r ⌝ }
 {
+    if is_short(s) {
+        let mut values = [0u32; SHORT_LINES * NAMES];
+        return fill_buffer(s, &mut values, buffer);
+    }
     let mut values = [0u32; VALUES];
     fill_buffer(s, &mut values, buffer)
 }

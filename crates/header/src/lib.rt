@@ -24,7 +24,7 @@ pub fn read_header(form: Form, line: &[u8], at: &mut [usize], order: &mut [usize
     let mut c: usize = 1;
     loop {
         let e = find(rest, 44);
-        let found = name_of(form, &rest[..e]);
+        let found = name_of(form, c - 1, &rest[..e]);
         let Found::At(k) = found else {
             return c;
         };

@@ -67,12 +67,17 @@ fn is_name(name: Name, s: &[u8]) -> bool
     same(s, &text[..len])
 }
 
-// The index of a field's name.
-pub fn name_of(form: Form, s: &[u8]) -> Found
+// The index of a field's name. The one that is expected is tried first: sheets mostly have the names in the order of the table.
+pub fn name_of(form: Form, expected: usize, s: &[u8]) -> Found
     ensures { λ r. ⌜ r ≡ foundName (formOf form) (now (s .entry)) ⌝ }
 {
     let names = all_names();
     let n = name_count(form);
+    if expected < n {
+        if is_name(names[place(form, expected)], s) {
+            return Found::At(expected);
+        }
+    }
     let mut k = 0;
     while k < n {
         if is_name(names[place(form, k)], s) {

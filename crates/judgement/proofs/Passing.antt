@@ -44,15 +44,20 @@ passing-start form s at sound store h =
 
 module _ {form : Form} {s at keys rest : List ℕ} {n : ℕ} {sound : Judgement} {before store : List ℕ}
     (p : Passing form s at keys rest n sound before store) where
-  -- there is a place for each key
+  -- there is a line left
+  left : 0 < length rest → n < length (linesOf s)
+  left some = omega (arith, length-drop n (linesOf s), ap length (p .lines), ap length (lines-next rest some))
+
+  -- there is a place for its key
   pub passing-room : 0 < length rest → n < mostLines
-  passing-room some = omega (arith, p .most, length-drop n (linesOf s), ap length (p .lines), ap length (lines-next rest some))
+  passing-room some = omega (arith, p .most, left some)
 
   -- and for its values, in parts of w numbers
-  pub passing-store : {w : ℕ} → w ≡ length form → length form * mostLines ≤ length before → 0 < length rest → w * n + w ≤ length store
-  passing-store {w} e room some =
-      let l : w * n + w ≤ w * mostLines = omega (arith, mul-le-mul-left w (passing-room some)) in
-      omega (arith, p .size, ap (λ (k : ℕ). k * mostLines) e)
+  pub passing-store : {w k : ℕ} → w ≡ length form → k ≡ length (linesOf s) → length form * k ≤ length before → 0 < length rest
+      → w * n + w ≤ length store
+  passing-store {w} {k} e count room some =
+      let l : w * n + w ≤ w * k = omega (arith, mul-le-mul-left w (rw (← count) at (left some))) in
+      omega (arith, p .size, ap (λ (m : ℕ). m * k) e)
 
   pub passing-end : length rest ≤ 0 → LinesRead form at (linesOf s) sound before store sound
   unfolding linesJudgement

@@ -1,7 +1,7 @@
 -- The whole sheet: its text, its header, its value lines.
-use Prim.Native.Nat.{ℕ, _+_, _-_, _≤_, _<_}
-use mathlib.Core.{Path.{_≡_, refl, _∙_}, Bool.{Bool, true, false, not, _||_}, Logic.{_⊎_, inl, inr}, List.{List}}
-use native.Mathlib.Omega.{arith}
+use Prim.Native.Nat.{ℕ, _+_, _-_, _*_, _≤_, _<_}
+use mathlib.Core.{Path.{_≡_, refl, ap, _∙_}, Bool.{Bool, true, false, not, _||_}, Logic.{_⊎_, inl, inr}, List.{List}}
+use native.Mathlib.{Omega.{arith}, Nat.{le-trans, mul-le-mul-left}}
 use lib.{ListN.{length, getD, take, drop}, Dec.{eqb, ltb}}
 use borrow.Author.Tests.{eq-eqb, ne-eqb, lt-ltb, le-ltb, eqb-true, eqb-false, ltb-true, ltb-false, not-true, not-false}
 use Rattle.text.{specs.{Text.{indexOf, linesOf, fieldsOf}, Parts.{Skipped}}, proofs.{Clash.{clash}, Lines.{lines-next}}}
@@ -11,7 +11,7 @@ use Rattle.judgement.specs.declared.Judgement.{Judgement, the-variants.{
 use Rattle.judgement.specs.Limits.{Limits, today, mostBytes, mostLines}
 use Rattle.judgement.specs.Refusal.{textRefused, nameRefused, noLineRefused, manyLinesRefused}
 use Rattle.judgement.specs.Sheet.{names, valueLines, badText, valuesJudgement, namesJudgement, judgementWithin, judgement}
-use Rattle.judgement.specs.{Read.{LinesRead, ValuesRead, Read}, Accepted.{RightText}}
+use Rattle.judgement.specs.{Read.{Room, LinesRead, ValuesRead, Read}, Accepted.{RightText}}
 use Rattle.header.specs.{Header.{columnsOf}, Parts.{Header}}
 
 -- ---- the text
@@ -86,6 +86,17 @@ pub values-are : (s : List ℕ) (e r : ℕ) → badText today s ≡ false → e 
     → valueLines s ≡ linesOf (take (length s - r) (drop r s))
 unfolding valueLines
 values-are s e r b ends k = rw (line-turn s e r (text-some s b) ends k)
+
+-- a store for the most value lines has room for those of any sheet
+pub most-room : {form : Form} {lines : List (List ℕ)} (store : List ℕ) → length form * mostLines ≤ length store → Room form lines store
+most-room {form} store h = record { enough = λ f m. le-trans (mul-le-mul-left (length form) m) h }
+
+-- room for all lines is room for the value lines
+pub room-left : {form : Form} {store : List ℕ} (s : List ℕ) (e : ℕ) {r : ℕ} → badText today s ≡ false → e ≡ indexOf 10 s
+    → Skipped e (length s) r → Room form (linesOf s) store → Room form (linesOf (take (length s - r) (drop r s))) store
+room-left s e {r} b ends k room =
+    let l = ap length (line-turn s e r (text-some s b) ends k) in
+    record { enough = λ h m. room .enough (omega (arith, l)) m }
 
 module _ {form : Form} (s : List ℕ) {at order : List ℕ} {c : ℕ} (e : ℕ) (b : badText today s ≡ false) (ends : e ≡ indexOf 10 s)
     (h : Header form (take e s) c at order) where

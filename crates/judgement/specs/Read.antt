@@ -1,5 +1,5 @@
 -- What reading a sheet promises: its judgement, and where it counts value lines, their values in a store.
-use Prim.Native.Nat.{ℕ, _<_}
+use Prim.Native.Nat.{ℕ, _*_, _≤_, _<_}
 use mathlib.Core.{Path.{_≡_}, List.{List, []}}
 use lib.ListN.{length, getD}
 use Rattle.text.specs.Text.{fieldsOf}
@@ -8,12 +8,16 @@ use Rattle.case.specs.Columns.{Form}
 use Rattle.header.specs.Header.{columnsOf}
 use Rattle.line.specs.Line.{lineValues}
 use Rattle.line_finding.specs.{declared.LineFinding.{LineFinding}, Parts.{Checks}}
-use Rattle.judgement.specs.{declared.Judgement.{Judgement, the-variants.{Lines}}, Limits.{today}}
+use Rattle.judgement.specs.{declared.Judgement.{Judgement, the-variants.{Lines}}, Limits.{today, mostLines}}
 use Rattle.judgement.specs.Sheet.{names, valueLines, linesJudgement, valuesJudgement, judgement}
 
 -- the values of some lines stand one after the other in a store, each line's in the order of the form
 abbrev pub Stored : Form → List ℕ → List (List ℕ) → List ℕ → Type 0
 Stored form at lines store = (i : ℕ) → i < length lines → partAt (length form) store i ≡ lineValues at (fieldsOf (getD lines i []))
+
+-- a store has room for the values of some lines, or of the most that a sheet may have
+pub record Room (form : Form) (lines : List (List ℕ)) (store : List ℕ) : Type 0 where
+  pub enough : {n : ℕ} → n ≤ length lines → n ≤ mostLines → length form * n ≤ length store
 
 -- what the checks of a line find, with its values as part n of a store
 pub record LineStored (form : Form) (at : List ℕ) (earlier : List (List ℕ)) (line : List ℕ) (n : ℕ) (before after : List ℕ)

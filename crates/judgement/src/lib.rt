@@ -11,7 +11,7 @@ ghost use Rattle.case.specs.Parts.{formOf};
 ghost use Rattle.header.specs.Header.{noColumns};
 ghost use Rattle.judgement.specs.Limits.{today, mostLines};
 ghost use Rattle.judgement.specs.Sheet.{badText};
-ghost use Rattle.judgement.specs.Read.{ValuesRead, Read};
+ghost use Rattle.judgement.specs.Read.{Room, ValuesRead, Read};
 use case::FORMER_NAMES;
 use case::Form;
 use case::NAMES;
@@ -71,7 +71,7 @@ fn judge_values<'a>(
 ) -> Judgement
     requires { ⌜ Placed (length (formOf form)) (now at) ⌝ }
     requires { ⌜ Ordered (length (formOf form)) (now at) (now order) ⌝ }
-    requires { ⌜ length (formOf form) * mostLines ≤ length (now values) ⌝ }
+    requires { ⌜ Room (formOf form) (linesOf (now s)) (now values) ⌝ }
     ensures { λ r. ⌜ ValuesRead (formOf form) (now (at .entry)) (linesOf (now (s .entry))) (now (values .entry)) (now (values .exit)) r ⌝ }
 {
     let n = count_lines(s);
@@ -94,7 +94,7 @@ fn read_by(
 ) -> Judgement
     requires { ⌜ now at ≡ noColumns (formOf form) ⌝ }
     requires { ⌜ length (now order) ≡ length (formOf form) ⌝ }
-    requires { ⌜ length (formOf form) * mostLines ≤ length (now values) ⌝ }
+    requires { ⌜ Room (formOf form) (linesOf (now s)) (now values) ⌝ }
     ensures { λ r. ⌜ Read (formOf form) (now (s .entry)) (now (values .entry)) (now (values .exit)) r ⌝ }
 {
     if bad_text(s) {
@@ -109,9 +109,10 @@ fn read_by(
     judge_values(form, &s[next..], at, order, values)
 }
 
-// The judgement of a sheet of a form, and its values in the store, line after line in the order of the names.
-pub fn read(form: Form, s: &[u8], values: &mut [u32]) -> Judgement
-    requires { ⌜ length (formOf form) * mostLines ≤ length (now values) ⌝ }
+// The judgement of a sheet of a form, and its values in the store, line after line in the order of the names. The store has room for the
+// lines that the sheet has.
+pub fn read_within(form: Form, s: &[u8], values: &mut [u32]) -> Judgement
+    requires { ⌜ Room (formOf form) (linesOf (now s)) (now values) ⌝ }
     ensures { λ r. ⌜ Read (formOf form) (now (s .entry)) (now (values .entry)) (now (values .exit)) r ⌝ }
 {
     match form {
@@ -126,4 +127,12 @@ pub fn read(form: Form, s: &[u8], values: &mut [u32]) -> Judgement
             read_by(form, s, &mut at, &mut order, values)
         }
     }
+}
+
+// The same with a store for the most value lines.
+pub fn read(form: Form, s: &[u8], values: &mut [u32]) -> Judgement
+    requires { ⌜ length (formOf form) * mostLines ≤ length (now values) ⌝ }
+    ensures { λ r. ⌜ Read (formOf form) (now (s .entry)) (now (values .entry)) (now (values .exit)) r ⌝ }
+{
+    read_within(form, s, values)
 }

@@ -9,7 +9,7 @@ ghost use Rattle.case.specs.Parts.{formOf};
 ghost use Rattle.judgement.specs.Limits.{mostLines};
 ghost use Rattle.judgement.specs.Refusal.{lineJudgement};
 ghost use Rattle.judgement.specs.Read.{LineStored};
-ghost use Rattle.line_finding.specs.Parts.{keysOf};
+ghost use Rattle.line_finding.specs.Parts.{keysOf, AtMost};
 ghost use Rattle.judgement.specs.Read.{LinesRead};
 use crate::Judgement;
 use crate::LINES;
@@ -19,6 +19,7 @@ use case::VALUE_OUT_OF_RANGE;
 use case::VALUES_DISAGREE;
 use line_finding::LineFinding;
 use line_finding::check_line;
+use line_finding::greater;
 use line_finding::key;
 use text::find;
 use text::skip;
@@ -47,11 +48,13 @@ fn store_line<'a>(
     order: &'a [usize],
     keys: &'a [u32],
     n: usize,
+    most: u32,
     values: &mut [u32],
 ) -> LineFinding
     requires { ⌜ Placed (length (formOf form)) (now at) ⌝ }
     requires { ⌜ Ordered (length (formOf form)) (now at) (now order) ⌝ }
     requires { ⌜ n ≤ length (now keys) ⌝ }
+    requires { ⌜ AtMost (now keys) n most ⌝ }
     requires { ⌜ length (formOf form) * n + length (formOf form) ≤ length (now values) ⌝ }
     ensures { λ r. ⌜ LineStored (formOf form) (now (at .entry)) (keysOf (now (keys .entry)) n) (now (line .entry)) n (now (values .entry))
         (now (values .exit)) r ⌝ }
@@ -59,7 +62,7 @@ fn store_line<'a>(
     let k = at.len();
     let a = k * n;
     let b = a + k;
-    check_line(form, line, at, order, keys, n, &mut values[a..b])
+    check_line(form, line, at, order, keys, n, most, &mut values[a..b])
 }
 
 // Line by line; s holds the value lines, of which there are count, and their values go into the store.
@@ -75,23 +78,26 @@ pub fn check_lines<'a>(
     requires { ⌜ Ordered (length (formOf form)) (now at) (now order) ⌝ }
     requires { ⌜ count ≡ length (linesOf (now s)) ⌝ }
     requires { ⌜ count ≤ mostLines ⌝ }
-    requires { ⌜ length (formOf form) * mostLines ≤ length (now values) ⌝ }
+    requires { ⌜ length (formOf form) * count ≤ length (now values) ⌝ }
     ensures { λ r. ⌜ LinesRead (formOf form) (now (at .entry)) (linesOf (now (s .entry))) (Judgement.Lines count) (now (values .entry))
         (now (values .exit)) r ⌝ }
 {
-    let k = at.len();
+    let width = at.len();
     let mut keys = [0u32; LINES];
+    let mut most: u32 = 0;
     let mut rest = s;
     let mut n: usize = 0;
     while 0 < rest.len() {
         let e = find(rest, 10);
-        let f = store_line(form, &rest[..e], at, order, &keys, n, values);
+        let f = store_line(form, &rest[..e], at, order, &keys, n, most, values);
         let j = refusal(n + 2, f);
         if let Judgement::Refused(number, line, column) = j {
             return Judgement::Refused(number, line, column);
         }
-        let a = k * n;
-        keys[n] = key(values[a], values[a + 1]);
+        let a = width * n;
+        let k = key(values[a], values[a + 1]);
+        keys[n] = k;
+        most = greater(most, k);
         n += 1;
         let next = skip(e, rest.len());
         rest = &rest[next..];

@@ -10,7 +10,7 @@ use Rattle.case.specs.declared.Form.{Form as CodeForm, the-variants.{Present, F
 use Rattle.case.specs.{Columns.{Form, columns, formerColumns, nameIndex, named, inRange}, Check.{outOfRange, disagreement, finding}}
 use Rattle.case.{specs.{Bounds.{Placed}, Parts.{formOf, rangeAt}}, proofs.Ranges.{in-range, in-range-at, some-columns}}
 use Rattle.case.specs.declared.Finding.the-variants as found
-use Rattle.line_finding.specs.{Findings.{sameKey, repeats, lineFinding}, Parts.{keyOf, Keyable, packed, keysOf, seenIn}}
+use Rattle.line_finding.specs.{Findings.{sameKey, repeats, lineFinding}, Parts.{keyOf, Keyable, packed, keysOf, seenIn, AtMost}}
 
 -- a form whose first two names are station and season
 pub record Keyed (form : Form) : Type 0 where
@@ -47,6 +47,25 @@ seeking-step {found = found} a h = record { within = omega arith; is = or-comm f
 
 pub seeking-end : {key : ℕ} {keys : List ℕ} {n : ℕ} {found : Bool} {j : ℕ} → Seeking key keys n found j → n ≤ j → found ≡ seenIn key keys n
 seeking-end {n = n} {j = j} a h = let e : j ≡ n = omega (arith, a .within) in rw e at (a .is)
+
+-- a number above them all is none of them
+pub not-seen : {key most : ℕ} {keys : List ℕ} (n : ℕ) → AtMost keys n most → most < key → seenIn key keys n ≡ false
+unfolding seenIn
+not-seen zero a h = refl
+not-seen {key} {keys = keys} (suc n) a h =
+    rw (
+      ne-eqb key (getD keys n 0) (λ e. omega (arith, e, a .above n (omega arith))),
+      not-seen n (record { above = λ j l. a .above j (omega arith) }) h,
+    )
+
+-- one key more
+pub at-most-more : {keys : List ℕ} {n most k m : ℕ} → n < length keys → AtMost keys n most → most ≤ m → k ≤ m
+    → AtMost (set keys n k) (n + 1) m
+at-most-more {keys} {n} {most} {k} {m} room a h l = record { above = λ j s. go j s (ℕ-discrete j n) }
+  where
+    go : (j : ℕ) → j < n + 1 → Dec (j ≡ n) → getD (set keys n k) j 0 ≤ m
+    go j s (yes e) = rw (e, getD-set-same keys n k 0 room) l
+    go j s (no e) = rw (getD-set-other keys n j k 0 e) (omega (arith, a .above j (omega arith)))
 
 -- two keys are one number where stations and seasons agree
 key-same : (a b k : ℕ) → b < 8 → eqb (packed a b) k ≡ (eqb a (k / 8) && eqb b (k % 8))

@@ -1,5 +1,5 @@
 -- What the checks of a value line promise.
-use Prim.Native.Nat.{ℕ, zero, suc, _+_, _*_, _/_, _%_, _^_, _<_}
+use Prim.Native.Nat.{ℕ, zero, suc, _+_, _*_, _/_, _%_, _^_, _≤_, _<_}
 use mathlib.Core.{Path.{_≡_}, Bool.{Bool, false, _||_}, List.{List, [], _∷_}}
 use lib.{Dec.{eqb}, ListN.{length, getD}}
 use Rattle.text.specs.Text.{fieldsOf}
@@ -29,6 +29,10 @@ keysOf keys (suc n) = keyOf (getD keys n 0 / 8) (getD keys n 0 % 8) ∷ keysOf k
 unfoldable pub seenIn : ℕ → List ℕ → ℕ → Bool
 seenIn key keys zero = false
 seenIn key keys (suc n) = eqb key (getD keys n 0) || seenIn key keys n
+
+-- no number of the first n of an array is above `most`
+pub record AtMost (keys : List ℕ) (n most : ℕ) : Type 0 where
+  pub above : (j : ℕ) → j < n → getD keys j 0 ≤ most
 
 -- what the checks of a line find, after the values of earlier lines, and its values in the order of the names
 pub record Checks (form : Form) (at : List ℕ) (earlier : List (List ℕ)) (line : List ℕ) (found : LineFinding) (row : List ℕ) : Type 0 where

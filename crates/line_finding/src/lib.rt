@@ -8,7 +8,7 @@ ghost use Rattle.case.specs.Bounds.{Placed};
 ghost use Rattle.case.specs.Order.{Ordered};
 ghost use Rattle.case.specs.Parts.{formOf};
 ghost use Rattle.line_finding.specs.Findings.{orFinding};
-ghost use Rattle.line_finding.specs.Parts.{Keyable, packed, keysOf, seenIn, Checks};
+ghost use Rattle.line_finding.specs.Parts.{Keyable, packed, keysOf, seenIn, AtMost, Checks};
 use case::Finding;
 use case::Form;
 use case::check_values;
@@ -31,11 +31,16 @@ pub fn key(station: u32, season: u32) -> u32
     station * 8 + season
 }
 
-// Whether a key is among the first n of a list. It does not stop at the first, so that several are compared at once.
-fn seen(keys: &[u32], n: usize, key: u32) -> bool
+// Whether a key is among the first n of a list, none of which is above `most`: where lines stand in the order of their stations none is
+// looked through. The search does not stop at the first, so that several are compared at once.
+fn seen(keys: &[u32], n: usize, most: u32, key: u32) -> bool
     requires { ⌜ n ≤ length (now keys) ⌝ }
+    requires { ⌜ AtMost (now keys) n most ⌝ }
     ensures { λ r. ⌜ r ≡ seenIn key (now (keys .entry)) n ⌝ }
 {
+    if most < key {
+        return false;
+    }
     let mut found = false;
     let mut j: usize = 0;
     while j < n {
@@ -46,17 +51,27 @@ fn seen(keys: &[u32], n: usize, key: u32) -> bool
     found
 }
 
-// Refusals 5, 6 and 7 of a line's values; the list holds the keys of the n lines before.
+// The greater of two keys.
+pub fn greater(a: u32, b: u32) -> u32
+    ensures { λ r. ⌜ (a ≤ r) × (b ≤ r) ⌝ }
+{
+    if a <= b { b } else { a }
+}
+
+// Refusals 5, 6 and 7 of a line's values; the list holds the keys of the n lines before, none of which is above
+// `most`.
 fn values_finding<'a>(
     form: Form,
     at: &'a [usize],
     v: &'a [u32],
     keys: &'a [u32],
     n: usize,
+    most: u32,
 ) -> LineFinding
     requires { ⌜ Placed (length (formOf form)) (now at) ⌝ }
     requires { ⌜ length (now v) ≡ length (formOf form) ⌝ }
     requires { ⌜ n ≤ length (now keys) ⌝ }
+    requires { ⌜ AtMost (now keys) n most ⌝ }
     ensures { λ r. ⌜ r ≡ orFinding (finding (formOf form) (now (at .entry)) (now (v .entry)))
         (cond (seenIn (packed (getD (now (v .entry)) 0 0) (getD (now (v .entry)) 1 0)) (now (keys .entry)) n)
         LineFinding.Repeated LineFinding.Sound) ⌝ }
@@ -66,7 +81,7 @@ fn values_finding<'a>(
         Finding::Disagreement(column) => LineFinding::Disagreement(column),
         Finding::Sound => {
             let k = key(v[0], v[1]);
-            if seen(keys, n, k) {
+            if seen(keys, n, most, k) {
                 LineFinding::Repeated
             } else {
                 LineFinding::Sound
@@ -83,11 +98,13 @@ pub fn check_line<'a>(
     order: &'a [usize],
     keys: &'a [u32],
     n: usize,
+    most: u32,
     row: &mut [u32],
 ) -> LineFinding
     requires { ⌜ Placed (length (formOf form)) (now at) ⌝ }
     requires { ⌜ Ordered (length (formOf form)) (now at) (now order) ⌝ }
     requires { ⌜ n ≤ length (now keys) ⌝ }
+    requires { ⌜ AtMost (now keys) n most ⌝ }
     requires { ⌜ length (now row) ≡ length (formOf form) ⌝ }
     ensures { λ r. ⌜ Checks (formOf form) (now (at .entry)) (keysOf (now (keys .entry)) n) (now (line .entry)) r (now (row .exit)) ⌝ }
 {
@@ -95,5 +112,5 @@ pub fn check_line<'a>(
     if column != 0 {
         return LineFinding::Form(column);
     }
-    values_finding(form, at, row, keys, n)
+    values_finding(form, at, row, keys, n, most)
 }

@@ -2,10 +2,12 @@
 use Prim.Native.Nat.{ℕ, _*_, _≤_}
 use mathlib.Core.{Path.{_≡_, sym, _∙_}, List.{List}}
 use native.Mathlib.Omega.{arith}
-use lib.ListN.{length}
-use Rattle.case.specs.{declared.Form.the-variants.{Present}, Columns.{columns, nameCount}, Parts.{formOf}}
-use Rattle.judgement.specs.{declared.Judgement.{Judgement, the-variants.{Lines}}, Limits.{mostLines}, Sheet.{judgement}, Read.{Read}}
-use Rattle.judgement.proofs.Accepted.{accepted}
+use lib.ListN.{length, length-drop}
+use Rattle.text.specs.Text.{linesOf}
+use Rattle.case.specs.{declared.Form.the-variants.{Present}, Columns.{columns, nameCount, name-count}, Parts.{formOf}}
+use Rattle.judgement.specs.{declared.Judgement.{Judgement, the-variants.{Lines}}, Limits.{mostLines}}
+use Rattle.judgement.specs.{Sheet.{valueLines, judgement}, Read.{Room, Read}}
+use Rattle.judgement.proofs.{Accepted.{accepted}, Whole.{most-room}}
 use Rattle.table_rows.specs.Rows.{storedCases, StoredBounds}
 use Rattle.sheet.specs.Answer.{cases}
 use Rattle.sheet.proofs.StoredCases.{stored-cases, stored-bounds}
@@ -22,14 +24,23 @@ module _ {s before after : List ℕ} {r : Judgement} (read : Read (formOf Presen
   unfolding formOf
   judged-is = read .answer-is
 
-  -- in a store for the most value lines
-  pub stored-lines : {n : ℕ} → length before ≡ nameCount * mostLines → r ≡ Lines n → StoredLines s n after
-  unfolding formOf
-  stored-lines {n} h e =
+  -- in a store with room for the lines of the sheet
+  pub stored-within : {n : ℕ} → Room (formOf Present) (linesOf s) before → r ≡ Lines n → StoredLines s n after
+  unfolding formOf valueLines
+  stored-within {n} h e =
       let a = accepted columns s n (sym judged-is ∙ e) in
+      let few : n ≤ length (linesOf s) = omega (arith, a .count, length-drop 1 (linesOf s)) in
+      let fits : length columns * n ≤ length before = h .enough few (a .most) in
       record {
         most = a .most;
-        room = omega (arith, read .size, h, a .most);
+        room = omega (arith, read .size, rw name-count at fits);
         bounds = stored-bounds after a (read .stored n e);
         cases-are = stored-cases after a (read .stored n e);
       }
+
+  -- in a store for the most value lines
+  pub stored-lines : {n : ℕ} → length before ≡ nameCount * mostLines → r ≡ Lines n → StoredLines s n after
+  unfolding formOf
+  stored-lines h e =
+      let room : length columns * mostLines ≤ length before = omega (arith, name-count, h) in
+      stored-within (most-room before room) e

@@ -57,6 +57,9 @@ columns-all l = ap length (start l .pre .0) ∙ no-columns-count _
 slice-aggregate-name-of : tie.Need-slice-aggregate-name-of Inv-loop μ-loop
 slice-aggregate-name-of c = part-length 44 _ _ (c .before .find .ensures)
 
+sub-name-of : tie.Need-sub-name-of Inv-loop μ-loop
+sub-name-of c = c .before .loop .inv .header .first
+
 -- the lengths of both tables stay
 at-kept : (l : tie.At-loop Inv-loop μ-loop) → length (l .loop .at) ≡ length (start l .args .at .now)
 at-kept l = l .loop .inv .header .count ∙ sym (columns-all l)
@@ -181,7 +184,8 @@ returns-4 c = header-end (stepped (c .before)) (named (c .before .before)) (omeg
 
 pub read-header-spec : {M : Type 1} → statement M
 read-header-spec =
-    tie.close (tie.spec Inv-loop μ-loop loop-holds (λ c κs. search needs) slice-aggregate-name-of (λ c κs. search needs) (λ c. search needs)
-    (λ c. search needs) same-length same-length-2 returns mul-if1 slice-read-if1 same-length-3 same-length-4 returns-2 mul-at slice-write-at
-    sub-order mul-order slice-write-order add-c (λ c. search needs) (λ c. search needs) (λ c. search needs) (λ c. search needs)
-    (λ c. search needs) loop-again same-length-5 same-length-6 returns-3 same-length-7 same-length-8 returns-4)
+    tie.close (tie.spec Inv-loop μ-loop loop-holds (λ c κs. search needs) sub-name-of slice-aggregate-name-of (λ c κs. search needs)
+    (λ c. search needs) (λ c. search needs) same-length same-length-2 returns mul-if1 slice-read-if1 same-length-3 same-length-4
+    returns-2 mul-at slice-write-at sub-order mul-order slice-write-order add-c (λ c. search needs) (λ c. search needs)
+    (λ c. search needs) (λ c. search needs) (λ c. search needs) loop-again same-length-5 same-length-6 returns-3 same-length-7
+    same-length-8 returns-4)

@@ -1,4 +1,5 @@
 -- `judgement::judge_values` meets its contract, by the laws of proofs/Whole.antt.
+use native.Mathlib.Omega.{arith}
 use borrow.Author.Needs.{needs}
 use Rattle.judgement.proofs.{Whole.{values-none, values-many, values-some}, judge_values.Statement.{statement}}
 use Rattle.judgement.proofs.judge_values.Tie as tie
@@ -14,7 +15,7 @@ check-lines-requires c κs =
     let e = c .before in
     let n = e .before .before in
     let p = n .before .before .before .before .before .pre in
-    (p .0, (p .1 .0, (n .count-lines .ensures, (e .if2 .left, p .1 .1))))
+    (p .0, (p .1 .0, (n .count-lines .ensures, (e .if2 .left, p .1 .1 .enough (omega (arith, n .count-lines .ensures)) (e .if2 .left)))))
 
 same-length : tie.Need-same-length
 same-length c = c .before .before .check-lines .ensures .size

@@ -6,7 +6,7 @@ use Rattle.text.proofs.FieldTurns.{part-length}
 use Rattle.case.specs.Parts.{formOf}
 use Rattle.header.proofs.HeaderReading.{no-columns-count}
 use Rattle.judgement.specs.{Limits.{today}, Sheet.{badText}}
-use Rattle.judgement.proofs.{Whole.{read-text, read-names, read-values}, read_by.Statement.{statement}}
+use Rattle.judgement.proofs.{Whole.{read-text, read-names, read-values, room-left}, read_by.Statement.{statement}}
 use Rattle.judgement.proofs.read_by.Tie as tie
 
 returns : tie.Need-returns
@@ -42,9 +42,15 @@ returns-2 c =
 
 judge-values-requires : tie.Need-judge-values-requires
 judge-values-requires c κs =
-    let e = c .before .before .before .before .before in
-    let h = e .before .before .before .before .before in
-    (h .read-header .ensures .placed (e .if2 .left), (h .read-header .ensures .ordered (e .if2 .left), start h .pre .1 .1))
+    let k = c .before .before .before .before in
+    let e = k .before in
+    let h = e .before .before .before .before .before in (
+      h .read-header .ensures .placed (e .if2 .left),
+      (
+        h .read-header .ensures .ordered (e .if2 .left),
+        room-left _ _ (text h) (h .before .before .before .before .find .ensures) (k .skip .ensures) (start h .pre .1 .1),
+      ),
+    )
 
 -- the line of names before the values were judged
 abbrev named : tie.After-judge-values → tie.After-read-header

@@ -7,7 +7,7 @@ use Rattle.line_finding.proofs.check_line.Statement.{statement}
 use Rattle.line_finding.proofs.check_line.Tie as tie
 
 read-values-requires : tie.Need-read-values-requires
-read-values-requires c κs = let s = c .before .before .before .before .before .before in rw (s .pre .1 .1 .1) (distinct (s .pre .1 .0))
+read-values-requires c κs = let s = c .before .before .before .before .before .before in rw (s .pre .1 .1 .1 .1) (distinct (s .pre .1 .0))
 
 -- the line that was read, as a line of the form
 abbrev start : tie.After-read-values → tie.Start
@@ -16,7 +16,7 @@ start v = v .before .before .before .before .before .before .before
 line-values : (v : tie.After-read-values)
     → LineValues (length (formOf (start v .args .form))) (start v .args .order .now) (start v .args .line .now) (v .read-values .result)
     (v .read-values .last .1 .1 .0)
-line-values v = rw (start v .pre .1 .1 .1) at (v .read-values .ensures)
+line-values v = rw (start v .pre .1 .1 .1 .1) at (v .read-values .ensures)
 
 same-length : tie.Need-same-length
 same-length c = c .before .before .before .read-values .ensures .count
@@ -27,7 +27,7 @@ returns c = judged-form _ (line-values (c .before .before .before)) _ (c .if1 .t
 values-finding-requires : tie.Need-values-finding-requires
 values-finding-requires c κs =
     let v = c .before .before .before .before in
-    (start v .pre .0, (line-values v .count, start v .pre .1 .1 .0))
+    (start v .pre .0, (line-values v .count, (start v .pre .1 .1 .0, start v .pre .1 .1 .1 .0)))
 
 same-length-2 : tie.Need-same-length-2
 same-length-2 c = c .before .before .before .before .before .read-values .ensures .count

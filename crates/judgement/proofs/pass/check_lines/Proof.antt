@@ -6,7 +6,7 @@ use borrow.Author.Needs.{needs}
 use lib.ListN.{length}
 use Rattle.text.proofs.{FieldTurns.{part-length}, LineTurns.{line-shorter}}
 use Rattle.case.{specs.Parts.{formOf}, proofs.Findings.{rods-place}}
-use Rattle.line_finding.proofs.Keys.{form-keyed}
+use Rattle.line_finding.{specs.Parts.{AtMost}, proofs.Keys.{form-keyed, at-most-more}}
 use Rattle.judgement.specs.{declared.Judgement.the-variants.{Lines}, Limits.{mostLines}}
 use Rattle.judgement.proofs.LineJudged.{sound-line}
 use Rattle.judgement.proofs.Passing.{Passing, passing-start, passing-room, passing-store, stored-value, stored-first}
@@ -14,14 +14,14 @@ use Rattle.judgement.proofs.{Passing.{passing-refused, passing-step, pa
 use Rattle.judgement.proofs.pass.check_lines.Tie as tie
 
 abbrev Inv-loop : tie.InvT-loop
-Inv-loop form s at order count values₀ k keys₀ rest₀ n₀ values keys rest n =
-    Passing (formOf form) s at keys rest n (Lines count) values₀ values
+Inv-loop form s at order count values₀ width keys₀ most₀ rest₀ n₀ values keys most rest n =
+    Passing (formOf form) s at keys rest n (Lines count) values₀ values × AtMost keys n most
 
 abbrev μ-loop : tie.MeasureT-loop
-μ-loop form s at order count values₀ k keys₀ rest₀ n₀ values keys rest n = length rest
+μ-loop form s at order count values₀ width keys₀ most₀ rest₀ n₀ values keys most rest n = length rest
 
 loop-holds : tie.Need-loop-holds Inv-loop μ-loop
-loop-holds c = passing-start _ _ _ _ _ (search needs)
+loop-holds c = (passing-start _ _ _ _ _ (search needs), record { above = λ j l. absurd (omega arith) })
 
 slice-aggregate-store-line : tie.Need-slice-aggregate-store-line Inv-loop μ-loop
 slice-aggregate-store-line c = part-length 10 _ _ (c .before .find .ensures)
@@ -31,14 +31,22 @@ start c = c .before .before .before .before .before .before
 
 -- there is a place for the line's key and for its values
 room : (c : tie.In-loop Inv-loop μ-loop) → c .before .loop .n < mostLines
-room c = passing-room (c .before .loop .inv) (c .loop-test .taken)
+room c = passing-room (c .before .loop .inv .0) (c .loop-test .taken)
 
 store-line-requires : tie.Need-store-line-requires Inv-loop μ-loop
 store-line-requires c κs =
     let i = c .before .before .before .before in
     let p = start i .pre in
-    let a = i .before .loop .inv in
-    (p .0, (p .1 .0, (omega (arith, room i, a .keys-count), passing-store a refl (p .1 .1 .1 .1) (i .loop-test .taken))))
+    let a = i .before .loop .inv .0 in (
+      p .0,
+      (
+        p .1 .0,
+        (
+          omega (arith, room i, a .keys-count),
+          (i .before .loop .inv .1, passing-store a refl (p .1 .1 .0) (p .1 .1 .1 .1) (i .loop-test .taken)),
+        ),
+      ),
+    )
 
 add-refusal : tie.Need-add-refusal Inv-loop μ-loop
 add-refusal c = omega (arith, room (c .before .before .before .before .before .before .before))
@@ -46,14 +54,14 @@ add-refusal c = omega (arith, room (c .before .before .before .before .before .b
 same-length : tie.Need-same-length Inv-loop μ-loop
 same-length c =
     let l = c .before .before .before .before .before .before in
-    l .store-line .ensures .written .size ∙ l .before .before .before .before .before .before .loop .inv .size
+    l .store-line .ensures .written .size ∙ l .before .before .before .before .before .before .loop .inv .0 .size
 
 returns : tie.Need-returns Inv-loop μ-loop
 returns c =
     let r = c .before .before .before in
     let l = r .before .before .before in
     let i = l .before .before .before .before .before in
-    passing-refused _ (form-keyed (start i .args .form)) (i .before .loop .inv) (i .loop-test .taken)
+    passing-refused _ (form-keyed (start i .args .form)) (i .before .loop .inv .0) (i .loop-test .taken)
     (l .before .before .before .before .find .ensures) (l .store-line .ensures)
     (r .refusal .ensures) (c .before .j .given .1)
 
@@ -64,14 +72,14 @@ turn c = c .before .before .before .before .before .before .before .before .befo
 -- its values are within the store
 within : (c : tie.After-enum-told Inv-loop μ-loop)
     → length (start (turn c) .args .at .now) * turn c .before .loop .n + length (start (turn c) .args .at .now)
-    ≤ length (c .before .before .before .before .before .store-line .last .1 .1 .1 .1 .1 .1 .0)
+    ≤ length (c .before .before .before .before .before .store-line .last .1 .1 .1 .1 .1 .1 .1 .0)
 within c =
     let i = turn c in
     omega (
       arith,
       c .before .before .before .before .before .store-line .ensures .written .size,
-      passing-store (i .before .loop .inv)
-          (start i .pre .0 .count) (start i .pre .1 .1 .1 .1) (i .loop-test .taken),
+      passing-store (i .before .loop .inv .0)
+          (start i .pre .0 .count) (start i .pre .1 .1 .0) (start i .pre .1 .1 .1 .1) (i .loop-test .taken),
     )
 
 some : (c : tie.After-enum-told Inv-loop μ-loop) → 1 < length (start (turn c) .args .at .now)
@@ -112,37 +120,41 @@ array-write-keys : tie.Need-array-write-keys Inv-loop μ-loop
 array-write-keys c = room (turn (c .before .before .before))
 
 add-n : tie.Need-add-n Inv-loop μ-loop
-add-n c = omega (arith, room (turn (c .before .before .before)))
+add-n c = omega (arith, room (turn (c .before .before .before .before)))
 
 loop-less : tie.Need-loop-less Inv-loop μ-loop
 loop-less c =
-    let l = c .before .before .before .before .before .before .before .before .before .before in
+    let l = c .before .before .before .before .before .before .before .before .before .before .before in
     let f = l .before .before .before .before in
     line-shorter _ _ _ (f .before .loop-test .taken) (f .find .ensures) (c .before .skip .ensures)
 
 loop-again : tie.Need-loop-again Inv-loop μ-loop
 loop-again c =
-    let t = c .before .before .before .before .before in
+    let g = c .before .before in
+    let t = g .before .before .before .before in
     let r = t .before .before in
     let l = r .before .before .before in
     let f = l .before .before .before .before in
     let i = f .before in
     let j = l .store-line .ensures in
-    let p = start i .pre .0 .count in
-    rw (c .before .before .key .ensures)
-    (passing-step _ (form-keyed (start i .args .form)) (i .before .loop .inv) (i .loop-test .taken) (f .find .ensures) j
-    (r .refusal .ensures) _ (t .enum-told .given .1)
-    (stored-first j p (omega (arith, some t))) (stored-value 1 j p (some t)) (c .before .skip .ensures))
+    let p = start i .pre .0 .count in (
+      rw (g .before .key .ensures)
+          (passing-step _ (form-keyed (start i .args .form)) (i .before .loop .inv .0) (i .loop-test .taken) (f .find .ensures) j
+          (r .refusal .ensures) _ (t .enum-told .given .1)
+          (stored-first j p (omega (arith, some t))) (stored-value 1 j p (some t)) (c .before .skip .ensures)),
+      at-most-more (omega (arith, room i, i .before .loop .inv .0 .keys-count)) (i .before .loop .inv .1) (g .greater .ensures .0)
+          (g .greater .ensures .1),
+    )
 
 same-length-2 : tie.Need-same-length-2 Inv-loop μ-loop
-same-length-2 c = c .before .loop .inv .size
+same-length-2 c = c .before .loop .inv .0 .size
 
 returns-2 : tie.Need-returns-2 Inv-loop μ-loop
-returns-2 c = passing-end (c .before .loop .inv) (c .loop-test .left)
+returns-2 c = passing-end (c .before .loop .inv .0) (c .loop-test .left)
 
 pub check-lines-spec : {M : Type 1} → statement M
 check-lines-spec =
-    tie.close (tie.spec Inv-loop μ-loop loop-holds (λ c κs. search needs) slice-aggregate-store-line (λ c. search needs) store-line-requires
-    add-refusal (λ c κs. search needs) (λ c. search needs) same-length returns (λ c. search needs) mul-a mul-key slice-read-key add-key
-    mul-key-2 slice-read-key-2 key-requires mul-keys array-write-keys add-n (λ c κs. search needs) (λ c. search needs) (λ c. search needs)
-    (λ c. search needs) loop-less loop-again same-length-2 returns-2)
+    tie.close (tie.spec Inv-loop μ-loop loop-holds (λ c κs. search needs) slice-aggregate-store-line (λ c. search needs)
+    store-line-requires add-refusal (λ c κs. search needs) (λ c. search needs) same-length returns (λ c. search needs) mul-a mul-key
+    slice-read-key add-key mul-key-2 slice-read-key-2 key-requires mul-keys array-write-keys (λ c κs. search needs) add-n
+    (λ c κs. search needs) (λ c. search needs) (λ c. search needs) (λ c. search needs) loop-less loop-again same-length-2 returns-2)

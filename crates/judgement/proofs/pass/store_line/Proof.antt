@@ -24,7 +24,7 @@ from s = width s * s .args .n
 
 -- there is room for as many numbers as there are columns
 room : (c : tie.After-slice-known) → from (start c) + width (start c) ≤ length (start c .args .values .now)
-room c = rw (start c .pre .0 .count) (start c .pre .1 .1 .1)
+room c = rw (start c .pre .0 .count) (start c .pre .1 .1 .1 .1)
 
 mul-a : tie.Need-mul-a
 mul-a c = omega (arith, room c)
@@ -42,14 +42,14 @@ check-line-requires : tie.Need-check-line-requires
 check-line-requires c κs =
     let k = c .before in
     let p = start k .pre in
-    (p .0, (p .1 .0, (p .1 .1 .0, mid-len _ _ (start k .args .values .now) (room k) ∙ omega (arith, p .0 .count))))
+    (p .0, (p .1 .0, (p .1 .1 .0, (p .1 .1 .1 .0, mid-len _ _ (start k .args .values .now) (room k) ∙ omega (arith, p .0 .count)))))
 
 -- the start of a checked line, and its values
 abbrev begun : tie.After-check-line → tie.Start
 begun v = start (v .before .before)
 
 abbrev row : tie.After-check-line → List ℕ
-row v = v .check-line .last .1 .1 .1 .1 .1 .1 .0
+row v = v .check-line .last .1 .1 .1 .1 .1 .1 .1 .0
 
 -- the line's values in their place
 stored : (v : tie.After-check-line)
