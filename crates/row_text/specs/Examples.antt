@@ -13,7 +13,7 @@ use Rattle.fields.specs.Listed.{listed}
 use Rattle.row_text.specs.{Verdict.{word, verdictNames, verdictFields}, Rows.{rowNames, rowFields}}
 use Rattle.row_text.specs.Margins.{marginNames, twoMargins, marginFields}
 
--- a row of station 7 with a season, a verdict and the size of document 01's sample, 17 since request (c) of document 02; its ends tell
+-- a row of station 7 with a season, a verdict and the size of document 01's sample, 17 since request (d) of document 02; its ends tell
 -- the columns apart
 abbrev pub sampleRow : ℕ → Verdict → Row
 sampleRow season verdict =

@@ -9,7 +9,7 @@ use Rattle.sheet.specs.declared.Answer.the-variants as sheet
 use Rattle.station_sums.specs.Summary.{stations, stationLength, summaryOf, filled}
 use Rattle.stations.specs.declared.Summed.{Summed, the-variants.{Summary, Refused}}
 
--- the rows of a sheet: those of the sheet's own question (`RowOf` in sheet/specs/Table.antt)
+-- the rows of a sheet: those of the sheet's own question
 abbrev pub sheetRows : List ℕ → List Row
 sheetRows s = map rowOf (cases s)
 

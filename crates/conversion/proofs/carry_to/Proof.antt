@@ -1,4 +1,5 @@
--- `carry_to` reads, looks for what the form cannot say, converts and writes: the laws of proofs/Answers.antt and SoundCases.antt.
+-- `carry_to` reads, looks for what the form cannot say, converts and writes: the laws of proofs/Answers.antt, and those of
+-- `carried_values` on sound cases.
 use Prim.Native.Nat.{ℕ, _*_, _≤_}
 use mathlib.Core.{Path.{_≡_, sym, ap, subst, _∙_}, Bool.{true}, List.{List, [], map}}
 use native.Mathlib.{Nat.{mul-le-mul-left, mul-le-mul-right}, Omega.{arith}}

@@ -1,4 +1,4 @@
--- `put_text` calls what writes the program's text: proofs/Texts.antt has the rows of a sheet after the names of the program.
+-- `put_text` calls what writes the program's text; the laws of `sheet_text` have the rows of a sheet after the names of the program.
 use borrow.Author.Needs.{needs}
 use Rattle.listing.specs.Programs.{programText}
 use Rattle.sheet_text.proofs.Texts.{verdict-shown, rows-shown, margins-shown}
