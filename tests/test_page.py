@@ -49,7 +49,7 @@ CUTS = [
      instead("(verdictAt table i ≡ pos 1) ↔ EndsBelow table i", "verdictAt table i ≡ pos 1 → EndsBelow table i")),
     ("a found yard need not be the first", SPECS + "Yards.antt", without("  pub first :")),
     ("none need not be none", SPECS + "Yards.antt", without("  pub none : (l j")),
-    ("a released station's wire may be too thin", SPECS + "Releases.antt", without("  pub wire :", "\n\n")),
+    ("a released station's wire may be too thin", SPECS + "Releases.antt", without("  pub own-wire :")),
     ("of two equal seasons either is the worst", SPECS + "Summary.antt", without("  pub earlier :")),
     ("a carried sheet in any order of names", SPECS + "Carried.antt", without("  pub order :")),
     ("bytes past the last row may change", SPECS + "Requests.antt", without("  pub rest-kept :")),

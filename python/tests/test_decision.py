@@ -5,7 +5,7 @@ import random
 import unittest
 
 from hocsimbur import core
-from hocsimbur.portfolio import asking, decision, licence
+from hocsimbur.portfolio import advice, asking, decision, licence, reasons
 from hocsimbur.sheets import layout
 from hocsimbur.core import Verdict
 from hocsimbur.portfolio.decision import Missing, OtherYard, SmallWire, Undecided, Unsafe
@@ -102,6 +102,41 @@ class Answers(unittest.TestCase):
     def test_wire_is_enough_at_the_least_fault_current(self):
         thin = [case(101, 1, dia=50, wire=3000, clear=9, xr=40, hz=50, fault=100, metal=metal) for metal in range(1, 12)]
         self.assertFalse(any(asking.small_wires(thin)))
+
+
+class OwnWires(unittest.TestCase):
+    """A stranded 4/0 wire, 13.4 mm and 211 kcmil, where 261 kcmil are needed, which a solid round of 13.4 mm would have."""
+
+    LINE = case(101, 1, station=7, season=1, split=1, dia=134, metal=1, wire=500, clear=500, xr=10)
+
+    @classmethod
+    def setUpClass(cls):
+        faults = range(40000, 60000, 25)
+        rows = core.rows(layout.text([dict(cls.LINE, station=number, fault=fault) for number, fault in enumerate(faults[:250], 1)]))
+        rows += core.rows(layout.text([dict(cls.LINE, station=number, fault=fault) for number, fault in enumerate(faults[250:500], 1)]))
+        rows += core.rows(layout.text([dict(cls.LINE, station=number, fault=fault) for number, fault in enumerate(faults[500:750], 1)]))
+        cls.fault = next(fault for fault, row in zip(faults, rows) if row.kcmil == 261)
+
+    def released_with(self, wire: str) -> decision.Station:
+        read = licence.read(f"station,name,seasons,wire\n7,A,1,{wire}\n".encode())
+        return decision.portfolio(layout.text([dict(self.LINE, fault=self.fault)]), read).stations[0]
+
+    def test_held_by_its_own_area(self):
+        held, solid, enough = self.released_with("4/0"), self.released_with(""), self.released_with("261 kcmil")
+        self.assertEqual((held.released, solid.released, enough.released), (False, True, True))
+        self.assertEqual(held.reasons, (SmallWire(decision.Size(261, 134, 211, False)),))
+        self.assertEqual(reasons.sentence(held).split(";")[0], "wire: 261 kcmil needed, the wire has 211")
+        self.assertEqual(solid.size, decision.Size(261, 134, 278))
+        self.assertTrue(reasons.stranded(solid))
+        self.assertEqual(reasons.stranded(enough), "")
+        self.assertEqual([one.words for one in advice.changes(held)], ["wire: 261 kcmil or more (now 211); give its size in the licence"])
+
+    def test_wire_is_enough_up_to_its_fault_current(self):
+        held, solid = self.released_with("4/0"), self.released_with("")
+        self.assertLess(held.wire_to, self.fault)
+        self.assertGreaterEqual(solid.wire_to, self.fault)
+        at = [asking.with_area(dict(self.LINE, fault=fault), 211) for fault in (held.wire_to, held.wire_to + 1)]
+        self.assertEqual(asking.small_wires(at), [False, True])
 
 
 class Licences(unittest.TestCase):
