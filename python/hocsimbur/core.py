@@ -199,7 +199,7 @@ def _slice(array: ctypes.Array) -> list:
 
 
 def _bytes(text: bytes) -> list:
-    return _slice((ctypes.c_uint8 * len(text)).from_buffer_copy(text)) if text else [None, ctypes.c_size_t(0)]
+    return _slice((ctypes.c_uint8 * len(text)).from_buffer_copy(text))
 
 
 def _array(kind: type, numbers: Sequence[int]) -> list:

@@ -203,6 +203,15 @@ class Words(unittest.TestCase):
         self.assertGreater(core.release(layout.text(less), [(118, 7)])[0].small_wire, 0)
         self.assertEqual({one["dia"] for one in changes_of(layout.text(less), 118, granted(118, (1, 2, 3)))[0].lines}, {179})
 
+    def test_the_thickest_wire(self):
+        """The thickest wire of the range is tried too, and one thinner is not enough for what needs it."""
+        thick = case(101, 1, dia=300, wire=3000, metal=11, soil=10, split=10)
+        row = core.rows(layout.text([thick]))
+        most = asking.wires_enough_to([thick], row)[0]
+        self.assertTrue(asking.small_wires([dict(thick, dia=299, fault=most)])[0])
+        found, = changes_of(layout.text([dict(thick, dia=100, fault=most)]), 101, granted(101, (1,)))
+        self.assertEqual({one["dia"] for one in found.lines}, {300})
+
     def test_no_wire_is_enough(self):
         sheet = layout.text([case(101, 1, fault=80000, wire=3000, metal=11, soil=10, split=10)])
         self.assertEqual([change.words for change in changes_of(sheet, 101, granted(101, (1,)))],

@@ -63,6 +63,7 @@ class Check(unittest.TestCase):
     def test_too_long_a_line(self):
         sheet = SAMPLE + b"1" * 70000 + b"\n"
         self.assertEqual(lines_told(sheet), [(1, 4, 0)])
+        self.assertEqual(checking.check(sheet)[0].said, "line 4: the line is too long for a sheet of 65536 bytes")
 
     def test_far_too_long_a_sheet(self):
         self.assertEqual(len(lines_told(HEAD + b"\n" + b"x\n" * 100000)), checking.MOST)

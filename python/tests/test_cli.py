@@ -52,6 +52,26 @@ class Help(unittest.TestCase):
 
     def test_version(self):
         self.assertEqual(run("--version"), run("version"))
+        self.assertEqual(run("version").out, f"hocsimbur {core.version()}, library {core.version()}\n")
+
+    def test_version_without_the_library(self):
+        done = process("--version", env={"HOCSIMBUR_LIBRARY": "no-such-library.so"})
+        self.assertEqual((done.status, done.out, done.err), (0, f"hocsimbur {core.version()}, no library found\n", ""))
+
+    def test_did_you_mean(self):
+        self.assertEqual(run("verdits", "tests/sample.csv"), (3, "", "hocsimbur: 'verdits' is no command; did you mean verdict?\n"
+                                                             "`hocsimbur --help` shows how it is used\n"))
+        self.assertEqual(run("REPORT").err.split("\n")[0], "hocsimbur: 'REPORT' is no command; did you mean report?")
+        self.assertEqual(run("xyzzy").err.split("\n")[0], "hocsimbur: 'xyzzy' is no command")
+
+    def test_a_pipe_without_a_dash(self):
+        done = run("verdict", stdin=SAMPLE)
+        self.assertEqual((done.status, done.err), (3, "hocsimbur verdict: the following arguments are required: FILE\nto read standard input, write - "
+                                                   "for the file\n`hocsimbur verdict --help` shows how it is used\n"))
+
+    def test_every_command_s_help_names_its_options(self):
+        self.assertIn("--gpr-limit VOLTAGE", run("margins", "--help").out)
+        self.assertIn("--round {cautious}", run("import", "--help").out)
 
     def test_values_with_a_minus_sign(self):
         done = run("staged", "--csv", "--injected", "-1000,0", "--branch", "-400,0", "--branch", "-1@-90")
@@ -126,6 +146,13 @@ class Statuses(unittest.TestCase):
         self.assertIn("only one is taken here", run("fewest", "examples/rods.csv", "--side", "60m").err)
         self.assertIn("no line for station 9", run("fewest", "examples/rods.csv", "--side", "60m", "--station", "9").err)
 
+    def test_the_ends_of_a_side(self):
+        """A side that the library can be asked about is asked about; the words tell who refused it."""
+        for side, said in (("0m", "examples/rods.csv: side: 0 m is not in 2.5..720 m\n"), ("-0.001m", "side: -0.001m is not in 2.5..720 m\n"),
+                           ("4294967.295m", "examples/rods.csv: side: 4,294,967.295 m is not in 2.5..720 m\n"),
+                           ("4294967.296m", "side: 4294967.296m is not in 2.5..720 m\n")):
+            self.assertEqual(run("fewest", "examples/rods.csv", "--station", "303", f"--side={side}").err, said)
+
     def test_report(self):
         with tempfile.TemporaryDirectory() as folder:
             page = pathlib.Path(folder) / "page.html"
@@ -153,6 +180,41 @@ class Statuses(unittest.TestCase):
     def test_next_of_no_station(self):
         done = run("next", "tests/sample.csv", "--station", "8")
         self.assertEqual(done, (1, "", "tests/sample.csv: station 8 has no line in the sheet, and the licence does not name it\n"))
+
+
+class Rises(unittest.TestCase):
+    """The option --gpr-limit marks and counts, and decides nothing."""
+
+    def test_margins(self):
+        rows = core.rows(SAMPLE)
+        limit = rows[1].rise.upper
+        done = run("margins", "tests/sample.csv", "--gpr-limit", f"{limit}mV")
+        self.assertEqual(done.out.split("\n"), [
+            "station  season  verdict   mesh V  touch limit V        margin  step V  step limit V        margin  potential rise V  of 1,358.674 V",
+            "      7       1  unsafe   1,027.9          840.5  22.3 % above   625.7       2,696.0  76.7 % below           5,434.7           above",
+            "      7       2  safe       257.0          809.9  68.2 % below   156.5       2,573.7  93.9 % below           1,358.7           below",
+            "1 line with a potential rise above 1,358.674 V; it decides nothing", ""])
+        done = run("margins", "tests/sample.csv", "--csv", "--gpr-limit", f"{limit - 1}mV")
+        self.assertEqual(done.out, "station,season,verdict,mesh_excess_per_mille,step_excess_per_mille,rise_upper_mV,rise_above_limit\n"
+                         f"7,1,unsafe,223,-767,{rows[0].rise.upper},1\n7,2,safe,-682,-939,{limit},1\n")
+        self.assertEqual(done.status, run("margins", "tests/sample.csv").status)
+
+    def test_release_and_report(self):
+        done = run("release", "tests/sample.csv", "--seasons", "1,2", "--gpr-limit", "5kV")
+        self.assertIn("\n  note: Potential rise above 5,000 V in season 1, up to 5,435 V; it decides nothing.\n", done.out)
+        self.assertTrue(done.out.endswith("1 line with a potential rise above 5,000 V; it decides nothing\n"))
+        page = run("report", "tests/sample.csv", "--gpr-limit", "5kV").out
+        self.assertEqual(page.count("Potential rise above 5,000 V in season 1, up to"), 1)
+        self.assertEqual(page.count("1 line with a potential rise above 5,000 V; it decides nothing."), 1)
+        self.assertNotIn("otential rise above", run("report", "tests/sample.csv").out)
+
+    def test_amounts(self):
+        for text in ("5kV", "5000V", "5000", "5 kv", "5000000 mV", "5.000kV"):
+            self.assertEqual(run("margins", "tests/sample.csv", "--gpr-limit", text), run("margins", "tests/sample.csv", "--gpr-limit", "5kV"))
+        for text, said in (("x", "gpr-limit: 'x' is no voltage; write for example 5kV, 5000V or 5000 (V)\n"),
+                           ("5A", "gpr-limit: '5A' is no voltage; write for example 5kV, 5000V or 5000 (V)\n"),
+                           ("0.0001", "gpr-limit: 0.0001 V is not a whole number of mV; it is not rounded\n")):
+            self.assertEqual(run("margins", "tests/sample.csv", "--gpr-limit", text), (1, "", said))
 
 
 class Failing(unittest.TestCase):

@@ -202,6 +202,13 @@ class Refusals(Folder):
         names[2] = self.file("2.csv", b"")
         self.assertEqual(run("check", *names).out.split("\n")[-2], "2 sheets are refused, and 1 line; nothing was computed")
 
+    def test_a_line_too_short_for_its_station(self):
+        """The station stands last here, and a line that ends before it is refused in words."""
+        first = self.file("a.csv", turned(case(101, 1)) + b"60,1\n")
+        second = self.file("b.csv", sheet(case(101, 2)))
+        self.assertEqual(run("check", first, second).out.split("\n")[0],
+                         f"{first}: line 3, place (column 3): there are only 2 values for 22 names; this one is missing")
+
     def test_deep_in_a_large_file(self):
         lines = [case(101, 1 + place % 4, station=1 + place // 4) for place in range(2000)]
         lines[1234]["depth"], lines[1700]["season"] = 60, lines[1703]["season"]

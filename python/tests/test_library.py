@@ -61,6 +61,10 @@ class Answers(unittest.TestCase):
         for name, value in (("cs", 0.74), ("root_time", 0.7071), ("ki", 2.272), ("kii", 0.57), ("kh", 1.225), ("km", 0.89), ("ks", 0.41), ("lt", 1540),
                             ("lm", 1540), ("ls", 1155), ("lr", 0)):
             self.assertAlmostEqual(float(getattr(one, name).lower), value, delta=0.01, msg=name)
+        for yard, one, row in zip(CASES, hocsimbur.working(CASES), hocsimbur.rows(CASES)):
+            self.assertEqual(one.lr, (Fraction(yard["rods"] * yard["rodlen"], 1000),) * 2)
+            self.assertTrue(one.lt.lower <= one.lc.upper + one.lr.upper and one.lc.lower + one.lr.lower <= one.lt.upper)
+            self.assertAlmostEqual(float(one.driven.lower * one.km.lower), float(row.mesh.lower), delta=0.05)
         self.assertEqual(set(library._SCALES), {field.name for field in fields(core.Working)})
 
     def test_any_number_of_yards(self):
@@ -121,7 +125,7 @@ class Refusals(unittest.TestCase):
 
     def test_twice(self):
         said = "station 101, season 1 stands already in [0]; a station has one line for a season"
-        self.hold(raised(hocsimbur.rows, [CASES[0], CASES[1], CASES[0]]), "[2]: " + said, 7, 2, None)
+        self.hold(raised(hocsimbur.rows, [CASES[0], CASES[1], dict(CASES[0], soil=77)]), "[2]: " + said, 7, 2, None)
         far = [dict(CASES[0], station=number) for number in range(1, 600)] + [dict(CASES[0], station=3)]
         self.assertEqual(str(raised(hocsimbur.rows, far)), "[599]: station 3, season 1 stands already in [2]; a station has one line for a season")
         self.assertEqual(raised(hocsimbur.release, far).line, 599)
@@ -146,11 +150,25 @@ class Refusals(unittest.TestCase):
         self.assertEqual(raised(hocsimbur.split, (0, 0), [(1, 0)]).number, 19)
         self.assertEqual(raised(hocsimbur.split, (2 ** 62, 0), [(1, 0)]).words, "a part is in -1,000..1,000 A")
         self.assertEqual(raised(hocsimbur.split, (1, "x"), [(1, 0)]).column, "quadrature")
+        self.hold(raised(hocsimbur.split, (1, 0), [("0.0001", 0)]), "[1], in-phase: 0.0001 is not a whole number of mA", 0, 1, "in-phase")
+        self.hold(raised(hocsimbur.split, (1, 0), [(0, "0.0001")]), "[1], quadrature: 0.0001 is not a whole number of mA", 0, 1, "quadrature")
+        self.hold(raised(hocsimbur.soil, [("x", 1)]), "[0], distance: 'x' is no number", 0, 0, "distance")
+        self.hold(raised(hocsimbur.soil, [(1, 2 ** 33)]), "[0]: a distance is in 0.5..50 m, a resistance in 0.001..1,000 ohms", 0, 0, None)
+        self.assertEqual(raised(hocsimbur.soil, [(0, 1)]).number, 13)
 
     def test_of_a_side(self):
         self.assertEqual(raised(hocsimbur.fewest, CASES[0], 1).number, 15)
+        self.assertEqual(raised(hocsimbur.fewest, CASES[0], 0).number, 15)
+        self.assertEqual([raised(hocsimbur.fewest, CASES[0], side).number for side in (2 ** 32 - 1, 2 ** 32, -1)], [15, 0, 0])
+        self.assertEqual(raised(hocsimbur.fewest, dict(CASES[0], rods=0, rodlen=0, place=0), 60000).number, 16)
         self.assertEqual(str(raised(hocsimbur.fewest, CASES[0], 1.5)), "the side 1.5 is not a whole number of mm, 2500..720000")
         self.assertEqual(raised(hocsimbur.fewest, dict(CASES[0], depth=1), 60000).column, "depth")
+
+    def test_of_carry_far_down(self):
+        yards = [dict(CASES[0], station=number, shock=500, clear=500, wire=500) for number in range(1, 401)]
+        refused = raised(hocsimbur.carry_back, [*yards[:300], dict(yards[300], hz=50), *yards[301:]])
+        self.assertEqual((refused.number, refused.line, refused.column, refused.words), (11, 300, None, "50 Hz; the former sheet is for 60 Hz alone"))
+        self.assertEqual(raised(hocsimbur.carry_back, [dict(yards[0], shock=9)]).line, 0)
 
     def test_of_carry(self):
         self.assertEqual(raised(hocsimbur.carry_back, [dict(CASES[0], shock=1 + CASES[0]["clear"])]).number, 9)

@@ -9,7 +9,7 @@ from typing import Dict, List
 
 from hocsimbur import core
 from hocsimbur.portfolio import advice, decision, licence, reasons
-from hocsimbur.report import document
+from hocsimbur.report import document, drawing
 from hocsimbur.sheets import layout
 from hocsimbur.portfolio.lines import YARD
 
@@ -353,6 +353,13 @@ class Page(unittest.TestCase):
 
     def test_one_scale(self):
         self.assertEqual({one.attributes["viewbox"] for one in TREE.all("svg", "bar")}, {"0 0 1500 20"})
+
+
+class Bars(unittest.TestCase):
+    def test_at_the_limit_nothing_is_over(self):
+        scale = drawing.Scale(1250, 1000)
+        self.assertNotIn("over", drawing.bar(1000, scale, "a", "t"))
+        self.assertIn('class="over" x="1000" y="5" width="1"', drawing.bar(1001, scale, "a", "t"))
 
 
 class Bytes(unittest.TestCase):

@@ -126,6 +126,11 @@ class Made(unittest.TestCase):
         self.assertEqual(caught.exception.said, ["line 1, column 3: 'soil, ohm m' is no name of a sheet",
                                                  "line 1: soil is missing: a sheet has 22 names, here are 21"])
 
+    def test_text_behind_quotes(self):
+        with self.assertRaises(spreadsheet.Refusals) as caught:
+            spreadsheet.make(SAMPLE.replace(b"3180", b'"31"80', 1))
+        self.assertEqual(caught.exception.said, ["line 2: ',' expected after '\"'"])
+
     def test_open_quotes(self):
         with self.assertRaises(spreadsheet.Refusals):
             spreadsheet.make(SAMPLE.replace(b"3180", b'"3180', 1))
@@ -165,6 +170,10 @@ class Workbooks(unittest.TestCase):
         self.assertEqual(made.sheet, SAMPLE)
         self.assertEqual(made.numbers, [1, 3, 4])
         self.assertEqual(made.changes.told()[0], "worksheet 'Yards' read, the first of 2")
+
+    def test_one_worksheet(self):
+        rows = [tuple(line.split(",")) for line in SAMPLE.decode().split()]
+        self.assertEqual(self.made(self.openpyxl(rows)).changes.told(), [])
 
     def test_no_whole_number(self):
         names, line, _ = [line.split(",") for line in SAMPLE.decode().split()]
