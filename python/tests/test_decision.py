@@ -99,6 +99,17 @@ class Answers(unittest.TestCase):
             self.assertEqual(line.small_wire, line.case["fault"] > line.wire_to)
 
 
+    def test_a_wrong_guess_changes_nothing(self):
+        """The fault current of a wire is asked on both sides; where the guess is wrong, by halving."""
+        rows, kept = core.rows(SHEET), asking._guess
+        right = asking.wires_enough_to(CASES, rows)
+        try:
+            for wrong in (0, 1, -1, 40000, -40000, 10 ** 6):
+                asking._guess = lambda *arguments, wrong=wrong: kept(*arguments) + wrong
+                self.assertEqual(asking.wires_enough_to(CASES, rows), right, wrong)
+        finally:
+            asking._guess = kept
+
     def test_wire_is_enough_at_the_least_fault_current(self):
         thin = [case(101, 1, dia=50, wire=3000, clear=9, xr=40, hz=50, fault=100, metal=metal) for metal in range(1, 12)]
         self.assertFalse(any(asking.small_wires(thin)))

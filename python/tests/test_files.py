@@ -273,6 +273,7 @@ class Report(Folder):
         for said in ("Ground-grid verdicts: 2 sheets, 1 July 2026", "Lines: season 1 in line 2 of ", "P &amp; Q", "E. &lt;Smith&gt;, date",
                      "2 sheets, listed on the first page", "season 2 (", "Sheets, each with its SHA-256:"):
             self.assertIn(said, text)
+        self.assertIn(f"Lines: season 1 in line 2 of {first}, season 2 in line 2 of {second}.", text)
         for data in (sheet(case(104, 1)), sheet(case(104, 2))):
             self.assertIn(hashlib.sha256(data).hexdigest(), text)
         self.assertNotIn("sign", run("report", first).out.split("</style>")[1])

@@ -42,6 +42,11 @@ class Units(unittest.TestCase):
         ("soil", "6200 ohm cm", "62"), ("thick", "10cm", "100"), ("thick", "5 in", "127"), ("thick", '5"', "127"), ("depth", "0.5 m", "500"),
         ("depth", "2.5ft", "762"), ("space", "25 ft", "7620"), ("space", "25'", "7620"), ("space", "7m", "7000"), ("shock", "0.5s", "500"),
         ("clear", "30 cycles", "500"), ("wire", "6 cycles", "100"), ("shock", "500 ms", "500"), ("fault", "8.7kA", "8700"), ("fault", "3180 A", "3180"),
+        ("fault", "3180 amps", "3180"), ("fault", "3180 amp", "3180"), ("fault", "3180 amperes", "3180"), ("shock", "1 sec", "1000"),
+        ("shock", "1 seconds", "1000"), ("depth", "2.5 feet", "762"), ("depth", "2.5 foot", "762"), ("thick", "5 inches", "127"), ("thick", "5 inch", "127"),
+        ("soil", "62 ohm metres", "62"), ("soil", "62 ohm meter", "62"), ("soil", "6200 Ω·cm", "62"), ("layer", "2.5 kohm m", "2500"),
+        ("clear", "30 cyc", "500"), ("clear", "30 cycle", "500"), ("split", "60 percent", "600"),
+        ("dia", "1.34 cm", "134"),
         ("split", "60 %", "600"), ("split", "60%", "600"), ("split", "600 ‰", "600"), ("split", "600 per mille", "600"), ("body", "70 kg", "70"),
         ("hz", "60 Hz", "60"), ("dia", "13.4 mm", "134"), ("dia", "4/0", "134"), ("dia", "4/0 AWG", "134"), ("dia", "#2", "74"),
         ("dia", "250 kcmil", "146"), ("dia", "250 MCM", "146"), ("dia", "95 mm2", "125"), ("dia", "95mm²", "125"), ("dia", "0.5 in", "127"),
@@ -175,6 +180,27 @@ class Names(unittest.TestCase):
         self.assertEqual(refused(SAMPLE.replace(b"season", b"Station")), [
             "line 1, station (column 2): station stands already in column 1; each name stands once",
             "line 1: season is missing: a sheet has 22 names, here are 22"])
+
+    def test_no_line_of_names(self):
+        self.assertTrue(refused(b"a,b\nsoil,c\n")[0].startswith("line 1, column 1: 'a' is no name of a sheet"))
+
+    def test_any_sign_that_is_named(self):
+        self.assertEqual(made(b"sep=|\n" + SAMPLE.replace(b",", b"|")).sheet, SAMPLE)
+
+    def test_the_former_names(self):
+        former = b"station,season,soil,layer,thick,ms,body,fault,split,xr,lines,space,depth,dia,rods,rodlen,place,metal\n"
+        line = b"7,1,400,2500,102,%s,70,3180,600,10,%s,7000,500,100,0,0,0,1\n"
+        self.assertEqual(made(former + line % (b"30 cycles", b"11")).sheet, former + line % (b"500", b"11"))
+        self.assertEqual(refused(former + line % (b"500.5", b"11.5"), True), [
+            "line 2, ms (column 6): 500.5 is not a whole number of ms; no side is cautious, for it stands for three times: give whole milliseconds",
+            "line 2, lines (column 11): 11.5 is not a whole number"])
+
+    def test_a_licence_for_two_stations(self):
+        with tempfile.TemporaryDirectory() as folder:
+            out = pathlib.Path(folder) / "licence.csv"
+            done = run("import", "examples/bare.csv", "--licence-out", str(out))
+            self.assertIn(f"{out}: a licence for 2 stations, each in the seasons that have a line\n", done.err)
+            self.assertEqual(out.read_text(), "station,name,seasons\n101,,1\n102,,1\n")
 
     def test_names_of_stations(self):
         with tempfile.TemporaryDirectory() as folder:

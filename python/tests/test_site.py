@@ -84,6 +84,13 @@ class Readings(unittest.TestCase):
 
     def test_feet_and_other_units(self):
         self.assertEqual(site.reading("10ft", "712.5 mohm"), (Pair(3048, 3048), Pair(712, 713)))
+        for text, ends in (("712.5 mΩ", (712, 713)), ("2 Ω", (2000, 2000)), ("2 ohms", (2000, 2000)), ("2 ohm", (2000, 2000)), ("0.1kΩ", (100000, 100000)),
+                           ("0.1 kohm", (100000, 100000)), ("0", (0, 0))):
+            self.assertEqual(site.reading("1", text).resistance, ends, text)
+        for text, ends in (("1 metres", (1000, 1000)), ("500mm", (500, 500)), ("50 cm", (500, 500)), ("10 feet", (3048, 3048)), ("10'", (3048, 3048)),
+                           ("100 in", (2540, 2540)), ("4294967.294", (4294967294, 4294967294))):
+            self.assertEqual(site.reading(text, "1").distance, ends, text)
+        self.assertEqual(run("wenner", "--reading", "4294967.295,1").err, "reading 4294967.295,1: distance: 4294967.295 is far out of range\n")
         self.assertEqual(site.reading("3.3", "1", "ft"), (Pair(1005, 1006), Pair(1000, 1000)))
         self.assertEqual(site.readings("feet,ohms\n10,0.7125\n5 m,2 \u03a9\n".encode()),
                          [(Pair(3048, 3048), Pair(712, 713)), (Pair(5000, 5000), Pair(2000, 2000))])
@@ -161,6 +168,12 @@ class Staged(unittest.TestCase):
             self.assertEqual(site.current(text), site.polar("20", "-22.5"), text)
         self.assertEqual(run("staged", "--csv", "--injected", "20\u22200", "--branch", "5\u2220180").out.split("\n")[1], "25000,0,1250")
         self.assertEqual(run("staged", "--csv", "-", stdin="current\n20\u22200\n5\u2220180\n".encode()).out.split("\n")[1], "25000,0,1250")
+
+    def test_sizes_far_out_of_range(self):
+        self.assertEqual(site.polar("1000000000", "0").in_phase.lower, 10 ** 12)
+        with self.assertRaises(amounts.Unclear) as caught:
+            site.polar("1000000001", "0")
+        self.assertEqual(str(caught.exception), "size: 1000000001 A is far out of range")
 
     def test_the_form_that_is_wanted(self):
         self.assertEqual(run("staged", "--injected", "20", "--branch", "1,0").err,
