@@ -133,8 +133,8 @@ def undecided(cases, rows):
 def licence_numbers():
     """The licence of the portfolio, as release takes it."""
     with (FOLDER / LICENCE).open(encoding="utf-8", newline="") as text:
-        pairs = [(int(line["station"]), sum(1 << int(season) - 1 for season in line["seasons"].split())) for line in csv.DictReader(text)]
-    return [number for pair in pairs for number in pair]
+        entries = [(int(line["station"]), sum(1 << int(season) - 1 for season in line["seasons"].split()), 0) for line in csv.DictReader(text)]
+    return [number for entry in entries for number in entry]
 
 
 def portfolio(cases, rows):
@@ -142,15 +142,15 @@ def portfolio(cases, rows):
     it alone, one has no line, and one has a line outside the licence"""
     stations = {case.station for case in cases}
     licence = licence_numbers()
-    pairs = release.pairs_of(licence)
+    entries = release.entries_of(licence)
     answered = release.release_of(licence, cases, rows)
-    lines = {station: release.lines_of(station, cases, rows) for station, _ in pairs}
+    lines = {station: release.lines_of(station, cases, rows) for station, _, _ in entries}
     alone = {tuple(place for place, count in enumerate(numbers[2:]) if count) for numbers in answered}
     return (len(stations) >= 12 and stations <= set(lines)
             and all(2 <= len(lines[station]) <= 4 for station in stations)
             and {(), (0,), (1,), (2,), (3,), (4,)} <= alone
             and any(not found for found in lines.values())
-            and any(case.season not in release.licensed(mask) for station, mask in pairs for case, _ in lines[station]))
+            and any(case.season not in release.licensed(mask) for station, mask, _ in entries for case, _ in lines[station]))
 
 
 PROMISES = {f"{promise.__name__}.csv": promise for promise in (bare, layered, rods, rectangle, seasons, undecided, portfolio)}

@@ -251,7 +251,7 @@ class Released(unittest.TestCase):
         cls.fault = next(fault for fault in range(9000, 11000) if release.fault_is_right(cls.cases, fault))
 
     def told(self, *numbers):
-        return not entries.released([7, 3], self.cases, self.rows, list(numbers))
+        return not entries.released([7, 3, 0], self.cases, self.rows, list(numbers))
 
     def test_right(self):
         self.assertFalse(self.told(7, 1, 0, 0, 0, 0, 0, self.fault))
