@@ -5,7 +5,7 @@
 
 It needs valgrind. Three sheets are counted: the stored one, which has squares only, with its lines over and
 over; the same with unequal counts in their place; and one of random cases. Each figure is a difference of two
-runs, on the whole sheet and on its first two lines, so that the line of names does not count. A sheet whose
+runs, on the whole sheet and on its first 16 lines, so that the line of names does not count. A sheet whose
 last line repeats the first one's station and season is judged to its end and no row is computed, which tells
 judging from rows. Headroom and release have the judging of a line in them.
 """
@@ -21,7 +21,7 @@ from sheets import random_case
 
 HARNESS = "target/host/harness"
 SHEET = Path(__file__).parents[1] / "crates" / "rows" / "stdin"
-SHORT = 2  # lines; fewer cannot repeat one
+SHORT = 16  # lines; a sheet of fewer than 8 has a store of its own
 APART, MIDDLE = 12, 14  # unequal counts are so far apart; from the middle on along is below across
 MOST_STATION = 65535
 
