@@ -4,6 +4,7 @@
 #   make                              the libraries and the example; ./hocsimbur then runs from here
 #   make install PREFIX=/usr/local    also LIBDIR, INCLUDEDIR, MANDIR, BINDIR, PYTHONDIR, DESTDIR; uninstall takes the same
 #   make targets                      the library for Windows, Linux on aarch64 and WebAssembly (host/targets.mk)
+#   make desk                         target/desk/hocsimbur.html: the desk page, one file
 #   make wheel                        target/wheel/hocsimbur-VERSION-py3-none-PLATFORM.whl, with the library inside
 #   make dist                         target/dist/hocsimbur-VERSION-PLATFORM.tar.gz or .zip
 #   make check                        what the gate runs of it; make check-targets for the other platforms
@@ -28,6 +29,7 @@ SHARED = libhocsimbur.so.$(VERSION)
 
 OUT = target/host
 # three archives, so that the rows are compiled by themselves: what the compiler inlines for them does not hang on the other entries
+WASM_FILES = target/wasm32/hocsimbur.wasm target/wasm32/hocsimbur.mjs
 ARCHIVES = target/staticlib/libc_entry.a target/staticlib/libc_questions.a target/staticlib/libc_lines.a
 STATIC_LIBRARY = $(OUT)/libhocsimbur.a
 SHARED_LIBRARY = $(OUT)/$(SHARED)
@@ -43,7 +45,7 @@ PROGRAMS = verdict rows margins summary fewest carry carry_back
 PLATFORMS = linux-x86_64 linux-aarch64 windows-x86_64 wasm32
 
 .NOTPARALLEL:
-.PHONY: all libraries install uninstall clean dist wheel panel harness sanitized wrong wrong-names check check-python
+.PHONY: all libraries desk install uninstall clean dist wheel panel harness sanitized wrong wrong-names check check-python
 
 all: libraries panel
 
@@ -130,12 +132,18 @@ uninstall:
 	    $(DESTDIR)$(LIBDIR)/pkgconfig/hocsimbur-static.pc $(DESTDIR)$(MANDIR)/man1/hocsimbur.1 $(DESTDIR)$(BINDIR)/hocsimbur
 
 clean:
-	rm -rf $(OUT) $(BITCODE) $(WINDOWS) $(AARCH64) $(WASM) target/kit target/dist target/wheel target/proved $(ARCHIVES)
+	rm -rf $(OUT) $(BITCODE) $(WINDOWS) $(AARCH64) $(WASM) target/kit target/desk target/dist target/wheel target/proved $(ARCHIVES)
 
 wheel: libraries targets
 	$(PYTHON) python/make_wheel.py $(VERSION) linux-x86_64 $(SHARED_LIBRARY) target/wheel
 	$(PYTHON) python/make_wheel.py $(VERSION) linux-aarch64 $(AARCH64)/$(SHARED) target/wheel
 	$(PYTHON) python/make_wheel.py $(VERSION) windows-x86_64 $(WINDOWS)/hocsimbur.dll target/wheel
+
+# the desk page: the modules, the style, the command's words and the library in one file
+desk: target/desk/hocsimbur.html
+target/desk/hocsimbur.html: $(WASM_FILES) $(shell find desk/src -type f) $(wildcard desk/*.py python/hocsimbur/*.py) examples/portfolio.csv \
+    examples/licence.csv
+	$(PYTHON) desk/build.py target/wasm32/hocsimbur.wasm $@
 
 target/bin/%:
 	bash .ci/in_memory rt check $*

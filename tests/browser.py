@@ -1,9 +1,11 @@
-"""The report in a real browser, by hand: nothing overflows a narrow or a wide screen, the PDF has one page for the portfolio and one for
-each station, with DejaVu Sans as the only font too, the head of a long portfolio repeats, and 1,000 stations open within two seconds.
+"""The report and the desk page in a real browser, by hand. Of the report: nothing overflows a narrow or a wide screen, the PDF has one page
+for the portfolio and one for each station, with DejaVu Sans as the only font too, the head of a long portfolio repeats, and 1,000 stations
+open within two seconds. Of the desk page: what desk/tests/page.py asks.
 
     python3 tests/browser.py [--out target/browser] [--picture docs/report.png]
 
-It needs the shared library (`make libraries`), and installs Debian's chromium, poppler-utils and fonts-dejavu where they are missing.
+It needs the shared library and the page (`make libraries desk`), and installs Debian's chromium, poppler-utils and fonts-dejavu where they
+are missing.
 The folder then has the pages as report-1280-*.png, report-375-*.png and report.pdf with its pages as pictures, to be looked at.
 What is wrong is printed, and the exit status is then 1.
 """
@@ -22,8 +24,9 @@ import threading
 from pathlib import Path
 
 ROOT = Path(__file__).resolve().parents[1]
-sys.path.insert(0, str(ROOT / "python"))
+sys.path[:0] = [str(ROOT / "python"), str(ROOT / "desk" / "tests")]
 
+import page as desk  # noqa: E402
 from hocsimbur.portfolio import advice, decision, licence  # noqa: E402
 from hocsimbur.report import document  # noqa: E402
 from hocsimbur.sheets.files import File  # noqa: E402
@@ -250,7 +253,7 @@ def main():
     folder = asked.out.resolve()
     folder.mkdir(parents=True, exist_ok=True)
     address = served(folder)
-    wrong = judge(folder, address) + opened(folder)
+    wrong = judge(folder, address) + opened(folder) + desk.judge()
     for width, parts in ((1280, 3), (375, 4)):
         for part in range(parts):
             shot(folder, address, "report.html", width, part * SHOT, SHOT, folder / f"report-{width}-{part + 1}.png")

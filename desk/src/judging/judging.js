@@ -1,0 +1,89 @@
+// The lines of the grid as the library judges them: each asked by itself, so that the refusal of every line is told, then the whole, so
+// that a station and season that stand twice are told too; those that are accepted are answered together.
+import { COLUMN, NAMES } from '../library/data.js';
+import * as core from '../library/core.js';
+
+const filled = (row) => row.some((cell) => cell !== '');
+
+// A cell as it stands in the text of a sheet: what would part a field or a line in two is no value, and is asked as one that is none.
+const field = (cell) => (/^[0-9A-Za-z.+-]{0,12}$/.test(cell) ? cell : '?');
+
+function caseOf(row) {
+  return Object.fromEntries(NAMES.map((name, place) => [name, Number(row[place])]));
+}
+
+// Lines whose station and season stand in an earlier one: the library names the first, which is left out, until it accepts the rest.
+function parted(kept) {
+  for (;;) {
+    const asked = kept.length ? core.rows(core.textOf(kept.map((one) => one.text))) : [];
+    if (!asked.refused) return kept;
+    const one = kept[asked.refused.line - 2];
+    one.refused = { ...asked.refused, line: one.number };
+    kept = kept.filter((other) => other !== one);
+  }
+}
+
+// Of each line, by itself: whether its conductor is too small, which the library tells of a station of that line alone.
+export function smallWires(cases) {
+  const found = [];
+  for (let first = 0; first < cases.length; first += 256) {
+    const part = cases.slice(first, first + 256).map((one, i) => ({ ...one, station: i + 1, season: 1 }));
+    const answers = core.release(core.textOf(part.map(core.lineOf)), part.map((one) => [one.station, 1]));
+    found.push(...answers.map((one) => one.small_wire > 0));
+  }
+  return found;
+}
+
+function compared(limit, voltage, tolerable, margin) {
+  const side = voltage.upper <= tolerable.lower ? 'below' : voltage.lower > tolerable.upper ? 'above' : 'not parted';
+  return { limit, kind: limit === 'touch' ? 'mesh' : 'step', voltage, tolerable, margin, side };
+}
+
+export function against(row, margins) {
+  const both = [compared('touch', row.mesh, row.tolerable_touch, margins.mesh),
+    compared('step', row.step, row.tolerable_step, margins.step)];
+  return { compared: both, nearest: both[1].margin > both[0].margin ? both[1] : both[0] };
+}
+
+// What was answered of a line's text: the same text has the same answers, so that a keystroke asks of one line alone.
+const known = new Map();
+const MOST_KNOWN = 8192;
+
+function askAlone(one) {
+  const asked = core.rows(core.textOf([one.text]));
+  return asked.refused ? { refused: asked.refused } : { row: asked[0], case: caseOf(one.cells) };
+}
+
+function answered(fresh) {
+  const text = core.textOf(fresh.map(({ answer }) => core.lineOf(answer.case)));
+  const [margins, working, headroom] = [core.margins(text), core.working(text), core.headroom(text)];
+  const small = smallWires(fresh.map(({ answer }) => answer.case));
+  fresh.forEach(({ answer }, i) => Object.assign(answer, {
+    margins: margins[i], working: working[i], headroom: headroom[i], small: small[i], ...against(answer.row, margins[i]),
+  }));
+}
+
+// { lines, at, kept, text }: what is known of each line that is not blank, the same by its place in the grid, the accepted lines, and
+// their sheet.
+export function judge(rows) {
+  const lines = [], fresh = [];
+  if (known.size > MOST_KNOWN) known.clear();
+  rows.forEach((row, place) => {
+    if (filled(row)) lines.push({ place, number: lines.length + 2, cells: row, text: row.map(field).join(',') });
+  });
+  for (const one of lines) {
+    if (!known.has(one.text)) known.set(one.text, askAlone(one));
+    one.answer = known.get(one.text);
+    if (one.answer.refused) one.refused = { ...one.answer.refused, line: one.number };
+  }
+  const kept = parted(lines.filter((one) => !one.refused));
+  for (const one of kept) if (!one.answer.working) fresh.push(one);
+  if (fresh.length) answered(fresh);
+  for (const one of kept) Object.assign(one, one.answer);
+  return { lines, at: new Map(lines.map((one) => [one.place, one])), kept,
+    text: kept.length ? core.textOf(kept.map((one) => one.text)) : '' };
+}
+
+// The column of a refused cell: the library's own, or that of the station where it names only the line.
+export const refusedColumn = (line) => (line.refused.column ? line.refused.column - 1 : COLUMN.station);
+export const incomplete = (line) => line.refused.number === 3 && line.cells[refusedColumn(line)] === '';

@@ -1,0 +1,22 @@
+// The proved library: every number that the page shows is an answer of hocsimbur.mjs, which asks hocsimbur.wasm. Nothing is computed here.
+import { load } from '../../../target/wasm32/hocsimbur.mjs';
+import { NAMES, wasmBytes } from './data.js';
+
+let library;
+
+export async function start() {
+  library = await load(wasmBytes());
+}
+
+export const version = () => library.version();
+export const rows = (text) => library.rows(text);
+export const margins = (text) => library.margins(text);
+export const working = (text) => library.working(text);
+export const headroom = (text) => library.headroom(text);
+export const release = (text, pairs) => library.release(text, pairs);
+export const carry = (text) => library.carry(text);
+
+// a sheet of lines, and a line of a case
+const header = NAMES.join(',');
+export const textOf = (lines) => `${[header, ...lines].join('\n')}\n`;
+export const lineOf = (one) => NAMES.map((name) => one[name]).join(',');

@@ -1,0 +1,86 @@
+// Files: opened by a button or dropped on the page, saved as a download. Nothing is fetched and nothing is sent.
+import { NAMES, samples } from '../library/data.js';
+import { byId, download } from './dom.js';
+import { isLicence, licenceOf } from '../sheet/licence.js';
+import { cellsOf, parsed, tooMany } from '../sheet/reading.js';
+import { change, markSaved, store, unsaved } from '../sheet/store.js';
+
+let say = () => {}, opened = () => {};
+export const onSay = (call) => { say = call; };
+export const onOpened = (call) => { opened = call; };
+
+const quoted = (cell) => (/[",\n]/.test(cell) ? `"${cell.replaceAll('"', '""')}"` : cell);
+const text = (lines) => `${lines.map((line) => line.map(quoted).join(',')).join('\n')}\n`;
+const csv = () => text([NAMES, ...store.now.rows.filter((row) => row.some(Boolean))]);
+
+export function save() {
+  const name = store.now.name || 'yards.csv';
+  download(name, csv());
+  markSaved({ sheet: name });
+  say(`${name} saved by the browser as a download`);
+}
+
+// The ticked seasons as a licence, which `hocsimbur release` and `report` read.
+export function saveLicence() {
+  const granted = [...store.now.licence].filter(([, one]) => one.seasons.length);
+  const lines = granted.map(([station, one]) => [String(station), one.name, one.seasons.join(' ')]);
+  download('licence.csv', text([['station', 'name', 'seasons'], ...lines]));
+  markSaved({ licence: true });
+  say('licence.csv saved by the browser as a download');
+}
+
+// A text as the sheet or, where it has station, name and seasons, as the licence.
+function open(found, name) {
+  const { lines } = parsed(found), first = lines.find((line) => line.some(Boolean)) ?? [];
+  if (isLicence(first)) {
+    const { licence, refused } = licenceOf(lines);
+    if (refused) return say(`${name} was not opened: ${refused}`, true);
+    change('licence opened', { licence });
+    markSaved({ licence: true });
+    return say(`${name}: a licence of ${licence.size} stations`);
+  }
+  if (found.startsWith('PK') || found.includes('\0')) {
+    return say(`${name} is a spreadsheet file and no text; copy its cells and paste them here, or save it as CSV`, true);
+  }
+  const { rows, header, notes } = cellsOf(found);
+  const wide = rows.map((row) => NAMES.map((_, i) => row[i] ?? '')), most = tooMany(rows.length) || (rows.length ? '' : notes.join('; '));
+  if (most) return say(`${name} was not opened: ${most}`, true);
+  if (rows.some((row) => row.length > NAMES.length)) notes.push('values past the last column were left out');
+  if (!header) notes.push('no line of names: the columns were taken in the order of the sheet');
+  change(`${name} opened`, { rows: wide, licence: new Map(), name }); // a licence belongs to its sheet: it is opened after it
+  if (!notes.length) markSaved({ sheet: name, licence: true });
+  opened();
+  return say([`${name}: ${wide.length} line${wide.length === 1 ? '' : 's'}`, ...notes].join('; '), notes.length > 0);
+}
+
+export function sample() {
+  const { rows } = cellsOf(samples.sheet), { licence } = licenceOf(parsed(samples.licence).lines);
+  change('sample portfolio', { rows, licence, name: 'portfolio.csv' });
+  markSaved({ sheet: 'portfolio.csv', licence: true });
+  opened();
+  say(`Sample portfolio: ${rows.length} lines, and a licence of ${licence.size} stations`);
+}
+
+export function fresh() {
+  change('new sheet', { rows: [], licence: new Map(), name: '' });
+  opened();
+  say('New sheet; undo brings the former one back');
+}
+
+export function wire() {
+  const input = byId('file');
+  const read = async (files) => {
+    const found = await Promise.all([...files].map(async (file) => [await file.text(), file.name]));
+    const last = ([one]) => Number(isLicence(parsed(one).lines[0] ?? [])); // licences after sheets
+    for (const one of found.sort((a, b) => last(a) - last(b))) open(...one);
+  };
+  input.addEventListener('change', async () => { await read(input.files); input.value = ''; });
+  addEventListener('dragover', (event) => { event.preventDefault(); document.body.classList.add('drop'); });
+  addEventListener('dragleave', (event) => { if (!event.relatedTarget) document.body.classList.remove('drop'); });
+  addEventListener('drop', (event) => {
+    event.preventDefault();
+    document.body.classList.remove('drop');
+    if (event.dataTransfer.files.length) read(event.dataTransfer.files);
+  });
+  addEventListener('beforeunload', (event) => { if (unsaved()) event.preventDefault(); });
+}

@@ -1,0 +1,140 @@
+// The sheet on the screen: 22 columns by subject, then what the library answers of each line. Only what changed is drawn again.
+import { GROUPS, NAMES, data, fill, shortUnit } from '../library/data.js';
+import { grouped, tenths } from '../words/decimals.js';
+import { bar, mark, withWord } from './drawing.js';
+import { byId, h, show } from './dom.js';
+import { incomplete, refusedColumn } from '../judging/judging.js';
+import { kcmil } from '../judging/stations.js';
+import { margin, meaning, refusal, refusedPlace, verdict } from '../words/words.js';
+
+const SPARE = 4, LEAST = 14;
+const RESULTS = [['verdict', 'Verdict', ''], ['near', 'Nearest limit', ''], ['need', 'Wire', 'kcmil'], ['upto', 'Safe up to', 'A']];
+const WIDTHS = { // rem: so that a cell that is typed moves no other
+  ln: 2.3, station: 3.55, season: 3.25, soil: 2.8, layer: 2.95, thick: 2.75, shock: 2.95, clear: 2.65, wire: 2.7, body: 2.6, fault: 3.35,
+  split: 2.4, xr: 1.9,
+  across: 3.15, along: 2.9, space: 3.15, depth: 2.95, dia: 3.1, rods: 2.55, rodlen: 3.3, place: 2.75, metal: 2.9, hz: 1.95, verdict: 6.4,
+  near: 9, need: 5.1, upto: 4.9,
+};
+const starts = new Set(GROUPS.map(([, names]) => names[0]));
+const lines = []; // drawn rows: { tr, head, cells, texts, results, seen }
+
+const classOf = (name) => `c-${name}${starts.has(name) ? ' first' : ''}`;
+export const cellAt = (row, column) => lines[row]?.cells[column];
+export const rowCount = () => lines.length;
+
+export function head() {
+  const col = ([, width]) => { const made = h('col'); made.style.width = `${width}rem`; return made; };
+  const group = ([word, names]) => h('th', { scope: 'colgroup', colspan: names.length, class: `g c-${names[0]}` }, word);
+  const under = (unit) => h('small', {}, unit || '\u00a0');
+  const name = (one) => h('th', { scope: 'col', class: classOf(one), title: meaning(one) }, one, under(shortUnit(one)));
+  const result = ([kind, word, unit]) => h('th', { scope: 'col', class: `r-${kind}` }, word, under(unit));
+  const answers = h('th', { colspan: 4, scope: 'colgroup', class: 'g r-verdict' }, 'Answers of the library');
+  return [h('colgroup', {}, Object.entries(WIDTHS).map(col)), h('thead', {},
+    h('tr', {}, h('th', { class: 'ln', rowspan: 2, scope: 'col' }, 'line'), GROUPS.map(group), answers),
+    h('tr', {}, NAMES.map(name), RESULTS.map(result)))];
+}
+
+function drawRow(place) {
+  const cells = NAMES.map((name, column) =>
+    h('td', { role: 'gridcell', tabindex: -1, 'data-r': place, 'data-c': column, class: classOf(name) }));
+  const number = h('th', { scope: 'row', class: 'ln', 'data-r': place });
+  const results = RESULTS.map(([kind]) => h('td', { class: `r-${kind}` }));
+  lines.push({ tr: h('tr', { class: 'blank' }, number, cells, results), head: number, cells, texts: cells.map(() => ''), results,
+    seen: '' });
+  return lines.at(-1).tr;
+}
+
+// A wire that is too small: what is needed, and what a solid round of the sheet's diameter has.
+function tooSmall({ row, case: { dia } }) {
+  const text = `${grouped(row.kcmil)} > ${grouped(kcmil(dia))}`,
+    size = { needed: grouped(row.kcmil), diameter: tenths(dia), own: grouped(kcmil(dia)) };
+  return h('b', { class: text.length > 11 ? 'red long' : 'red', title: fill(data.told.wire[1], size) }, text);
+}
+
+function results(line, top) {
+  const one = line.nearest, { small } = line, said = margin(one), words = `${one.side === 'not parted' ? 'from ' : ''}${one.limit}`;
+  const title = `${one.kind} at ${(1000 + one.margin) / 10} % of tolerable ${one.limit}`;
+  return [
+    [withWord(verdict(line))],
+    [h('span', { class: `nw ${one.side.replace(' ', '-')}`, title: `${said} ${words}` }, h('b', {}, said), ` ${words}`),
+      bar(one.margin, top, title)],
+    small ? [tooSmall(line)] : [grouped(line.row.kcmil)],
+    [h('span', { class: line.headroom < line.case.fault ? 'red' : '' }, line.headroom ? grouped(line.headroom) : 'none')],
+  ];
+}
+
+function drawResults(drawn, line, all, top) {
+  const [first, ...rest] = drawn.results, open = line?.refused && (line.typing || incomplete(line));
+  const refused = line?.refused;
+  first.colSpan = refused ? 4 : 1;
+  first.className = refused ? `r-verdict said${open ? ' open' : ''}` : 'r-verdict';
+  rest.forEach((td) => { td.hidden = Boolean(refused); });
+  if (!line) return drawn.results.forEach((td) => show(td));
+  if (refused) {
+    const name = refused.column ? `${NAMES[refused.column - 1]}: ` : '', words = refusal(line, all);
+    first.title = `${refusedPlace(line)}: ${words}`;
+    return show(first, open ? h('span', { class: 'v' }, line.typing ? 'typing' : 'to fill in') : withWord('held', 'refused'),
+      h('span', { class: 'why' }, name + words));
+  }
+  first.title = '';
+  results(line, top).forEach((made, i) => show(drawn.results[i], ...made));
+}
+
+function key(line, top) {
+  if (!line) return '';
+  if (line.refused) return `${line.typing}|${line.number}|${line.text}|${Object.values(line.refused)}|${line.cells}`;
+  return `${top}|${line.text}|${line.row.verdict}`;
+}
+
+function flag(drawn, line) {
+  drawn.cells.forEach((td) => { td.classList.remove('bad', 'todo'); td.removeAttribute('aria-invalid');
+    td.removeAttribute('aria-describedby'); });
+  if (!line?.refused) return;
+  const marked = [refusedColumn(line), ...(line.refused.number === 7 ? [1] : [])];
+  for (const column of marked) {
+    const td = drawn.cells[column];
+    td.classList.add(line.typing || incomplete(line) ? 'todo' : 'bad');
+    td.setAttribute('aria-invalid', 'true');
+    td.setAttribute('aria-describedby', 'callout');
+  }
+}
+
+// Draws the rows of the sheet and what is known of them; cells and answers that stay the same are left alone.
+export function draw(rows, judged, top) {
+  const wanted = Math.min(data.lines, Math.max(LEAST, rows.length + SPARE)), body = byId('sheet').tBodies[0];
+  while (lines.length < wanted) body.append(drawRow(lines.length));
+  while (lines.length > wanted) lines.pop().tr.remove();
+  lines.forEach((drawn, place) => {
+    const row = rows[place], line = judged.at.get(place);
+    drawn.cells.forEach((td, column) => {
+      const text = row?.[column] ?? '';
+      if (text === drawn.texts[column]) return;
+      drawn.texts[column] = text;
+      if (!td.firstElementChild) td.textContent = text; // the editor stands in a cell that is being typed
+    });
+    const seen = key(line, top);
+    if (seen === drawn.seen) return;
+    drawn.seen = seen;
+    show(drawn.head, line ? [line.refused ? mark('held') : mark(verdict(line)), String(line.number)] : []);
+    drawn.tr.className = line ? (line.refused ? 'refused' : verdict(line)) : 'blank';
+    flag(drawn, line);
+    drawResults(drawn, line, judged.lines, top);
+  });
+}
+
+export const restore = (row, column) => { const drawn = lines[row]; drawn.cells[column].textContent = drawn.texts[column]; };
+
+// The words of a refusal at its cell.
+export function callout(line, all) {
+  const box = byId('callout');
+  if (!line?.refused || line.typing) { box.hidden = true; return; }
+  const td = cellAt(line.place, refusedColumn(line)), pane = byId('pane'), words = refusal(line, all);
+  box.className = incomplete(line) ? 'callout todo' : 'callout';
+  show(box, h('b', {}, NAMES[line.refused.column - 1] ?? `line ${line.number}`), ` ${words}`,
+    h('small', {}, `${refusedPlace(line)}; refusal ${line.refused.number}`));
+  box.hidden = false;
+  const left = Math.min(td.offsetLeft, pane.scrollLeft + pane.clientWidth - box.offsetWidth - 8), below = td.offsetTop + td.offsetHeight;
+  const fits = below + box.offsetHeight < pane.scrollTop + pane.clientHeight || td.offsetTop < box.offsetHeight + 60;
+  box.style.left = `${Math.max(0, left)}px`;
+  box.style.top = `${fits ? below + 3 : td.offsetTop - box.offsetHeight - 3}px`;
+}

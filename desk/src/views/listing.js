@@ -1,0 +1,103 @@
+// All stations with their decisions, held ones first, as on the first page of the report.
+import { SEASONS } from '../library/data.js';
+import { grouped, share } from '../words/decimals.js';
+import { byId, h, redraw, show } from './dom.js';
+import { badge, bar, seasonMark } from './drawing.js';
+import { decision, greatest, now, told } from '../judging/sentences.js';
+import { tick } from '../sheet/store.js';
+import { margin } from '../words/words.js';
+
+const FAULT = 'Greatest fault current still safe', WIRE = 'Wire needed of own, kcmil', COLUMNS = 10;
+const KEY = 'A season that is ticked is asked of the licence; a station without ticks of its own is asked for all four. A station is '
+  + 'released only if every ticked season has a line, every line of it is safe, the lines agree on the yard, and the wire is '
+  + 'large enough. A station with a refused line is not asked.';
+
+function seasonCell(station, season) {
+  const box = h('input', {
+    type: 'checkbox', checked: station.seasons.includes(season), 'data-key': `${station.station}-${season}`,
+    'aria-label': `Season ${season} of station ${station.station} is in the licence`,
+    onchange: (event) => tick(station.station, season, event.target.checked),
+  });
+  return h('td', { class: 's' }, h('label', {}, h('span', { class: 'sn', 'aria-hidden': 'true' }, String(season)), box,
+    seasonMark(station, season)));
+}
+
+function nearCell(station, top) {
+  if (!station.lines.length) return h('td', { class: 'near sub' }, 'no line, nothing to compare');
+  const { worst } = station, one = worst.nearest,
+    others = station.lines.filter((line) => line !== worst).map((line) => line.nearest.margin);
+  const title = `nearest limit, ${one.kind} voltage at ${share(1000 + one.margin)} of tolerable ${one.limit} in season ${worst.row.season}`;
+  const words = ` ${one.side === 'not parted' ? 'from ' : ''}${one.limit}, season ${worst.row.season}`;
+  return h('td', { class: `near ${one.side.replace(' ', '-')}` }, bar(one.margin, top, title, others),
+    h('span', { class: 'words' }, h('b', {}, margin(one)), words));
+}
+
+function faultCell(station) {
+  const unsafe = station.lines.some((line) => line.row.verdict !== 1), known = station.released !== undefined && station.lines.length;
+  return h('td', { class: 'num', 'data-l': FAULT },
+    known ? [h('b', { class: unsafe ? 'red' : '' }, greatest(station)), h('small', {}, now(station))] : '');
+}
+
+function wireCell(station) {
+  if (!station.lines.length) return h('td', { class: 'num' });
+  const small = station.lines.some((line) => line.small), colour = { class: small ? 'red' : '' };
+  return h('td', { class: 'num', 'data-l': WIRE }, h('b', colour, grouped(station.size.needed)), ` of ${grouped(station.size.own)}`,
+    h('small', colour, small ? 'too small' : 'enough'));
+}
+
+function why(station, unread) {
+  if (station.released) return '';
+  if (station.released === undefined) return decision(station, unread)[1];
+  const first = (text) => text[0].toUpperCase() + text.slice(1);
+  return station.reasons.map(told).map(([head, detail], i) =>
+    [i ? '; ' : '', h('b', {}, i ? head : first(head)), detail ? `: ${detail}` : '']);
+}
+
+function row(station, top, unread, choose, chosen) {
+  const here = chosen === station.station, name = [h('span', { class: 'no' }, String(station.station)), ' ', station.name];
+  const link = { type: 'button', class: 'link', 'data-key': station.station, 'aria-current': here ? 'true' : null,
+    onclick: () => choose(station.worst) };
+  return h('tr', { class: here ? 'chosen' : '' }, h('th', { scope: 'row' }, station.lines.length ? h('button', link, name) : name),
+    h('td', { class: 'dec' }, badge(station)), SEASONS.map((season) => seasonCell(station, season)), nearCell(station, top),
+    faultCell(station),
+    wireCell(station), h('td', { class: 'why' }, why(station, unread)));
+}
+
+// The counts, in the report's sentence.
+export function totals(portfolio, judged) {
+  const { stations } = portfolio, count = (test) => stations.filter(test).length, lines = judged.kept;
+  if (!judged.lines.length) return [];
+  const of = (verdict) => lines.filter((line) => line.row.verdict === verdict).length, refused = judged.lines.length - lines.length;
+  const open = count((one) => one.released === undefined);
+  const gone = stations.reduce((sum, station) => sum + (station.released === undefined ? 0 : station.missing.length), 0);
+  return [h('b', {}, `${stations.length} station${stations.length > 1 ? 's' : ''}: `),
+    h('b', { class: 'green' }, `${count((one) => one.released)} released`), ', ',
+    h('b', { class: 'red' }, `${count((one) => one.released === false)} held`), open ? `, ${open} not asked` : '', '. ',
+    `${lines.length} season line${lines.length === 1 ? '' : 's'}: ${of(1)} safe, ${of(2)} unsafe, ${of(3)} undecided; `,
+    gone ? `${gone} season${gone > 1 ? 's' : ''} without a line.` : 'every season has a line.',
+    refused ? h('b', { class: 'red' }, ` ${refused} line${refused > 1 ? 's are' : ' is'} refused.`) : ''];
+}
+
+function head() {
+  const tall = (word, kind = '') => h('th', { scope: 'col', rowspan: 2, class: kind }, word);
+  return h('thead', {}, h('tr', {}, tall('Station'), tall('Decision'), h('th', { scope: 'colgroup', colspan: 4, class: 's2' }, 'Season'),
+    tall('Nearest limit'), tall(FAULT, 'num'), tall(WIRE, 'num'), tall('Reasons to hold')),
+  h('tr', {}, SEASONS.map((season) => h('th', { scope: 'col', class: 's' }, String(season)))));
+}
+
+const GROUPS = [['Held', (one) => one.released === false], ['Not asked', (one) => one.released === undefined],
+  ['Released', (one) => one.released]];
+
+// The table; `choose` is called with the line of a chosen station that is nearest its limit.
+export function draw(portfolio, top, choose, chosen) {
+  const bodies = GROUPS.map(([word, test]) => {
+    const list = portfolio.stations.filter(test);
+    return list.length ? h('tbody', {}, h('tr', { class: 'grp' },
+      h('th', { colspan: COLUMNS, scope: 'rowgroup' }, `${word} (${list.length})`)),
+      list.map((one) => row(one, top, portfolio.unread, choose, chosen))) : '';
+  });
+  const box = byId('stations'), caption = h('caption', { class: 'vh' }, 'Decision for each station');
+  redraw(box, () => show(box, portfolio.stations.length ? [h('table', { class: 'pf' }, caption, head(), bodies),
+    h('p', { class: 'key' }, KEY)]
+    : h('p', { class: 'key' }, 'No station yet: type or paste lines first.')));
+}

@@ -1,0 +1,72 @@
+// Refusals, margins and values in the product's words.
+import { BY_NAME, NAMES, data, fill } from '../library/data.js';
+import { grouped, metres, share, tenths } from './decimals.js';
+
+const LONGEST = 40;
+const cut = (text) => (text.length <= LONGEST ? text : `${text.slice(0, LONGEST)}…`);
+
+// the kinds of text that the product's `forms` tells apart, in its order
+const KINDS = [
+  ['empty', /^$/], ['point', /^\d+[.]0*$/], ['fraction', /^\d*[.]\d+$/], ['zero', /^0\d+$/], ['digits', /^[0-9]{7,}$/],
+    ['sign', /^[-+\u2212]\d+$/],
+  ['letters', /^[\d.]+ ?[\p{L}].*$/u], ['other', /^/],
+];
+
+function wrongForm(name, text) {
+  const two = /^(\d{1,3})[.,](\d{3})$/.exec(text);
+  if (two && text.includes(',')) {
+    return fill(data.refusals.ambiguous, { text, joined: two[1] + two[2], parted: `${two[1]}.${two[2]}` });
+  }
+  const [kind] = KINDS.find(([, form]) => form.test(text));
+  return fill(data.refusals.form[name][kind],
+    { text: cut(text), whole: text.replace(/[.].*$/, '').replace(/^0+(?=\d)/, ''), count: text.length });
+}
+
+// What is refused, without its place.
+export function refusal(line, lines) {
+  const { number, column } = line.refused, name = NAMES[column - 1];
+  const own = Object.fromEntries(NAMES.map((one, place) => [one, line.cells[place]]));
+  if (number === 3) return wrongForm(name, own[name]);
+  if (number === 5) return fill(data.refusals.range[name], { value: own[name] });
+  if (number === 6) return fill(data.refusals[name], own);
+  if (number === 7) {
+    const earlier = lines.find((one) => one.cells[0] === own.station && one.cells[1] === own.season);
+    return fill(data.refusals.repeated, { ...own, earlier: `line ${earlier.number}` });
+  }
+  return data.refusals.own_fault;
+}
+
+export function refusedPlace(line) {
+  const { column } = line.refused;
+  return `line ${line.number}` + (column ? `, ${NAMES[column - 1]} (column ${column})` : '');
+}
+
+export const verdict = (line) => data.verdicts[line.row.verdict];
+
+export function margin(one) {
+  if (one.side === 'not parted') return data.margins.not_parted;
+  if (one.side === 'below' && one.margin === 0) return data.margins.least;
+  return fill(data.margins[one.side], { share: share(one.margin) });
+}
+
+export const above = (one) => fill(data.margins.limits[one.limit].above, { share: share(one.margin) });
+export const notParted = (one) => data.margins.limits[one.limit].not_parted;
+
+export function listed(words) {
+  return words.length < 2 ? String(words[0] ?? '') : `${words.slice(0, -1).join(', ')} and ${words.at(-1)}`;
+}
+
+export const seasonsOf = (numbers) => (numbers.length === 1 ? 'season ' : 'seasons ') + listed(numbers);
+export const columnsOf = (names) => listed(names.map((name) =>
+  (name === 'xr' ? data.labels.xr.label : data.labels[name].label.toLowerCase())));
+
+// A value of a column with its unit, as the report shows it.
+export function value(name, number) {
+  const { kind, unit, zero } = data.labels[name];
+  if (kind === 'place') return data.places[number];
+  if (zero && number === 0) return zero;
+  const text = { grouped, tenths, metres: (one) => metres(one, 0) }[kind](number);
+  return unit ? `${text}\u00a0${unit}` : text;
+}
+
+export const meaning = (name) => `${BY_NAME[name].meaning}${BY_NAME[name].unit ? `, ${BY_NAME[name].unit}` : ''}: ${BY_NAME[name].allowed}`;

@@ -1,0 +1,127 @@
+"""A browser driven over the DevTools protocol through a pipe: standard library alone, no port, no socket."""
+import base64
+import json
+import os
+import subprocess
+import tempfile
+import time
+from pathlib import Path
+
+KEYS = {"Enter": 13, "Tab": 9, "Escape": 27, "ArrowDown": 40, "ArrowUp": 38, "ArrowLeft": 37, "ArrowRight": 39, "Delete": 46, "Home": 36,
+        "End": 35, "F2": 113}
+
+
+class Browser:
+    def __init__(self, width=1280, height=900):
+        read, write_end = os.pipe()
+        read_end, write = os.pipe()
+        self.profile = tempfile.mkdtemp(prefix="desk-profile-")
+        def lent():
+            os.dup2(read, 10), os.dup2(write, 11)
+            os.dup2(10, 3), os.dup2(11, 4)
+        self.process = subprocess.Popen(
+            ["chromium", "--headless=new", "--no-sandbox", "--disable-gpu", "--remote-debugging-pipe", "--hide-scrollbars",
+             f"--user-data-dir={self.profile}", f"--window-size={width},{height}", "about:blank"],
+            preexec_fn=lent, close_fds=False, stdout=subprocess.DEVNULL, stderr=subprocess.DEVNULL)
+        os.close(read), os.close(write)
+        self.out, self.into, self.number, self.rest, self.events = write_end, read_end, 0, b"", []
+        target = next(one for one in self.call("Target.getTargets")["targetInfos"] if one["type"] == "page")
+        self.session = None
+        self.session = self.call("Target.attachToTarget", targetId=target["targetId"], flatten=True)["sessionId"]
+        for domain in ("Page", "Runtime", "Log", "Network"):
+            self.call(f"{domain}.enable")
+        self.size(width, height)
+
+    def call(self, method, **params):
+        self.number += 1
+        message = {"id": self.number, "method": method, "params": params}
+        if getattr(self, "session", None):
+            message["sessionId"] = self.session
+        os.write(self.out, json.dumps(message).encode() + b"\0")
+        while True:
+            while b"\0" not in self.rest:
+                self.rest += os.read(self.into, 1 << 20)
+            one, self.rest = self.rest.split(b"\0", 1)
+            answer = json.loads(one)
+            if answer.get("id") == self.number:
+                if "error" in answer:
+                    raise RuntimeError(answer["error"])
+                return answer["result"]
+            self.events.append(answer)
+
+    def size(self, width, height, scale=1):
+        self.call("Emulation.setDeviceMetricsOverride", width=width, height=height, deviceScaleFactor=scale, mobile=False)
+
+    def dark(self, on):
+        self.call("Emulation.setEmulatedMedia", features=[{"name": "prefers-color-scheme", "value": "dark" if on else "light"}])
+
+    def open(self, path):
+        self.call("Page.navigate", url=Path(path).resolve().as_uri())
+        for _ in range(200):
+            time.sleep(0.05)
+            if self.run("document.body && document.body.dataset.ready"):
+                return
+        raise RuntimeError("the page is not ready: " + json.dumps(self.wrong()))
+
+    def run(self, code):
+        answer = self.call("Runtime.evaluate", expression=code, returnByValue=True, awaitPromise=True)
+        if "exceptionDetails" in answer:
+            raise RuntimeError(json.dumps(answer["exceptionDetails"])[:800])
+        return answer["result"].get("value")
+
+    def key(self, key, modifiers=0):
+        """One key; modifiers: 1 Alt, 2 Ctrl, 8 Shift."""
+        code = KEYS.get(key) or ord(key.upper())
+        text = {} if key in KEYS and key != "Enter" or modifiers & 2 else {"text": "\r" if key == "Enter" else key}
+        named = {"key": key, "windowsVirtualKeyCode": code, "modifiers": modifiers}
+        self.call("Input.dispatchKeyEvent", type="keyDown", **named, **text)
+        self.call("Input.dispatchKeyEvent", type="keyUp", **named)
+
+    def type(self, text):
+        for sign in text:
+            self.key(sign)
+
+    def paste(self, text):
+        self.run("(() => { const d = new DataTransfer(); d.setData('text/plain', %s); document.activeElement.dispatchEvent("
+                 "new ClipboardEvent('paste', {clipboardData: d, bubbles: true, cancelable: true})); })()" % json.dumps(text))
+
+    def mouse(self, kind, x, y):
+        moved = kind == "mouseMoved"
+        self.call("Input.dispatchMouseEvent", type=kind, x=x, y=y, button="none" if moved else "left", clickCount=0 if moved else 1)
+
+    def click(self, query):
+        x, y = self.run("(() => { const e = document.querySelector(%s); e.scrollIntoView({block:'nearest'});"
+                        " const b = e.getBoundingClientRect();"
+                        " return [b.left + b.width / 2, b.top + b.height / 2]; })()" % json.dumps(query))
+        self.at(x, y)
+
+    def at(self, x, y):
+        self.mouse("mouseMoved", x, y), self.mouse("mousePressed", x, y), self.mouse("mouseReleased", x, y)
+        self.settle()
+
+    def settle(self):
+        self.run("new Promise(done => requestAnimationFrame(() => requestAnimationFrame(done)))")
+
+    def shot(self, path, full=False):
+        self.settle()
+        data = self.call("Page.captureScreenshot", format="png", captureBeyondViewport=full)["data"]
+        Path(path).write_bytes(base64.b64decode(data))
+
+    def wrong(self):
+        """What the browser complained of."""
+        found = []
+        for one in self.events:
+            if one["method"] == "Runtime.exceptionThrown":
+                details = one["params"]["exceptionDetails"]
+                found.append(str(details.get("exception", {}).get("description", details))[:600])
+            if one["method"] == "Log.entryAdded" and one["params"]["entry"]["level"] in ("error", "warning"):
+                found.append(one["params"]["entry"]["text"][:400])
+        return found
+
+    def asked(self):
+        """The addresses that were asked for."""
+        return [one["params"]["request"]["url"] for one in self.events if one["method"] == "Network.requestWillBeSent"]
+
+    def close(self):
+        self.process.terminate()
+        self.process.wait(10)

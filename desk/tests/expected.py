@@ -1,0 +1,153 @@
+"""What the command says to a thousand inputs of each kind, as JSON for words.mjs: python3 desk/tests/expected.py
+
+Where the page and the command both have logic of their own (decimals, the mending of numbers, kinds of wrong form, decisions and their
+order, candidates for what to change), both are asked the same, and words.mjs compares them word for word."""
+from __future__ import annotations
+
+import json
+import random
+import sys
+from pathlib import Path
+from typing import Dict, List
+
+ROOT = Path(__file__).resolve().parents[2]
+sys.path.insert(0, str(ROOT / "python"))
+
+from hocsimbur import advice, checking, decimals, decision, licence, lines, names, reasons, sheets, spreadsheet  # noqa: E402
+from hocsimbur.core import Pair  # noqa: E402
+
+NAMES = [name.name for name in names.NAMES]
+COUNT = 1000
+SOUND = "7,1,400,2500,102,500,500,500,70,3180,600,10,11,11,7000,500,100,4,3000,1,1,60".split(",")
+WRONG = ["", "0", "00", "007", "-5", "+7", "\u22125", "62.5", "62.", "62.0", ".5", "1234567", "4 kA", "3m", "abc", "x1", "99999", "1", "3", "250000",
+         "1e3", "1 000", "\u00b2", "\u0663", "m" * 60, "7.25", "é", "'7'", "--", "12x", "5%"]
+
+
+def random_case(rng: random.Random, station: int, season: int) -> Dict[str, int]:
+    """A case within its ranges, whose layer and rods agree; often one of a yard that could be built."""
+    case = {name.name: rng.choice(name.only) if name.only else rng.randint(name.low, name.high) for name in names.NAMES}
+    if rng.random() < 0.7:
+        case.update(zip(NAMES, map(int, SOUND)))
+        case.update(soil=rng.randint(50, 600), fault=rng.randint(500, 9000), across=rng.randint(6, 16), along=rng.randint(6, 16))
+        case.update(metal=rng.randint(1, 11), dia=rng.choice((50, 80, 100, 134, 200)), shock=rng.choice((200, 500, 1000)))
+    case.update(station=station, season=season)
+    if rng.random() < 0.3:
+        case.update(layer=0, thick=0)
+    if rng.random() < 0.4:
+        case.update(rods=0, rodlen=0, place=0)
+    else:
+        case.update(rods=rng.randint(1, 40), rodlen=rng.randint(1000, 6000), place=rng.randint(1, 2))
+    return case
+
+
+def shown(rng: random.Random):
+    """Numbers as decimals."""
+    for _ in range(COUNT):
+        size, scale, places = rng.randint(0, 15), rng.randint(0, 9), rng.randint(0, 9)
+        low = rng.randint(-(10 ** size), 10 ** size)
+        high = low + rng.randint(0, 10 ** rng.randint(0, size))
+        yield [low, high, scale, places, decimals.ends(Pair(low, high), scale, places), decimals.exact(low, scale), decimals.grouped(high)]
+
+
+def shares(rng: random.Random):
+    for _ in range(COUNT):
+        number = rng.randint(-2000, 10 ** rng.randint(1, 7))
+        yield [abs(number), reasons.share(abs(number))]
+
+
+def mended(rng: random.Random):
+    """Cells as `import` takes them: the whole number in digits, or none where the text is no whole number or may be two."""
+    signs = "0123456789" * 3 + ".,eE+- \u00a0\u202fx"
+    for _ in range(COUNT):
+        text = "".join(rng.choice(signs) for _ in range(rng.randint(1, 9))).strip(" \u00a0\u202f\u2007\ufeff")
+        if rng.random() < 0.4:
+            number = rng.randint(0, 10 ** rng.randint(1, 7))
+            text = rng.choice((f"{number:,}", f"{number}.0", f"{number:,}".replace(",", "."), f"{number:,}".replace(",", "\u00a0"), f"{number},00",
+                               f"{number / 1000:e}", f"{number}.", f"0{number}", f"+{number}"))
+        sign = rng.choice(",;\t")
+        try:
+            made = spreadsheet._value(text, "soil", "", sign, spreadsheet.Changes())
+        except ValueError:
+            made = None
+        yield [text, sign, made]
+
+
+def refused(rng: random.Random):
+    """Sheets of spoilt lines, and the words of every refusal."""
+    for _ in range(COUNT // 20):
+        rows: List[List[str]] = []
+        for number in range(20):
+            row = list(SOUND)
+            row[0], row[1] = str(rng.choice((number + 1, 7))), str(rng.randint(1, 4))
+            for _ in range(rng.choice((0, 1, 1, 1, 2))):
+                row[rng.randrange(len(row))] = rng.choice(WRONG)
+            rows.append(row)
+        sheet = "".join(",".join(row) + "\n" for row in [NAMES, *rows]).encode()
+        yield [rows, [[one.number, one.line, one.column, one.said] for one in checking.check(sheet)]]
+
+
+def station_words(sheet: bytes, granted, one) -> Dict:
+    """All that is said of a station."""
+    said = [reasons.differences(one), reasons.outside(one), *reasons.undecided(one), reasons.current(one)]
+    said += [] if one.answer.small_wire else [reasons.wire(one)]
+    return {
+        "station": one.station, "decision": list(reasons.decision(one)), "asides": [text for text in said if text],
+        "cautions": reasons.cautions(one), "greatest": reasons.greatest(one), "now": reasons.now(one),
+        "changes": [change.words for change in advice.changes(sheet, one.station, granted)],
+    }
+
+
+def portfolios(rng: random.Random):
+    """Sheets of several stations with a licence, and what is said of every station and line."""
+    for _ in range(COUNT // 25):
+        cases = []
+        for station in range(1, rng.randint(2, 5)):
+            first = random_case(rng, station, 1)
+            for season in sorted(rng.sample((1, 2, 3, 4), rng.randint(1, 4))):
+                other = dict(first, season=season, soil=rng.randint(10, 800))
+                if rng.random() < 0.15:
+                    other.update(depth=rng.randint(250, 2500))
+                if rng.random() < 0.15:
+                    other.update(fault=rng.randint(100, 9000))
+                cases.append(other)
+        rng.shuffle(cases)
+        licensed = [licence.Licensed(station, rng.choice(("", "Ashgrove", "Elm, west")), tuple(sorted(rng.sample((1, 2, 3, 4), rng.randint(1, 4)))))
+                    for station in range(1, 7) if rng.random() < 0.6]
+        granted = licence.Licence(tuple(licensed)) if licensed else None
+        sheet = sheets.text(cases)
+        stations = [one for one in decision.portfolio(sheet, granted).stations if one.lines]
+        yield {
+            "rows": [[str(case[name]) for name in NAMES] for case in cases],
+            "licence": [[one.station, one.name, list(one.seasons)] for one in licensed],
+            "lines": [[one.row.verdict.name.lower(), reasons.margin(one.nearest), one.nearest.limit, one.row.kcmil, one.headroom, one.small_wire]
+                      for one in lines.gather(sheet)],
+            "stations": [station_words(sheet, granted, one) for one in stations],
+        }
+
+
+def licences(rng: random.Random):
+    """Licences, right and damaged: the stations or the sentence."""
+    cells = ["7", "8", "65535", "0", "65536", "x", "07", "", "1", "1 2", "4 3 1", "1 1", "5", "1;2", "a", "Elm, west", 'say "so"', "\x07", "1 2 3 4 5", " 7 "]
+    for _ in range(COUNT // 4):
+        order = rng.sample(("station", "name", "seasons"), 3)
+        made = [order]
+        for station in range(rng.randint(0, 4)):
+            right = {"station": str(station + 1), "name": rng.choice(cells), "seasons": " ".join(sorted(rng.sample("1234", rng.randint(1, 4))))}
+            line = [right[column] for column in order]
+            if rng.random() < 0.4:
+                line[rng.randrange(3)] = rng.choice(cells)
+            if rng.random() < 0.05:
+                line.append("more")
+            made.append(line)
+        text = "".join(",".join('"' + cell.replace('"', '""') + '"' if set(cell) & set(',"') else cell for cell in line) + "\n" for line in made)
+        try:
+            found = [[one.station, one.name, list(one.seasons)] for one in licence.read(text.encode()).stations]
+        except licence.LicenceRefused as error:
+            found = str(error)
+        yield [text, found]
+
+
+KINDS = {"shown": shown, "shares": shares, "mended": mended, "refused": refused, "portfolios": portfolios, "licences": licences}
+
+if __name__ == "__main__":
+    json.dump({kind: list(make(random.Random(number))) for number, (kind, make) in enumerate(KINDS.items())}, sys.stdout)

@@ -1,0 +1,140 @@
+"""Real input: keys, pasted text, ranges, the curve, dropped files."""
+import tempfile
+import time
+from pathlib import Path
+
+from common import NAMES, ROOT, cell, plain, same, told
+from hocsimbur import licence
+
+
+def keys(b):
+    """Typing, moving, undo, refusal, completion."""
+    b.click(cell(0, "station"))
+    line = "7,1,400,2500,102,500,500,500,70,3180,600,10,11,11,7000,500,100,0,0,0,1,60".split(",")
+    for value in line:
+        b.type(value), b.key("Tab")
+    b.settle()
+    same("typed line", told(b)[0][0], "unsafe")
+    same("after the last column", b.run("document.activeElement.dataset.r + ',' + document.activeElement.dataset.c"), "1,0")
+    b.click(cell(0, "soil")), b.type("100")
+    same("while typing", told(b)[0][0], "safe")
+    b.key("Escape"), b.settle()
+    same("after Escape", told(b)[0][0], "unsafe")
+    b.type("100"), b.key("Enter"), b.settle()
+    same("after Enter", told(b)[0][0], "safe")
+    b.key("z", 2), b.settle()
+    same("after undo", told(b)[0][0], "unsafe")
+    b.key("y", 2), b.settle()
+    same("after redo", told(b)[0][0], "safe")
+    b.click(cell(0, "depth")), b.type("60"), b.key("Enter"), b.key("ArrowUp"), b.settle()
+    same("refused", told(b)[0], ["refuseddepth: 60 mm is not in 250..2500"])
+    same("at the cell", plain(b.run("document.getElementById('callout').textContent")),
+         "depth 60 mm is not in 250..2500line 2, depth (column 16); refusal 5")
+    same("the cell is marked", b.run(f"document.querySelector('{cell(0, 'depth')}').getAttribute('aria-invalid')"), "true")
+    b.key("z", 2), b.settle()
+    b.click(cell(0, "station")), b.key("End", 8), b.run("document.execCommand('copy')")
+    b.key("ArrowDown"), b.key("Home")
+    b.paste("\t".join(["7", "2"] + line[2:])), b.settle()
+    same("pasted below", told(b)[1][0], "unsafe")
+    b.paste("\t".join(["7", "1"] + line[2:])), b.settle()
+    same("twice", told(b)[1], ["refusedstation 7, season 1 stands already in line 2; a station has one line for a season"])
+    b.key("z", 2), b.key("z", 2), b.settle()
+
+
+COPY = """(kind => { const d = new DataTransfer();
+  document.activeElement.dispatchEvent(new ClipboardEvent(kind, {clipboardData: d, bubbles: true, cancelable: true}));
+  return d.getData('text/plain'); })"""
+
+
+def ranges(b):
+    """Ranges: chosen with Shift, copied, cut, filled down, cleared; lines added and removed."""
+    def text(row, name):
+        return b.run(f"document.querySelector('{cell(row, name)}').textContent")
+    b.click("#sample"), b.click(cell(0, "soil"))
+    b.key("ArrowDown", 8), b.key("ArrowRight", 8)
+    same("copied", b.run(f"{COPY}('copy')"), "130\t2500\n185\t2500")
+    b.click(cell(4, "soil")), b.paste("1\t2\n3\t4"), b.settle()
+    same("pasted", [text(4, "soil"), text(4, "layer"), text(5, "soil"), text(5, "layer")], ["1", "2", "3", "4"])
+    same("cut", b.run(f"{COPY}('cut')"), "1\t2\n3\t4")
+    same("cleared", [text(4, "soil"), text(5, "layer")], ["", ""])
+    same("to fill in", told(b)[4][0], "to fill insoil: no value stands here; it must be a whole number of Ω·m, 10..5000")
+    b.click("#undo"), b.click("#undo"), b.click(cell(0, "soil")), b.key("ArrowDown", 8), b.key("ArrowDown", 8), b.key("d", 2), b.settle()
+    same("filled down", [text(1, "soil"), text(2, "soil")], ["130", "130"])
+    b.key("Delete"), b.settle()
+    same("deleted", text(1, "soil"), "")
+    b.click("#undo"), b.click("#undo"), b.click(cell(8, "soil")), b.click("#season"), b.settle()
+    same("season added", [text(9, "station"), text(9, "season")], ["110", "3"])
+    b.click("#remove"), b.settle()
+    same("line removed", text(9, "station"), "118")
+    b.click("#undo"), b.click("#undo"), b.settle()
+    same("not saved", b.run("document.getElementById('name').textContent"), "portfolio.csv")
+    b.click(cell(5, "soil")), b.click("#station .next .do"), b.settle()
+    same("a change applied", [b.run("document.querySelector('#station .badge').textContent"), text(4, "rods"), text(5, "rods")],
+         ["RELEASED", "52", "52"])
+    b.click("#undo"), b.settle()
+    same("and undone", b.run("document.querySelector('#station .badge').textContent"), "HELD")
+
+
+def paste(b):
+    """Excel's text with names in another order and case, numbers as people write them; a range without names."""
+    order = NAMES[::-1]
+    values = dict(zip(NAMES, "9,1,400,2500,102,500,500,500,70,3180,600,10,11,11,7000,500,100,0,0,0,1,60".split(",")))
+    values.update(fault="3 180", soil="400.0", space="7E+03")
+    b.click("#new"), b.click(cell(0, "station"))
+    b.paste("\t".join(name.title() for name in order) + "\r\n" + "\t".join(values[name] for name in order) + "\r\n"), b.settle()
+    same("names in another order", told(b)[0][0], "unsafe")
+    b.click(cell(0, "fault")), b.paste("2500\r\n"), b.settle()
+    same("one cell pasted", told(b)[0][0], "safe")
+    b.paste("3,180"), b.settle()
+    same("ambiguous", told(b)[0], ["refusedfault: '3,180' may be 3180 or 3.180 with decimals; write it in digits alone"])
+    b.key("z", 2), b.settle()
+    b.click("#new")
+
+
+def drawn(b):
+    """What if: a click takes the value over, in all lines of the station where it is of the yard; keys do the same."""
+    b.click("#sample"), b.click(cell(5, "rods"))
+    x, y = b.run("(()=>{const r=document.querySelector('.plot').getBoundingClientRect();return [r.left+r.width*.6,r.top+r.height*.5]})()")
+    b.mouse("mouseMoved", x, y), b.settle()
+    count = int(b.run("document.querySelector('.plot').getAttribute('aria-valuenow')"))
+    b.at(x, y)
+    same("rods of both lines", [b.run(f"document.querySelector('{cell(row, 'rods')}').textContent") for row in (4, 5)], [str(count)] * 2)
+    same("safe then", told(b)[5][0], "safe")
+    b.run("document.querySelector('.plot').focus()"), b.key("Home"), b.key("Enter"), b.settle()
+    same("no rods", [b.run(f"document.querySelector('{cell(5, name)}').textContent") for name in ("rods", "rodlen", "place")], ["0"] * 3)
+    b.click("#undo"), b.click("#undo"), b.settle()
+    same("undone", b.run(f"document.querySelector('{cell(5, 'rods')}').textContent"), "20")
+    b.click(cell(5, "fault")), b.settle()
+    same("edge of the curve is the headroom", "up to 3,476 A" in plain(b.run("document.querySelector('.under').textContent")), True)
+
+
+def dropped(b, *paths):
+    """Files dropped on the page, and what it then says."""
+    for kind in ("dragEnter", "dragOver", "drop"):
+        data = {"items": [], "files": [str(path) for path in paths], "dragOperationsMask": 1}
+        b.call("Input.dispatchDragEvent", type=kind, x=400, y=600, data=data)
+    time.sleep(0.3)
+    b.settle()
+    return b.run("document.getElementById('said').textContent")
+
+
+def opened(b):
+    """Dropped files: a sheet with its licence, wrong licences in the product's words, a sheet without lines, an old one."""
+    folder = Path(tempfile.mkdtemp(prefix="desk-"))
+    same("both", dropped(b, ROOT / "examples/licence.csv", ROOT / "examples/portfolio.csv"), "licence.csv: a licence of 13 stations")
+    same("names", "Birch Hollow, east yard" in b.run("document.body.textContent"), True)
+    licences = (["7,a,1,2"], ["0,a,1"], ["x,a,1"], ["7,a,1", "7,b,2"], ["7,a,"], ["7,a,1 5"], ["7,a,1;2"], ["7,a,2 2"], [], ['"7,a,1'])
+    for place, lines_ in enumerate(licences):
+        text = "\n".join(["station,name,seasons", *lines_, ""])
+        path = folder / f"l{place}.csv"
+        path.write_text(text)
+        try:
+            licence.read(text.encode())
+        except licence.LicenceRefused as refused:
+            if place < 9:
+                same(f"licence {lines_}", dropped(b, path), f"l{place}.csv was not opened: {refused}")
+    same("no lines", dropped(b, ROOT / "examples/refused-4.csv"),
+         "refused-4.csv was not opened: the sheet has names but no line of values")
+    same("the sheet stays", len(told(b)), 36)
+    dropped(b, ROOT / "examples/refused-2-ms.csv")
+    same("an old sheet", [line[0] for line in told(b)], ["safe", "unsafe"])

@@ -1,0 +1,141 @@
+"""The desk page in chromium against the native library: real input (hands.py), then decisions, 300 random lines and refusals.
+
+tests/browser.py runs it; by itself: python3 desk/tests/page.py, after `make libraries desk`."""
+import json
+import os
+import random
+import re
+import subprocess
+import sys
+
+from common import NAMES, PAGE, ROOT, cell, plain, same, told, wrong
+from devtools import Browser
+from hands import drawn, keys, opened, paste, ranges
+from hocsimbur import advice, checking, decision, licence, lines, names, reasons, sheets
+
+
+def stations(b):
+    """Decisions, sentences and changes as the command tells them."""
+    sheet = (ROOT / "examples/portfolio.csv").read_bytes()
+    granted = licence.read((ROOT / "examples/licence.csv").read_bytes())
+    b.click("#sample")
+    for one in decision.portfolio(sheet, granted).stations:
+        if not one.lines:
+            continue
+        row = next(i for i, case in enumerate(sheets.cases(sheet)) if case["station"] == one.station)
+        b.click(cell(row, "station")), b.settle()
+        said = plain(b.run("document.querySelector('#station .decision').textContent"))
+        same(f"decision {one.station}", said, plain(" ".join(reasons.decision(one))))
+        said = [reasons.differences(one), reasons.outside(one), *reasons.undecided(one), reasons.current(one)]
+        said += [] if one.answer.small_wire else [reasons.wire(one)]
+        said = [plain(text) for text in said if text] + ["Caution: " + plain(text) for text in reasons.cautions(one)]
+        shown = json.loads(b.run("JSON.stringify([...document.querySelectorAll('#station .asides li')].map(e => e.textContent))"))
+        same(f"asides {one.station}", [plain(text) for text in shown], said)
+        wanted = [plain(change.words) for change in advice.changes(sheet, one.station, granted)]
+        found = json.loads(b.run("""JSON.stringify([...document.querySelectorAll('#station .next li')].map(e => {
+          const s = e.querySelector('small'), t = s ? s.textContent : ''; if (s) s.remove();
+          const v = e.querySelector('.verb'); if (v) v.remove(); return e.textContent + (t ? '@' + t : ''); }))"""))
+        same(f"changes {one.station}", [re.sub("@", ", " if text.startswith("yard") else "; ", plain(text)) for text in found], wanted)
+    b.click("#view-stations"), b.settle()
+    same("released", b.run("document.querySelectorAll('#stations .badge.released').length"), 4)
+    b.click("#stations input[aria-label='Season 3 of station 104 is in the licence']"), b.settle()
+    same("season without a line", "season 3 has no line" in plain(b.run("document.querySelector('#stations').textContent")).lower(), True)
+    b.click("#undo"), b.click("#view-lines")
+
+
+def random_case(rng, number):
+    case = {}
+    for name in names.NAMES:
+        case[name.name] = rng.choice(name.only) if name.only else rng.randint(name.low, name.high)
+    case.update(station=number, season=1)
+    if rng.random() < 0.3:
+        case.update(layer=0, thick=0)
+    if rng.random() < 0.4:
+        case.update(rods=0, rodlen=0, place=0)
+    else:
+        case.update(rods=rng.randint(1, 200), place=rng.randint(1, 2))
+    case["fault"] = rng.choice([case["fault"], rng.randint(100, 5000)])
+    return case
+
+
+def many(b):
+    """Random lines, judged by the page and by the native library."""
+    rng = random.Random(80)
+    cases = [random_case(rng, number) for number in range(1, 301)]
+    counts = {}
+    for part in (cases[:150], cases[150:]):
+        b.click("#new"), b.click(cell(0, "station"))
+        b.paste("\n".join("\t".join(str(case[name]) for name in NAMES) for case in part)), b.settle()
+        asked = subprocess.run([str(ROOT / "hocsimbur"), "verdict", "--csv", "-"], input=sheets.text(part), stdout=subprocess.PIPE,
+                               check=False, env={**os.environ, "PYTHONDONTWRITEBYTECODE": "1"})
+        same("the command's verdicts", [line[0] for line in told(b)], [line.split(",")[2] for line in asked.stdout.decode().split()[1:]])
+        for one, said in zip(lines.gather(sheets.text(part)), told(b)):
+            near = one.nearest
+            wire = f"{one.row.kcmil:,}" + (f" > {decision.kcmil(one.case['dia']):,}" if one.small_wire else "")
+            word = one.row.verdict.name.lower()
+            counts[word] = counts.get(word, 0) + 1
+            margin = plain(f"{reasons.margin(near)} {'from ' if near.side == lines.NOT_PARTED else ''}{near.limit}")
+            same(f"random line {one.number}", [plain(text) for text in said],
+                 [word, margin, wire, f"{one.headroom:,}" if one.headroom else "none"])
+    print("browser: desk page, random lines:", counts)
+
+
+def refusals(b):
+    """Spoilt cells: the page's words are those of `hocsimbur check`, but for what the page itself mends or a text cannot hold."""
+    rng, base = random.Random(81), "7,1,400,2500,102,500,500,500,70,3180,600,10,11,11,7000,500,100,4,3000,1,1,60".split(",")
+    texts = ["", "-5", "62.5", "1234567", "4 kA", "abc", "0", "99999", "1", "3", "250000", ".5", "12x", "+-", "7.25"]
+    spoilt = []
+    for place, name in enumerate(NAMES):
+        for text in texts:
+            line = list(base)
+            line[0], line[place] = str(len(spoilt) + 1) if place else text, text
+            spoilt.append(line)
+    rng.shuffle(spoilt)
+    compared = 0
+    for first in range(0, len(spoilt), 110):
+        part = spoilt[first:first + 110]
+        b.click("#new"), b.click(cell(0, "station"))
+        b.paste("\n".join("\t".join(line) for line in part)), b.settle()
+        sheet = "".join(",".join(line) + "\n" for line in [NAMES, *part]).encode()
+        wanted = {found.line: found for found in checking.check(sheet)}
+        for number, said in enumerate(told(b), 2):
+            found = wanted.get(number)
+            if (len(said) == 1) != (found is not None):
+                wrong.append(f"refusal of line {number}: {said}, {found}")
+            elif found:
+                compared += 1
+                words = found.said.split(": ", 1)[1]
+                name = NAMES[found.column - 1] + ": " if found.column else ""
+                word = "to fill in" if "no value stands here" in words else "refused"
+                same(f"words of {part[number - 2]}", plain(said[0]), plain(f"{word}{name}{words}"))
+    print("browser: desk page, refusals compared:", compared)
+
+
+def closed(b):
+    """Nothing may be fetched, and nothing was."""
+    same("fetch", b.run("fetch('https://example.com').then(() => 'open', () => 'closed')"), "closed")
+    same("picture", b.run("new Promise(d => { const i = new Image(); i.onload = () => d('open'); i.onerror = () => d('closed');"
+                          " i.src = 'https://example.com/a.png'; })"), "closed")
+    same("file", b.run("fetch(location.href).then(() => 'open', () => 'closed')"), "closed")
+
+
+def judge():
+    """What is wrong with the page."""
+    b = Browser()
+    try:
+        b.open(PAGE)
+        for part in (keys, ranges, paste, drawn, stations, opened, many, refusals):
+            before = len(wrong)
+            part(b)
+            print(f"browser: desk page, {part.__name__}: {'as it should be' if len(wrong) == before else 'WRONG'}")
+        wrong.extend(b.wrong())
+        same("asked for", [url for url in b.asked() if not url.startswith("file:")], [])
+        closed(b)
+    finally:
+        b.close()
+    return wrong
+
+
+if __name__ == "__main__":
+    print("\n".join(judge()[:25]))
+    sys.exit(1 if wrong else 0)

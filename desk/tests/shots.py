@@ -1,0 +1,55 @@
+"""Pictures of the main states of the page, in the folder shots."""
+import sys
+from pathlib import Path
+
+HERE = Path(__file__).resolve().parent
+sys.path.insert(0, str(HERE))
+sys.dont_write_bytecode = True
+from devtools import Browser  # noqa: E402
+
+OUT = HERE.parents[1] / "target" / "browser"
+
+
+def cell(row, column):
+    return f'#sheet td[data-r="{row}"][data-c="{column}"]'
+
+
+def hover(b, part):
+    x, y = b.run("(() => { const r = document.querySelector('.plot').getBoundingClientRect();"
+                 " return [r.left + r.width * %s, r.top + r.height * .5]; })()" % part)
+    b.mouse("mouseMoved", x, y)
+
+
+def main():
+    OUT.mkdir(parents=True, exist_ok=True)
+    b = Browser()
+    def shot(name):
+        b.shot(OUT / f"{name}.png")
+    try:
+        b.open(HERE.parents[1] / "target/desk/hocsimbur.html")
+        shot("empty")
+        b.click("#begin"), b.click(cell(5, 9)), shot("sample")
+        b.click(cell(5, 17)), hover(b, .6), shot("what-if")
+        b.mouse("mouseMoved", 5, 5), b.click(cell(15, 15)), shot("what-if-undecided")
+        b.click("#view-stations"), b.click('#stations [data-key="152"]'), shot("stations")
+        b.dark(True), shot("dark-stations")
+        b.click("#view-lines"), b.click(cell(5, 2)), shot("dark"), b.dark(False)
+        b.click(cell(5, 15)), b.type("60"), shot("typing"), b.key("Enter"), b.key("ArrowUp"), b.settle(), shot("refused")
+        b.dark(True), shot("dark-refused"), b.dark(False)
+        b.size(1024, 800), b.settle(), b.click(cell(5, 14)), shot("refused-1024")
+        b.size(1280, 900), b.settle(), b.click("#undo"), b.click(cell(5, 9))
+        b.size(768, 1024), b.settle(), b.click(cell(5, 9)), shot("narrow-768")
+        b.size(375, 812, 2), b.settle(), b.click(cell(5, 2)), shot("narrow-375")
+        b.click("#view-stations"), shot("narrow-375-stations"), b.click("#view-lines")
+        b.run("document.querySelector('#middle').scrollIntoView()"), shot("narrow-375-what-if")
+        b.size(1600, 1000), b.settle(), b.run("scrollTo(0, 0)"), shot("wide-1600")
+        import base64
+        data = b.call("Page.printToPDF", preferCSSPageSize=True, printBackground=True)["data"]
+        (OUT / "print.pdf").write_bytes(base64.b64decode(data))
+        print(b.wrong())
+    finally:
+        b.close()
+
+
+if __name__ == "__main__":
+    main()
