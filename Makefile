@@ -45,7 +45,7 @@ PROGRAMS = verdict rows margins summary fewest carry carry_back
 PLATFORMS = linux-x86_64 linux-aarch64 windows-x86_64 wasm32
 
 .NOTPARALLEL:
-.PHONY: all libraries desk install uninstall clean dist wheel panel harness sanitized wrong wrong-names check check-python
+.PHONY: all libraries desk install uninstall clean dist wheel panel harness sanitized wrong wrong-names check check-python check-desk
 
 all: libraries panel
 
@@ -141,8 +141,8 @@ wheel: libraries targets
 
 # the desk page: the modules, the style, the command's words and the library in one file
 desk: target/desk/hocsimbur.html
-target/desk/hocsimbur.html: $(WASM_FILES) $(shell find desk/src -type f) $(wildcard desk/*.py python/hocsimbur/*.py) examples/portfolio.csv \
-    examples/licence.csv
+target/desk/hocsimbur.html: $(WASM_FILES) $(shell find desk/src -type f) $(wildcard desk/*.py python/hocsimbur/*.py) \
+    examples/portfolio.csv examples/licence.csv
 	$(PYTHON) desk/build.py target/wasm32/hocsimbur.wasm $@
 
 target/bin/%:
@@ -157,6 +157,13 @@ dist: wheel $(PROGRAMS:%=target/bin/%)
 check: libraries panel harness sanitized wrong
 	bash host/check.sh
 	$(MAKE) -s check-python
+
+# the page's modules under node, against the command word for word
+check-desk: libraries desk
+	HOCSIMBUR_LIBRARY= $(PYTHON) desk/tests/expected.py > target/desk/expected.json
+	EXPECTED=target/desk/expected.json node --test desk/tests/words.mjs desk/tests/built.mjs > target/desk/tests \
+	    || (cat target/desk/tests; exit 1)
+	@sed -n 's/^# pass /desk: tests that pass: /p' target/desk/tests
 
 # the tests of the package ask the library that was built here
 check-python: libraries

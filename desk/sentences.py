@@ -82,7 +82,8 @@ def current():
         "now_up_to": template(reasons.now(station_of(differs=("fault",))), fault="7\u00a0A").replace("{fault}", "{fault}\u00a0A"),
         "short": [reasons.greatest(station_of(fault=0)), template(reasons.greatest(station_of()), fault="515,151"),
                   template(reasons.greatest(station_of(missing=(2,))), fault="515,151"),
-                  template(reasons.greatest(station_of(fault=most)), fault=f"{most:,}")],
+                  template(reasons.greatest(station_of(fault=most)), fault=f"{most:,}"),
+                  template(reasons.greatest(station_of(fault=most, missing=(2,))), fault=f"{most:,}")],
     }
 
 

@@ -19,8 +19,8 @@ from hocsimbur.core import Pair  # noqa: E402
 NAMES = [name.name for name in names.NAMES]
 COUNT = 1000
 SOUND = "7,1,400,2500,102,500,500,500,70,3180,600,10,11,11,7000,500,100,4,3000,1,1,60".split(",")
-WRONG = ["", "0", "00", "007", "-5", "+7", "\u22125", "62.5", "62.", "62.0", ".5", "1234567", "4 kA", "3m", "abc", "x1", "99999", "1", "3", "250000",
-         "1e3", "1 000", "\u00b2", "\u0663", "m" * 60, "7.25", "é", "'7'", "--", "12x", "5%"]
+WRONG = ["", "0", "00", "007", "-5", "+7", "\u22125", "62.5", "62.", "62.0", ".5", "1234567", "4 kA", "3m", "abc", "x1", "99999", "1", "3",
+         "250000", "1e3", "1 000", "\u00b2", "\u0663", "m" * 60, "7.25", "é", "'7'", "--", "12x", "5%"]
 
 
 def random_case(rng: random.Random, station: int, season: int) -> Dict[str, int]:
@@ -28,8 +28,8 @@ def random_case(rng: random.Random, station: int, season: int) -> Dict[str, int]
     case = {name.name: rng.choice(name.only) if name.only else rng.randint(name.low, name.high) for name in names.NAMES}
     if rng.random() < 0.7:
         case.update(zip(NAMES, map(int, SOUND)))
-        case.update(soil=rng.randint(50, 600), fault=rng.randint(500, 9000), across=rng.randint(6, 16), along=rng.randint(6, 16))
-        case.update(metal=rng.randint(1, 11), dia=rng.choice((50, 80, 100, 134, 200)), shock=rng.choice((200, 500, 1000)))
+        case.update(soil=rng.randint(20, 400), fault=rng.randint(500, 6000), across=rng.randint(6, 16), along=rng.randint(6, 16))
+        case.update(metal=rng.randint(1, 11), dia=rng.choice((50, 100, 134, 200, 300)), shock=rng.choice((200, 500, 1000)))
     case.update(station=station, season=season)
     if rng.random() < 0.3:
         case.update(layer=0, thick=0)
@@ -62,8 +62,8 @@ def mended(rng: random.Random):
         text = "".join(rng.choice(signs) for _ in range(rng.randint(1, 9))).strip(" \u00a0\u202f\u2007\ufeff")
         if rng.random() < 0.4:
             number = rng.randint(0, 10 ** rng.randint(1, 7))
-            text = rng.choice((f"{number:,}", f"{number}.0", f"{number:,}".replace(",", "."), f"{number:,}".replace(",", "\u00a0"), f"{number},00",
-                               f"{number / 1000:e}", f"{number}.", f"0{number}", f"+{number}"))
+            text = rng.choice((f"{number:,}", f"{number}.0", f"{number:,}".replace(",", "."), f"{number:,}".replace(",", "\u00a0"),
+                               f"{number},00", f"{number / 1000:e}", f"{number}.", f"0{number}", f"+{number}"))
         sign = rng.choice(",;\t")
         try:
             made = spreadsheet._value(text, "soil", "", sign, spreadsheet.Changes())
@@ -99,47 +99,57 @@ def station_words(sheet: bytes, granted, one) -> Dict:
 
 def portfolios(rng: random.Random):
     """Sheets of several stations with a licence, and what is said of every station and line."""
-    for _ in range(COUNT // 25):
+    for _ in range(COUNT // 5):
         cases = []
         for station in range(1, rng.randint(2, 5)):
             first = random_case(rng, station, 1)
             for season in sorted(rng.sample((1, 2, 3, 4), rng.randint(1, 4))):
-                other = dict(first, season=season, soil=rng.randint(10, 800))
+                other = dict(first, season=season, soil=rng.randint(10, 400))
                 if rng.random() < 0.15:
                     other.update(depth=rng.randint(250, 2500))
                 if rng.random() < 0.15:
                     other.update(fault=rng.randint(100, 9000))
                 cases.append(other)
         rng.shuffle(cases)
-        licensed = [licence.Licensed(station, rng.choice(("", "Ashgrove", "Elm, west")), tuple(sorted(rng.sample((1, 2, 3, 4), rng.randint(1, 4)))))
-                    for station in range(1, 7) if rng.random() < 0.6]
+        licensed = []
+        for station in range(1, 7):
+            there = {case["season"] for case in cases if case["station"] == station}
+            asked = there if there and rng.random() < 0.7 else rng.sample((1, 2, 3, 4), rng.randint(1, 4))
+            if rng.random() < 0.7:
+                licensed.append(licence.Licensed(station, rng.choice(("", "Ashgrove", "Elm, west")), tuple(sorted(asked))))
         granted = licence.Licence(tuple(licensed)) if licensed else None
         sheet = sheets.text(cases)
         stations = [one for one in decision.portfolio(sheet, granted).stations if one.lines]
         yield {
             "rows": [[str(case[name]) for name in NAMES] for case in cases],
             "licence": [[one.station, one.name, list(one.seasons)] for one in licensed],
-            "lines": [[one.row.verdict.name.lower(), reasons.margin(one.nearest), one.nearest.limit, one.row.kcmil, one.headroom, one.small_wire]
-                      for one in lines.gather(sheet)],
+            "lines": [[one.row.verdict.name.lower(), reasons.margin(one.nearest), one.nearest.limit, one.row.kcmil, one.headroom,
+                       one.small_wire] for one in lines.gather(sheet)],
             "stations": [station_words(sheet, granted, one) for one in stations],
         }
 
 
+def quoted(cell: str) -> str:
+    return '"' + cell.replace('"', '""') + '"' if set(cell) & set(',"') else cell
+
+
 def licences(rng: random.Random):
     """Licences, right and damaged: the stations or the sentence."""
-    cells = ["7", "8", "65535", "0", "65536", "x", "07", "", "1", "1 2", "4 3 1", "1 1", "5", "1;2", "a", "Elm, west", 'say "so"', "\x07", "1 2 3 4 5", " 7 "]
+    cells = ["7", "8", "65535", "0", "65536", "x", "07", "", "1", "1 2", "4 3 1", "1 1", "5", "1;2", "a", "Elm, west", 'say "so"', "\x07",
+             "1 2 3 4 5", " 7 "]
     for _ in range(COUNT // 4):
         order = rng.sample(("station", "name", "seasons"), 3)
         made = [order]
         for station in range(rng.randint(0, 4)):
-            right = {"station": str(station + 1), "name": rng.choice(cells), "seasons": " ".join(sorted(rng.sample("1234", rng.randint(1, 4))))}
+            seasons = " ".join(sorted(rng.sample("1234", rng.randint(1, 4))))
+            right = {"station": str(station + 1), "name": rng.choice(cells), "seasons": seasons}
             line = [right[column] for column in order]
             if rng.random() < 0.4:
                 line[rng.randrange(3)] = rng.choice(cells)
             if rng.random() < 0.05:
                 line.append("more")
             made.append(line)
-        text = "".join(",".join('"' + cell.replace('"', '""') + '"' if set(cell) & set(',"') else cell for cell in line) + "\n" for line in made)
+        text = "".join(",".join(map(quoted, line)) + "\n" for line in made)
         try:
             found = [[one.station, one.name, list(one.seasons)] for one in licence.read(text.encode()).stations]
         except licence.LicenceRefused as error:

@@ -41,9 +41,9 @@ export function now(station) {
 const MOST = data.names.find((one) => one.name === 'fault').high;
 
 export function greatest(station) {
-  const [none, plain, atMost, end] = data.current.short;
+  const [none, plain, atMost, end, atMostEnd] = data.current.short, gone = station.missing.length;
   if (station.fault === 0) return none;
-  const template = station.fault === MOST ? end : station.missing.length ? atMost : plain;
+  const template = station.fault === MOST ? (gone ? atMostEnd : end) : gone ? atMost : plain;
   return fill(template, { fault: grouped(station.fault) });
 }
 

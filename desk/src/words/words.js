@@ -30,7 +30,7 @@ export function refusal(line, lines) {
   if (number === 5) return fill(data.refusals.range[name], { value: own[name] });
   if (number === 6) return fill(data.refusals[name], own);
   if (number === 7) {
-    const earlier = lines.find((one) => one.cells[0] === own.station && one.cells[1] === own.season);
+    const earlier = lines.find((one) => !one.refused && one.cells[0] === own.station && one.cells[1] === own.season);
     return fill(data.refusals.repeated, { ...own, earlier: `line ${earlier.number}` });
   }
   return data.refusals.own_fault;

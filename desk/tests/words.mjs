@@ -1,0 +1,97 @@
+// The page's judging and words under node, without a browser: a thousand inputs of each kind, word for word as the command has them.
+//
+//     EXPECTED=.. node --test desk/tests/words.mjs     after `make desk`; EXPECTED is what desk/tests/expected.py wrote
+import assert from 'node:assert/strict';
+import fs from 'node:fs';
+import test from 'node:test';
+
+// the three parts of the built page that the modules read
+const page = fs.readFileSync(new URL('../../target/desk/hocsimbur.html', import.meta.url), 'utf8');
+const part = (id) => page.match(new RegExp(`<script type="[a-z/]+" id="${id}">([^]*?)</script>`))[1];
+globalThis.document = { getElementById: (id) => ({ textContent: part(id) }) };
+
+const expected = JSON.parse(fs.readFileSync(process.env.EXPECTED, 'utf8'));
+const core = await import('../src/library/core.js');
+const decimals = await import('../src/words/decimals.js');
+const words = await import('../src/words/words.js');
+const { parsed, whole } = await import('../src/sheet/reading.js');
+const { isLicence, licenceOf } = await import('../src/sheet/licence.js');
+const { judge } = await import('../src/judging/judging.js');
+const { portfolio } = await import('../src/judging/stations.js');
+const sentences = await import('../src/judging/sentences.js');
+const { changes } = await import('../src/judging/advice.js');
+await core.start();
+
+test('decimals are rounded outward alike', () => {
+  for (const [lower, upper, scale, places, ends, exact, grouped] of expected.shown) {
+    assert.equal(decimals.ends({ lower, upper }, scale, places), ends);
+    assert.equal(decimals.exact(lower, scale), exact);
+    assert.equal(decimals.grouped(upper), grouped);
+  }
+  for (const [number, share] of expected.shares) assert.equal(decimals.share(number), share);
+});
+
+test('a cell becomes the same whole number, or none', () => {
+  let made = 0;
+  for (const [text, sign, number] of expected.mended) {
+    const found = whole(text, sign), digits = /^(0|[1-9]\d*)?$/.test(found) ? found : null;
+    assert.equal(digits, number, JSON.stringify([text, sign]));
+    made += number !== null;
+  }
+  assert.ok(made > 200 && made < 900, `${made} are whole numbers`);
+});
+
+test('every refusal has the same words, at the same line and column', () => {
+  let count = 0;
+  const seen = new Set();
+  for (const [rows, refusals] of expected.refused) {
+    const judged = judge(rows);
+    const said = (line) => `${words.refusedPlace(line)}: ${words.refusal(line, judged.lines)}`;
+    const found = judged.lines.filter((line) => line.refused)
+      .map((line) => [line.refused.number, line.number, line.refused.column, said(line)]);
+    assert.deepEqual(found, refusals);
+    count += found.length;
+    found.forEach(([number]) => seen.add(number));
+  }
+  assert.ok(count > 500, `${count} refusals`);
+  assert.deepEqual([...seen].sort(), [3, 5, 6, 7]);
+});
+
+// a terminal has plain spaces between a number and its unit where the page has those that do not break
+const plain = (text) => text.replaceAll('\u00a0', ' ');
+const changeWords = ({ kind, words: said, then }) => plain(`${kind}: ${said}${then ? `${kind === 'yard' ? ', ' : '; '}${then}` : ''}`);
+
+test('lines and stations are told alike: verdicts, margins, decisions, asides, cautions and what to change', () => {
+  let released = 0, held = 0, changed = 0;
+  for (const { rows, licence, lines, stations } of expected.portfolios) {
+    const judged = judge(rows), granted = new Map(licence.map(([station, name, seasons]) => [station, { name, seasons, byLicence: true }]));
+    assert.deepEqual(judged.lines.map((line) => [words.verdict(line), words.margin(line.nearest), line.nearest.limit, line.row.kcmil,
+      line.headroom, line.small]), lines);
+    const asked = portfolio(judged, granted);
+    for (const wanted of stations) {
+      const one = asked.at.get(wanted.station);
+      const found = {
+        station: one.station, decision: sentences.decision(one, asked.unread), asides: sentences.asides(one),
+        cautions: sentences.cautions(one), greatest: sentences.greatest(one), now: sentences.now(one),
+        changes: changes(one).map(changeWords),
+      };
+      assert.deepEqual(found, { ...wanted, changes: wanted.changes.map(plain) });
+      if (one.released) released++;
+      else held++;
+      changed += found.changes.length;
+    }
+  }
+  assert.ok(released > 50 && held > 150 && changed > 700, `${released} released, ${held} held, ${changed} changes`);
+});
+
+test('a licence is read or refused in the same words', () => {
+  let refused = 0;
+  for (const [text, wanted] of expected.licences) {
+    const { lines } = parsed(text);
+    assert.ok(isLicence(lines[0]), text);
+    const found = licenceOf(lines);
+    assert.deepEqual(found.refused ?? [...found.licence].map(([station, { name, seasons }]) => [station, name, seasons]), wanted, text);
+    refused += Boolean(found.refused);
+  }
+  assert.ok(refused > 50 && refused < expected.licences.length - 20, `${refused} refused`);
+});
