@@ -148,7 +148,7 @@ target/desk/hocsimbur.html: $(WASM_FILES) $(shell find desk/src -type f) $(wildc
 target/bin/%:
 	bash .ci/in_memory rt check $*
 
-dist: wheel $(PROGRAMS:%=target/bin/%)
+dist: wheel desk $(PROGRAMS:%=target/bin/%)
 	rm -rf target/dist
 	for platform in $(PLATFORMS); do \
 	    bash host/dist.sh $$platform target/dist/hocsimbur-$(VERSION)-$$platform $(VERSION) $(PROGRAMS) || exit 1; \

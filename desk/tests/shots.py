@@ -1,4 +1,7 @@
-"""Pictures of the main states of the page, in the folder shots."""
+"""Pictures of the main states of the desk page, in target/browser; with a path, also the one that README shows.
+
+    python3 desk/tests/shots.py [docs/desk.png]"""
+import base64
 import sys
 from pathlib import Path
 
@@ -8,6 +11,7 @@ sys.dont_write_bytecode = True
 from devtools import Browser  # noqa: E402
 
 OUT = HERE.parents[1] / "target" / "browser"
+SMALLER = 0.75  # of the picture for README
 
 
 def cell(row, column):
@@ -30,6 +34,8 @@ def main():
         shot("empty")
         b.click("#begin"), b.click(cell(5, 9)), shot("sample")
         b.click(cell(5, 17)), hover(b, .6), shot("what-if")
+        if len(sys.argv) > 1:
+            b.size(1280, 900, SMALLER), b.shot(sys.argv[1]), b.size(1280, 900)
         b.mouse("mouseMoved", 5, 5), b.click(cell(15, 15)), shot("what-if-undecided")
         b.click("#view-stations"), b.click('#stations [data-key="152"]'), shot("stations")
         b.dark(True), shot("dark-stations")
@@ -43,7 +49,6 @@ def main():
         b.click("#view-stations"), shot("narrow-375-stations"), b.click("#view-lines")
         b.run("document.querySelector('#middle').scrollIntoView()"), shot("narrow-375-what-if")
         b.size(1600, 1000), b.settle(), b.run("scrollTo(0, 0)"), shot("wide-1600")
-        import base64
         data = b.call("Page.printToPDF", preferCSSPageSize=True, printBackground=True)["data"]
         (OUT / "print.pdf").write_bytes(base64.b64decode(data))
         print(b.wrong())
