@@ -28,8 +28,8 @@ SONAME = libhocsimbur.so.$(firstword $(subst ., ,$(VERSION)))
 SHARED = libhocsimbur.so.$(VERSION)
 
 OUT = target/host
-# three archives, so that the rows are compiled by themselves: what the compiler inlines for them does not hang on the other entries
 WASM_FILES = target/wasm32/hocsimbur.wasm target/wasm32/hocsimbur.mjs
+# three archives, so that the rows are compiled by themselves: what the compiler inlines for them does not hang on the other entries
 ARCHIVES = target/staticlib/libc_entry.a target/staticlib/libc_questions.a target/staticlib/libc_lines.a
 STATIC_LIBRARY = $(OUT)/libhocsimbur.a
 SHARED_LIBRARY = $(OUT)/$(SHARED)
@@ -141,7 +141,7 @@ wheel: libraries targets
 
 # the desk page: the modules, the style, the command's words and the library in one file
 desk: target/desk/hocsimbur.html
-target/desk/hocsimbur.html: $(WASM_FILES) $(shell find desk/src -type f) $(wildcard desk/*.py python/hocsimbur/*.py) \
+target/desk/hocsimbur.html: $(WASM_FILES) $(shell find desk/src -type f) $(wildcard desk/*.py python/hocsimbur/*.py python/hocsimbur/*/*.py) \
     examples/portfolio.csv examples/licence.csv
 	$(PYTHON) desk/build.py target/wasm32/hocsimbur.wasm $@
 

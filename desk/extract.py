@@ -7,9 +7,12 @@ from __future__ import annotations
 import dataclasses
 from types import SimpleNamespace as Fake
 
-from hocsimbur import core, drawing, forms, labels, names, pages, plan, spreadsheet, style, tables, words
+from hocsimbur import core
 from hocsimbur.core import Refused
-from hocsimbur.lines import YARD
+from hocsimbur.portfolio.licence import MOST_AREA
+from hocsimbur.portfolio.lines import YARD
+from hocsimbur.report import drawing, pages, plan, style, tables
+from hocsimbur.sheets import catalogue, forms, labels, names, spreadsheet, words
 from sentences import advised, asides, current, differences, licences, margins, released, told, tried
 from templates import HEADER, template
 
@@ -46,7 +49,7 @@ def refusals():
     repeated = words.refusal(Refused(7, 3, 0), words.Asked(sheet, line_numbers=[1, 5151, 6161])).split(": ", 1)[1]
     many = words.Asked(b"x\n" + b"1\n" * 300)
     try:
-        spreadsheet._exact("4,242", "\t")
+        spreadsheet.exact("4,242", "\t")
         ambiguous = ""
     except ValueError as error:
         ambiguous = template(str(error), text="4,242", joined="4242", parted="4.242")
@@ -58,8 +61,8 @@ def refusals():
         "lines": template(words.refusal(Refused(4, 258, 0), many).split(": ", 1)[1], count=300),
         "no_lines": words.refusal(Refused(4, 2, 0), words.Asked(b"x\n")).split(": ", 1)[1],
         "missing_name": template(forms.missing_names(HEADER[:20], HEADER), names="metal and hz are", count=20),
-        "unknown_name": template(forms._unknown("qqqq", HEADER, HEADER), name="qqqq"),
-        "own_fault": words._OWN_FAULT,
+        "unknown_name": template(forms.unknown_name("qqqq", HEADER, HEADER), name="qqqq"),
+        "own_fault": words.OWN_FAULT,
     }
 
 
@@ -103,11 +106,12 @@ def data():
     return {
         "names": [{**dataclasses.asdict(one), "allowed": one.allowed} for one in names.NAMES],
         "former": names.FORMER, "metals": names.METALS,
+        "wires": {name: wire.kcmil for name, wire in catalogue.WIRES.items()}, "most_area": MOST_AREA,
         "places": labels.PLACES, "labels": {name: shown(label) for name, label in labels.LABELS.items()}, "yard": YARD,
         "row": fields(core.Row), "working": fields(core.Working), "release": fields(core.Release),
         "lines": core.LINES, "sheet_bytes": core.SHEET_BYTES,
-        "results": quantities(tables.RESULTS), "workings": quantities(tables.WORKING), "formulas": tables._FORMULAS,
-        "shapes": drawing._SHAPES, "verdicts": {int(verdict): word for verdict, word in words._VERDICTS.items()},
+        "results": quantities(tables.RESULTS), "workings": quantities(tables.WORKING), "formulas": tables.FORMULAS,
+        "shapes": drawing.SHAPES, "verdicts": {int(verdict): word for verdict, word in words.VERDICTS.items()},
         "scale": {"limit": drawing.LIMIT, "least": drawing.LEAST_TOP, "most": drawing.MOST_TOP, "step": drawing.STEP},
         "plan": {"left": plan.LEFT, "top": plan.TOP, "width": plan.WIDTH, "height": plan.HEIGHT, "whole": plan.WHOLE_WIDTH,
                  "bars": plan.SCALE_BARS,
@@ -115,5 +119,5 @@ def data():
         "refusals": refusals(), "margins": margins(), "told": told(), "current": current(), "differences": differences(),
         "asides": asides(),
         "released": {str(licensed): [released(count, licensed) for count in (1, 2, 3, 4)] for licensed in (True, False)},
-        "tried": tried(), "advised": advised(), "licences": licences(), "proved": pages._PROVED,
+        "tried": tried(), "advised": advised(), "licences": licences(), "proved": pages.PROVED,
     }

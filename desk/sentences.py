@@ -6,10 +6,14 @@ from __future__ import annotations
 from types import SimpleNamespace as Fake
 from unittest import mock
 
-from hocsimbur import advice, candidates, decision, licence, names, reasons
 from hocsimbur.core import Pair, Verdict
-from hocsimbur.lines import Compared
+from hocsimbur.portfolio import advice, candidates, decision, licence, reasons
+from hocsimbur.portfolio.compared import Compared, margin, share
+from hocsimbur.sheets import names
+from hocsimbur.sheets.files import Place
 from templates import HEADER, template
+
+HERE = Place("", 2)  # a line of a sheet that is the only one
 
 
 def compared(limit, voltage=(1, 2), tolerable=(3, 4), margin=0):
@@ -18,50 +22,54 @@ def compared(limit, voltage=(1, 2), tolerable=(3, 4), margin=0):
 
 def margins():
     """Margins and what is above or not parted, of touch and of step."""
-    size = reasons.share(4242)
+    size = share(4242)
     limits = {}
     for limit in ("touch", "step"):
         one = compared(limit, margin=4242)
-        limits[limit] = {"kind": one.kind, "above": template(reasons._above(one), share=size), "not_parted": reasons._not_parted(one)}
+        limits[limit] = {"kind": one.kind, "above": template(reasons.voltage_above(one), share=size),
+                         "not_parted": reasons.voltage_not_parted(one)}
     return {
-        "above": template(reasons.margin(compared("touch", (9, 9), (3, 4), 4242)), share=size),
-        "below": template(reasons.margin(compared("touch", (1, 2), (3, 4), -4242)), share=size),
-        "least": reasons.margin(compared("touch")), "not_parted": reasons.margin(compared("touch", (1, 9), (3, 4))), "limits": limits,
+        "above": template(margin(compared("touch", (9, 9), (3, 4), 4242)), share=size),
+        "below": template(margin(compared("touch", (1, 2), (3, 4), -4242)), share=size),
+        "least": margin(compared("touch")), "not_parted": margin(compared("touch", (1, 9), (3, 4))), "limits": limits,
         "percent": template(size, number="424.2"),
     }
 
 
 def line_of(season=3, **more):
     case = dict.fromkeys(HEADER, 7)
-    return Fake(season=season, headroom=more.pop("headroom", 5), wire_to=more.pop("wire_to", 999999), small_wire=False,
+    return Fake(season=season, headroom=more.pop("headroom", 5), small_wire=False, area=0,
                 row=Fake(kcmil=1, verdict=1), compared=(), nearest=compared("touch", margin=-4242), case={**case, **more})
 
 
 def station_of(**more):
-    base = {"released": False, "seasons": (1, 2), "lines": (line_of(),), "missing": (), "differs": (), "fault": 515151, "reasons": (),
-            "licensed": Fake(by_licence=False), "worst": line_of(), "size": decision.Size(424242, 1717, 535353)}
+    base = {"released": False, "seasons": (1, 2), "lines": (line_of(),), "missing": (), "differs": (), "fault": 515151,
+            "wire_to": 999999, "reasons": (), "licensed": Fake(by_licence=False), "worst": line_of(), "size": SIZES[0]}
     return Fake(**{**base, **more})
 
 
 def released(count, licensed):
     made = reasons.decision(station_of(released=True, seasons=tuple(range(count)), licensed=Fake(by_licence=licensed)))
-    return template(made[1], margin=reasons.share(4242) + " below", limit="touch", season="season 3").replace("{season}", "season {season}")
+    return template(made[1], margin=share(4242) + " below", limit="touch", season="season 3").replace("{season}", "season {season}")
+
+
+SIZES = (decision.Size(424242, 1717, 535353), decision.Size(424242, 1717, 535353, solid=False))  # by the diameter, by the licence
 
 
 def told():
     """Reasons to hold, each as its head and detail."""
-    size = decision.Size(424242, 1717, 535353)
     def of(reason, **tokens):
         made = reasons.told(reason)
         return [template(made.head, **{k: v for k, v in tokens.items() if str(v) in made.head}), made.detail]
-    wire = reasons.told(decision.SmallWire(size))
+    solid, own = (reasons.told(decision.SmallWire(size)) for size in SIZES)
     return {
-        "unsafe": of(decision.Unsafe(7, (compared("touch"),)), season=7)[0],
-        "undecided": of(decision.Undecided(7, (compared("touch"),)), season=7)[0],
+        "unsafe": of(decision.Unsafe(7, HERE, (compared("touch"),)), season=7)[0],
+        "undecided": of(decision.Undecided(7, HERE, (compared("touch"),)), season=7)[0],
         "missing": [reasons.told(decision.Missing((7,), True)).head, of(decision.Missing((7,), False), list=7)[0],
                     of(decision.Missing((7, 8), False), list="7 and 8")[0]],
         "yard": reasons.told(decision.OtherYard(("depth",))).head,
-        "wire": [wire.head, template(wire.detail, needed="424,242", diameter="171.7", own="535,353")],
+        "wire": [solid.head, template(solid.detail, needed="424,242", diameter="171.7", own="535,353"),
+                 template(own.detail, needed="424,242", own="535,353")],
     }
 
 
@@ -71,7 +79,7 @@ def current():
     tokens = {"by": "season 3", "now": "now 7\u00a0A"}
     def of(fault, **more):
         return reasons.current(station_of(fault=fault, lines=(line_of(headroom=fault),), **more))
-    wired = reasons.current(station_of(lines=(line_of(headroom=515151, wire_to=4242),)))
+    wired = reasons.current(station_of(lines=(line_of(headroom=515151),), wire_to=4242))
     return {
         "none": template(of(0), **tokens), "most": template(of(most), now=tokens["now"]),
         "most_where": template(of(most, missing=(2,)), now=tokens["now"]),
@@ -109,7 +117,8 @@ def asides():
                     template(reasons.outside(station_of(lines=(line_of(7), line_of(8)))), list="7 and 8")],
         "undecided": template(reasons.undecided(station_of(lines=(undecided,)))[0], season="Season 7", kind="mesh", limit="touch",
                               voltage="0.010 to 0.040", tolerable="0.020 to 0.030").replace("{season}", "Season {season}"),
-        "wire": template(reasons.wire(station_of()), needed="424,242", diameter="171.7", own="535,353"),
+        "wire": [template(reasons.wire(station_of(size=SIZES[0])), needed="424,242", diameter="171.7", own="535,353"),
+                 template(reasons.wire(station_of(size=SIZES[1])), needed="424,242", own="535,353")],
         "few": template(reasons.cautions(station_of(lines=(few,)))[0], rods="3 rods"),
         "stranded": reasons.cautions(station_of(lines=(strand,)))[0],
     }
@@ -130,7 +139,7 @@ def tried():
         "resistivity": template(first(candidates.resistivity), value="2,500", now="2,424"),
         "layer": template(first(candidates.layer), value=20, rock="2,500"),
         "shock": template(first(candidates.shock), value=1710, now="1,717"),
-        "kinds": {one.name: one.none for one in candidates._OF_YARD + candidates._OF_LAYER + candidates._OF_BARE + candidates._OF_SHOCK},
+        "kinds": {one.name: one.none for one in candidates.OF_YARD + candidates.OF_LAYER + candidates.OF_BARE + candidates.OF_SHOCK},
         "constants": {"fewest_rods": candidates.FEWEST_RODS, "rod_length": candidates.ROD_LENGTH, "rock": candidates.ROCK,
                       "steps": candidates.STEPS},
     }
@@ -141,25 +150,29 @@ def advised():
     case = {**dict.fromkeys(HEADER, 7), "season": 3, "dia": 171}
     wide = {"small": lambda cases: [True] * len(cases), "enough": lambda cases: [False] * len(cases)}
     with mock.patch.object(advice.asking, "small_wires", wide["enough"]):
-        wire = template(advice._wire((case,)).words, wire="wire: ", value="17.2", now="17.1")
+        wire = template(advice.thicker_wire((case,)).words, wire="wire: ", value="17.2", now="17.1")
     with mock.patch.object(advice.asking, "small_wires", wide["small"]):
-        no_wire = template(advice._wire((case,)).words, wire="wire: ")
+        no_wire = template(advice.thicker_wire((case,)).words, wire="wire: ")
+    area = Fake(area=717)
+    larger, no_larger = (advice.larger_wire(Fake(licensed=area, lines=(Fake(row=Fake(kcmil=needed)),))).words for needed in (919, 99999))
     yards = {}
-    with mock.patch.object(advice, "_nearest", lambda lines: "NEAREST"):
+    with mock.patch.object(advice, "nearest", lambda lines: "NEAREST"):
         for word, answer in (("safe", Verdict.SAFE), ("unsafe", Verdict.UNSAFE)):
             with mock.patch.object(advice.asking, "verdicts", lambda cases, answer=answer: [answer]):
-                agree, that = advice._yards((case,), ("depth",))
+                agree, that = advice.agreed_yards((case,), ("depth",))
             made = template(that.words, yard="yard: ", season="season 3")
             yards[word] = made.replace("{season}", "season {season}").replace("{yard}", "")
     with mock.patch.object(advice.core, "margins", lambda sheet: [Fake(mesh=-4242, step=-9999)]):
-        near = template(advice._nearest((case,)), share="424.2 %", limit="touch", season="season 3").replace("{season}", "season {season}")
-    with mock.patch.object(advice, "_lengths", mock.Mock(side_effect=[(0, 0), (4242 * 10 ** 6, 0), (4242 * 10 ** 6, 0), (0, 0)])):
-        more, less = (template(advice._added((), ())[2:], length="4,242", name="conductor") for _ in range(2))
+        near = template(advice.nearest((case,)), share="424.2 %", limit="touch", season="season 3").replace("{season}", "season {season}")
+    with mock.patch.object(advice, "lengths", mock.Mock(side_effect=[(0, 0), (4242 * 10 ** 6, 0), (4242 * 10 ** 6, 0), (0, 0)])):
+        more, less = (template(advice.added((), ())[2:], length="4,242", name="conductor") for _ in range(2))
     return {
         "wire": wire.replace("{wire}", ""), "no_wire": no_wire.replace("{wire}", ""),
+        "larger": template(larger, wire="wire: ", needed="919", now="717").replace("{wire}", ""),
+        "no_larger": template(no_larger, wire="wire: ").replace("{wire}", ""),
         "agree": template(agree.words, yard="yard: ", columns="depth").replace("{yard}", ""),
         "yards": {word: text.replace(", NEAREST", "") for word, text in yards.items()}, "nearest": near, "more": more, "less": less,
-        "missing": [template(advice._missing(decision.Missing(seasons, False)).words, missing="missing: ", seasons=said)
+        "missing": [template(advice.missing_lines(decision.Missing(seasons, False)).words, missing="missing: ", seasons=said)
                     .replace("{missing}", "")
                     for seasons, said in (((7,), "season 7"), ((7, 8), "seasons 7 and 8"))],
     }
@@ -169,15 +182,15 @@ def licences():
     """Refusals of a licence."""
     def of(*lines, **tokens):
         try:
-            licence.read("\n".join(("station,name,seasons", *lines)).encode())
+            licence.read("\n".join(("station,name,seasons,wire", *lines)).encode())
         except licence.LicenceRefused as refused:
             return template(str(refused), **tokens)
         raise SystemExit(f"extract: the licence {lines} is not refused")
     return {
-        "cells": of("7,a,1,2", line="line 2", count="4 cells").replace("{count}", "{count} cells"),
-        "station": of("42x,a,1", line="line 2", text="42x"),
-        "name": of("7,a\x07,1", line="line 2"), "again": of("4242,a,1", "4242,b,1", line="line 3", earlier="line 2", station="4242"),
-        "none": of("7,a,", line="line 2"), "season": of("7,a,1 42", line="line 2", text="42"),
-        "twice": of("7,a,3 3", line="line 2", text="3 3"),
-        "count": of(count="names 0").replace("{count}", "names {count}"),
+        "cells": of("7,a,1,,5", line="line 2", count="5 cells", columns="not 4").replace("{count}", "{count} cells")
+        .replace("{columns}", "not {columns}"),
+        "station": of("42x,a,1,", line="line 2", text="42x"),
+        "name": of("7,a\x07,1,", line="line 2"), "again": of("4242,a,1,", "4242,b,1,", line="line 3", earlier="line 2", station="4242"),
+        "none": of("7,a,,", line="line 2"), "season": of("7,a,1 42,", line="line 2", text="42"),
+        "twice": of("7,a,3 3,", line="line 2", text="3 3"), "wire": of("7,a,1,42x", line="line 2", text="42x"), "no_station": of(),
     }

@@ -8,7 +8,7 @@ ROOT = HERE.parents[1]
 PAGE = ROOT / "target/desk/hocsimbur.html"
 sys.path[:0] = [str(ROOT / "python"), str(HERE)]
 sys.dont_write_bytecode = True
-from hocsimbur import names  # noqa: E402
+from hocsimbur.sheets import names  # noqa: E402
 
 NAMES = [name.name for name in names.NAMES]
 wrong = []

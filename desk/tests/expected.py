@@ -1,7 +1,8 @@
 """What the command says to a thousand inputs of each kind, as JSON for words.mjs: python3 desk/tests/expected.py
 
 Where the page and the command both have logic of their own (decimals, the mending of numbers, kinds of wrong form, decisions and their
-order, candidates for what to change), both are asked the same, and words.mjs compares them word for word."""
+order, candidates for what to change, licences and the names of wires), both are asked the same, and words.mjs compares them word for
+word."""
 from __future__ import annotations
 
 import json
@@ -13,8 +14,10 @@ from typing import Dict, List
 ROOT = Path(__file__).resolve().parents[2]
 sys.path.insert(0, str(ROOT / "python"))
 
-from hocsimbur import advice, checking, decimals, decision, licence, lines, names, reasons, sheets, spreadsheet  # noqa: E402
 from hocsimbur.core import Pair  # noqa: E402
+from hocsimbur.portfolio import advice, decision, licence, lines, reasons  # noqa: E402
+from hocsimbur.portfolio.compared import margin, share  # noqa: E402
+from hocsimbur.sheets import checking, decimals, layout, names, spreadsheet  # noqa: E402
 
 NAMES = [name.name for name in names.NAMES]
 COUNT = 1000
@@ -52,7 +55,7 @@ def shown(rng: random.Random):
 def shares(rng: random.Random):
     for _ in range(COUNT):
         number = rng.randint(-2000, 10 ** rng.randint(1, 7))
-        yield [abs(number), reasons.share(abs(number))]
+        yield [abs(number), share(abs(number))]
 
 
 def mended(rng: random.Random):
@@ -63,17 +66,27 @@ def mended(rng: random.Random):
         if rng.random() < 0.4:
             number = rng.randint(0, 10 ** rng.randint(1, 7))
             text = rng.choice((f"{number:,}", f"{number}.0", f"{number:,}".replace(",", "."), f"{number:,}".replace(",", "\u00a0"),
-                               f"{number},00", f"{number / 1000:e}", f"{number}.", f"0{number}", f"+{number}"))
+                               f"{number},00", f"{number / 1000:e}", f"{number}.", f"0{number}", f"+{number}", f"-{number % 2}",
+                               f".{number}e{len(str(number))}"))
         sign = rng.choice(",;\t")
+        line = [f'"{text}"' if name == "soil" else right for name, right in zip(NAMES, SOUND)]
         try:
-            made = spreadsheet._value(text, "soil", "", sign, spreadsheet.Changes())
-        except ValueError:
+            found = spreadsheet.make(f"{sign.join(NAMES)}\n{sign.join(line)}\n".encode()).sheet
+            made = layout.cells(layout.lines(found)[1])[NAMES.index("soil")]
+        except spreadsheet.Refusals:
             made = None
         yield [text, sign, made]
 
 
+def check(rows: List[List[str]], places: List[int]) -> List[checking.Found]:
+    """What is refused of some lines, told with their places in a larger sheet."""
+    sheet = "".join(",".join(row) + "\n" for row in [NAMES, *rows]).encode()
+    return checking.check(sheet, [1, *places])
+
+
 def refused(rng: random.Random):
-    """Sheets of spoilt lines, and the words of every refusal."""
+    """Sheets of spoilt lines, and what the page tells of each: the first refusal of a line by itself, or else that it repeats one that is
+    right."""
     for _ in range(COUNT // 20):
         rows: List[List[str]] = []
         for number in range(20):
@@ -82,18 +95,20 @@ def refused(rng: random.Random):
             for _ in range(rng.choice((0, 1, 1, 1, 2))):
                 row[rng.randrange(len(row))] = rng.choice(WRONG)
             rows.append(row)
-        sheet = "".join(",".join(row) + "\n" for row in [NAMES, *rows]).encode()
-        yield [rows, [[one.number, one.line, one.column, one.said] for one in checking.check(sheet)]]
+        wrong = {line: check([row], [line]) for line, row in enumerate(rows, 2)}
+        right = [line for line, found in wrong.items() if not found]
+        found = [one[0] for one in wrong.values() if one] + (check([rows[line - 2] for line in right], right) if right else [])
+        yield [rows, [[one.number, one.line, one.column, one.said] for one in sorted(found, key=lambda one: one.line)]]
 
 
-def station_words(sheet: bytes, granted, one) -> Dict:
+def station_words(one: decision.Station) -> Dict:
     """All that is said of a station."""
     said = [reasons.differences(one), reasons.outside(one), *reasons.undecided(one), reasons.current(one)]
     said += [] if one.answer.small_wire else [reasons.wire(one)]
     return {
         "station": one.station, "decision": list(reasons.decision(one)), "asides": [text for text in said if text],
         "cautions": reasons.cautions(one), "greatest": reasons.greatest(one), "now": reasons.now(one),
-        "changes": [change.words for change in advice.changes(sheet, one.station, granted)],
+        "changes": [change.words for change in advice.changes(one)],
     }
 
 
@@ -116,16 +131,19 @@ def portfolios(rng: random.Random):
             there = {case["season"] for case in cases if case["station"] == station}
             asked = there if there and rng.random() < 0.7 else rng.sample((1, 2, 3, 4), rng.randint(1, 4))
             if rng.random() < 0.7:
-                licensed.append(licence.Licensed(station, rng.choice(("", "Ashgrove", "Elm, west")), tuple(sorted(asked))))
-        granted = licence.Licence(tuple(licensed)) if licensed else None
-        sheet = sheets.text(cases)
+                wire = rng.choice(("", "", "#4", "4/0", "95 mm2", "211 kcmil", "1000 kcmil"))
+                licensed.append(licence.Licensed(station, rng.choice(("", "Ashgrove", "Elm, west")), tuple(sorted(asked)), wire=wire))
+        text = licence.text(licence.Licence(tuple(licensed))) if licensed else ""
+        granted = licence.read(text.encode()) if licensed else None
+        areas = {one.station: one.area for one in granted.stations} if granted else {}
+        sheet = layout.text(cases)
         stations = [one for one in decision.portfolio(sheet, granted).stations if one.lines]
         yield {
             "rows": [[str(case[name]) for name in NAMES] for case in cases],
-            "licence": [[one.station, one.name, list(one.seasons)] for one in licensed],
-            "lines": [[one.row.verdict.name.lower(), reasons.margin(one.nearest), one.nearest.limit, one.row.kcmil, one.headroom,
-                       one.small_wire] for one in lines.gather(sheet)],
-            "stations": [station_words(sheet, granted, one) for one in stations],
+            "licence": text,
+            "lines": [[one.row.verdict.name.lower(), margin(one.nearest), one.nearest.limit, one.row.kcmil, one.headroom,
+                       one.small_wire] for one in lines.gather(sheet, areas=areas)],
+            "stations": [station_words(one) for one in stations],
         }
 
 
@@ -136,22 +154,30 @@ def quoted(cell: str) -> str:
 def licences(rng: random.Random):
     """Licences, right and damaged: the stations or the sentence."""
     cells = ["7", "8", "65535", "0", "65536", "x", "07", "", "1", "1 2", "4 3 1", "1 1", "5", "1;2", "a", "Elm, west", 'say "so"', "\x07",
-             "1 2 3 4 5", " 7 "]
-    for _ in range(COUNT // 4):
-        order = rng.sample(("station", "name", "seasons"), 3)
-        made = [order]
+             " 7 ", "7.0", "7.5", "a\u00a0b"]
+    seasons = ["", "1", "4 3 1", "1-4", "3-2", "2\u20134", "all", "ALL", "1,2", "1,", "1+3", "2/3", "1;2", "1 1", "1-3 2", "5", "1 2 3 4 5",
+               "1:2"]
+    wires = ["", "", "4/0", "250 kcmil", "95 mm2", "95 mm\u00b2", "211 kcmil", "2000 kcmil", "2001 kcmil", "0 kcmil", "4", "#4", "AWG 4",
+             "no. 2", "0000", "00 awg", "70 sq mm", "70sqmm", "300MCM", "1kcmil", "250", "x", "5/0", "mm2", "185 MM^2", "96 mm2"]
+    for _ in range(COUNT):
+        columns = ("station", "name", "seasons", "wire") if rng.random() < 0.6 else ("station", "name", "seasons")
+        order = rng.sample(columns, len(columns))
+        made = [[rng.choice((column, column, column.title())) for column in order]]
         for station in range(rng.randint(0, 4)):
-            seasons = " ".join(sorted(rng.sample("1234", rng.randint(1, 4))))
-            right = {"station": str(station + 1), "name": rng.choice(cells), "seasons": seasons}
+            right = {"station": str(station + 1), "name": rng.choice(cells), "seasons": "1 2 4", "wire": rng.choice(wires[:8])}
             line = [right[column] for column in order]
-            if rng.random() < 0.4:
-                line[rng.randrange(3)] = rng.choice(cells)
-            if rng.random() < 0.05:
-                line.append("more")
+            if rng.random() < 0.2:
+                line[rng.randrange(len(line))] = rng.choice(cells)
+            if rng.random() < 0.3:
+                line[order.index("seasons")] = rng.choice(seasons)
+            if rng.random() < 0.3 and "wire" in order:
+                line[order.index("wire")] = rng.choice(wires)
+            if rng.random() < 0.1:
+                line.append(rng.choice(("more", "")))
             made.append(line)
         text = "".join(",".join(map(quoted, line)) + "\n" for line in made)
         try:
-            found = [[one.station, one.name, list(one.seasons)] for one in licence.read(text.encode()).stations]
+            found = [[one.station, one.name, list(one.seasons), one.wire, one.area] for one in licence.read(text.encode()).stations]
         except licence.LicenceRefused as error:
             found = str(error)
         yield [text, found]

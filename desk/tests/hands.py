@@ -4,7 +4,7 @@ import time
 from pathlib import Path
 
 from common import NAMES, ROOT, cell, plain, same, told
-from hocsimbur import licence
+from hocsimbur.portfolio import licence
 
 
 def keys(b):
@@ -123,7 +123,7 @@ def opened(b):
     folder = Path(tempfile.mkdtemp(prefix="desk-"))
     same("both", dropped(b, ROOT / "examples/licence.csv", ROOT / "examples/portfolio.csv"), "licence.csv: a licence of 13 stations")
     same("names", "Birch Hollow, east yard" in b.run("document.body.textContent"), True)
-    licences = (["7,a,1,2"], ["0,a,1"], ["x,a,1"], ["7,a,1", "7,b,2"], ["7,a,"], ["7,a,1 5"], ["7,a,1;2"], ["7,a,2 2"], [], ['"7,a,1'])
+    licences = (["7,a,1,2"], ["0,a,1"], ["x,a,1"], ["7,a,1", "7,b,2"], ["7,a,"], ["7,a,1 5"], ["7,a,1:2"], ["7,a,2 2"], [], ['"7,a,1'])
     for place, lines_ in enumerate(licences):
         text = "\n".join(["station,name,seasons", *lines_, ""])
         path = folder / f"l{place}.csv"

@@ -11,7 +11,9 @@ import sys
 from common import NAMES, PAGE, ROOT, cell, plain, same, told, wrong
 from devtools import Browser
 from hands import drawn, keys, opened, paste, ranges
-from hocsimbur import advice, checking, decision, licence, lines, names, reasons, sheets
+from hocsimbur.portfolio import advice, decision, licence, lines, reasons
+from hocsimbur.portfolio.compared import NOT_PARTED, margin as margin_of
+from hocsimbur.sheets import checking, layout, names
 
 
 def stations(b):
@@ -22,7 +24,7 @@ def stations(b):
     for one in decision.portfolio(sheet, granted).stations:
         if not one.lines:
             continue
-        row = next(i for i, case in enumerate(sheets.cases(sheet)) if case["station"] == one.station)
+        row = next(i for i, case in enumerate(layout.cases(sheet)) if case["station"] == one.station)
         b.click(cell(row, "station")), b.settle()
         said = plain(b.run("document.querySelector('#station .decision').textContent"))
         same(f"decision {one.station}", said, plain(" ".join(reasons.decision(one))))
@@ -31,7 +33,7 @@ def stations(b):
         said = [plain(text) for text in said if text] + ["Caution: " + plain(text) for text in reasons.cautions(one)]
         shown = json.loads(b.run("JSON.stringify([...document.querySelectorAll('#station .asides li')].map(e => e.textContent))"))
         same(f"asides {one.station}", [plain(text) for text in shown], said)
-        wanted = [plain(change.words) for change in advice.changes(sheet, one.station, granted)]
+        wanted = [plain(change.words) for change in advice.changes(one)]
         found = json.loads(b.run("""JSON.stringify([...document.querySelectorAll('#station .next li')].map(e => {
           const s = e.querySelector('small'), t = s ? s.textContent : ''; if (s) s.remove();
           const v = e.querySelector('.verb'); if (v) v.remove(); return e.textContent + (t ? '@' + t : ''); }))"""))
@@ -66,15 +68,15 @@ def many(b):
     for part in (cases[:150], cases[150:]):
         b.click("#new"), b.click(cell(0, "station"))
         b.paste("\n".join("\t".join(str(case[name]) for name in NAMES) for case in part)), b.settle()
-        asked = subprocess.run([str(ROOT / "hocsimbur"), "verdict", "--csv", "-"], input=sheets.text(part), stdout=subprocess.PIPE,
+        asked = subprocess.run([str(ROOT / "hocsimbur"), "verdict", "--csv", "-"], input=layout.text(part), stdout=subprocess.PIPE,
                                check=False, env={**os.environ, "PYTHONDONTWRITEBYTECODE": "1"})
         same("the command's verdicts", [line[0] for line in told(b)], [line.split(",")[2] for line in asked.stdout.decode().split()[1:]])
-        for one, said in zip(lines.gather(sheets.text(part)), told(b)):
+        for one, said in zip(lines.gather(layout.text(part)), told(b)):
             near = one.nearest
             wire = f"{one.row.kcmil:,}" + (f" > {decision.kcmil(one.case['dia']):,}" if one.small_wire else "")
             word = one.row.verdict.name.lower()
             counts[word] = counts.get(word, 0) + 1
-            margin = plain(f"{reasons.margin(near)} {'from ' if near.side == lines.NOT_PARTED else ''}{near.limit}")
+            margin = plain(f"{margin_of(near)} {'from ' if near.side == NOT_PARTED else ''}{near.limit}")
             same(f"random line {one.number}", [plain(text) for text in said],
                  [word, margin, wire, f"{one.headroom:,}" if one.headroom else "none"])
     print("browser: desk page, random lines:", counts)
@@ -97,7 +99,7 @@ def refusals(b):
         b.click("#new"), b.click(cell(0, "station"))
         b.paste("\n".join("\t".join(line) for line in part)), b.settle()
         sheet = "".join(",".join(line) + "\n" for line in [NAMES, *part]).encode()
-        wanted = {found.line: found for found in checking.check(sheet)}
+        wanted = {found.line: found for found in reversed(checking.check(sheet))}  # the first of each line
         for number, said in enumerate(told(b), 2):
             found = wanted.get(number)
             if (len(said) == 1) != (found is not None):

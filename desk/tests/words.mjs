@@ -62,9 +62,10 @@ const plain = (text) => text.replaceAll('\u00a0', ' ');
 const changeWords = ({ kind, words: said, then }) => plain(`${kind}: ${said}${then ? `${kind === 'yard' ? ', ' : '; '}${then}` : ''}`);
 
 test('lines and stations are told alike: verdicts, margins, decisions, asides, cautions and what to change', () => {
-  let released = 0, held = 0, changed = 0;
+  let released = 0, held = 0, changed = 0, thin = 0;
   for (const { rows, licence, lines, stations } of expected.portfolios) {
-    const judged = judge(rows), granted = new Map(licence.map(([station, name, seasons]) => [station, { name, seasons, byLicence: true }]));
+    judge(rows); // what is known of a line without the licence's wires is not taken for what it is with them
+    const granted = licence ? licenceOf(parsed(licence).lines).licence : new Map(), judged = judge(rows, granted);
     assert.deepEqual(judged.lines.map((line) => [words.verdict(line), words.margin(line.nearest), line.nearest.limit, line.row.kcmil,
       line.headroom, line.small]), lines);
     const asked = portfolio(judged, granted);
@@ -79,9 +80,11 @@ test('lines and stations are told alike: verdicts, margins, decisions, asides, c
       if (one.released) released++;
       else held++;
       changed += found.changes.length;
+      if (one.area && one.lines.some((line) => line.small)) thin++;
     }
   }
   assert.ok(released > 50 && held > 150 && changed > 700, `${released} released, ${held} held, ${changed} changes`);
+  assert.ok(thin > 20, `${thin} stations with a wire of the licence that is too small`);
 });
 
 test('a licence is read or refused in the same words', () => {
@@ -90,8 +93,9 @@ test('a licence is read or refused in the same words', () => {
     const { lines } = parsed(text);
     assert.ok(isLicence(lines[0]), text);
     const found = licenceOf(lines);
-    assert.deepEqual(found.refused ?? [...found.licence].map(([station, { name, seasons }]) => [station, name, seasons]), wanted, text);
+    const stations = () => [...found.licence].map(([station, { name, seasons, wire, area }]) => [station, name, seasons, wire, area]);
+    assert.deepEqual(found.refused ?? stations(), wanted, text);
     refused += Boolean(found.refused);
   }
-  assert.ok(refused > 50 && refused < expected.licences.length - 20, `${refused} refused`);
+  assert.ok(refused > 200 && refused < expected.licences.length - 200, `${refused} refused`);
 });

@@ -59,11 +59,17 @@ function safeChanges(cases, oneYard) {
 function wire(cases) {
   const now = Math.min(...cases.map((one) => one.dia)), { high } = BY_NAME.dia;
   const sizes = Array.from({ length: high - now }, (_, i) => now + 1 + i);
-  const small = smallWires(sizes.flatMap((dia) => cases.map((one) => ({ ...one, dia: Math.max(one.dia, dia) }))));
+  const small = smallWires(sizes.flatMap((dia) => cases.map((one) => ({ ...one, area: 0, dia: Math.max(one.dia, dia) }))));
   const dia = sizes.find((_, i) => !small.slice(i * cases.length, (i + 1) * cases.length).some(Boolean));
   if (!dia) return { kind: 'wire', words: say.no_wire };
   const words = fill(say.wire, { value: tenths(dia), now: tenths(now) });
   return { kind: 'wire', words, cases: cases.map((one) => ({ ...one, dia: Math.max(one.dia, dia) })) };
+}
+
+// The least cross-section that is enough in every line, where the licence has the conductor's own.
+function largerWire(station) {
+  const needed = Math.max(...station.lines.map((line) => line.row.kcmil));
+  return { kind: 'wire', words: needed > data.most_area ? say.no_larger : fill(say.larger, { needed, now: station.area }) };
 }
 
 function yards(cases, columns) {
@@ -90,7 +96,7 @@ export function changes(station) {
   for (const reason of station.reasons) {
     if (reason.kind === 'missing') found.push(missing(reason.seasons));
     if (reason.kind === 'yard') found.push(...yards(cases, reason.columns));
-    if (reason.kind === 'wire') found.push(wire(cases));
+    if (reason.kind === 'wire') found.push(station.area ? largerWire(station) : wire(cases));
   }
   if (station.answer.unsafe || station.answer.undecided) found.push(...safeChanges(cases, !station.answer.other_yard));
   return found;

@@ -23,12 +23,13 @@ function parted(kept) {
   }
 }
 
-// Of each line, by itself: whether its conductor is too small, which the library tells of a station of that line alone.
+// Of each line, by itself: whether its conductor is too small, which the library tells of a station of that line alone. A case has beside
+// its columns an area, the conductor's own cross-section in kcmil; with 0 it is a solid round of the diameter.
 export function smallWires(cases) {
   const found = [];
   for (let first = 0; first < cases.length; first += 256) {
     const part = cases.slice(first, first + 256).map((one, i) => ({ ...one, station: i + 1, season: 1 }));
-    const answers = core.release(core.textOf(part.map(core.lineOf)), part.map((one) => [one.station, 1]));
+    const answers = core.release(core.textOf(part.map(core.lineOf)), part.map((one) => [one.station, 1, one.area]));
     found.push(...answers.map((one) => one.small_wire > 0));
   }
   return found;
@@ -45,19 +46,20 @@ export function against(row, margins) {
   return { compared: both, nearest: both[1].margin > both[0].margin ? both[1] : both[0] };
 }
 
-// What was answered of a line's text: the same text has the same answers, so that a keystroke asks of one line alone.
+// What was answered of a line's text and its conductor's own area: the same two have the same answers, so that a keystroke asks of one
+// line alone.
 const known = new Map();
 const MOST_KNOWN = 8192;
 
 function askAlone(one) {
   const asked = core.rows(core.textOf([one.text]));
-  return asked.refused ? { refused: asked.refused } : { row: asked[0], case: caseOf(one.cells) };
+  return asked.refused ? { refused: asked.refused } : { row: asked[0], case: caseOf(one.cells), area: one.area };
 }
 
 function answered(fresh) {
   const text = core.textOf(fresh.map(({ answer }) => core.lineOf(answer.case)));
   const [margins, working, headroom] = [core.margins(text), core.working(text), core.headroom(text)];
-  const small = smallWires(fresh.map(({ answer }) => answer.case));
+  const small = smallWires(fresh.map(({ answer }) => ({ ...answer.case, area: answer.area })));
   fresh.forEach(({ answer }, i) => Object.assign(answer, {
     margins: margins[i], working: working[i], headroom: headroom[i], small: small[i], ...against(answer.row, margins[i]),
   }));
@@ -65,15 +67,18 @@ function answered(fresh) {
 
 // { lines, at, kept, text }: what is known of each line that is not blank, the same by its place in the grid, the accepted lines, and
 // their sheet.
-export function judge(rows) {
+export function judge(rows, licence = new Map()) {
   const lines = [], fresh = [];
   if (known.size > MOST_KNOWN) known.clear();
   rows.forEach((row, place) => {
-    if (filled(row)) lines.push({ place, number: lines.length + 2, cells: row, text: row.map(field).join(',') });
+    if (!filled(row)) return;
+    const area = licence.get(Number(row[COLUMN.station]))?.area ?? 0; // of its station's conductor, where the licence names it
+    lines.push({ place, number: lines.length + 2, cells: row, text: row.map(field).join(','), area });
   });
   for (const one of lines) {
-    if (!known.has(one.text)) known.set(one.text, askAlone(one));
-    one.answer = known.get(one.text);
+    const key = `${one.area} ${one.text}`;
+    if (!known.has(key)) known.set(key, askAlone(one));
+    one.answer = known.get(key);
     if (one.answer.refused) one.refused = { ...one.answer.refused, line: one.number };
   }
   const kept = parted(lines.filter((one) => !one.refused));

@@ -4,8 +4,9 @@ import { ends, grouped, tenths } from '../words/decimals.js';
 import { kcmil, wireTo } from './stations.js';
 import { above, columnsOf, listed, margin, notParted, seasonsOf } from '../words/words.js';
 
-const sizeWords = (template, size) => fill(template, { needed: grouped(size.needed), diameter: tenths(size.diameter),
-  own: grouped(size.own) });
+// What a conductor needs and has: of two templates the one for a solid round of the diameter, or for the licence's own area.
+export const sizeWords = ([solid, own], size) => fill(size.solid ? solid : own, { needed: grouped(size.needed),
+  diameter: tenths(size.diameter), own: grouped(size.own) });
 
 // A reason to hold: what it is, and its detail or ''.
 export function told(reason) {
@@ -15,7 +16,7 @@ export function told(reason) {
   if (reason.kind === 'missing' && reason.noLine) return [say.missing[0], ''];
   if (reason.kind === 'missing') return [fill(say.missing[seasons.length > 1 ? 2 : 1], { list: listed(seasons) }), ''];
   if (reason.kind === 'yard') return [say.yard, columnsOf(reason.columns)];
-  return [say.wire[0], sizeWords(say.wire[1], reason.size)];
+  return [say.wire[0], sizeWords(say.wire.slice(1), reason.size)];
 }
 
 // The decision as its first word and the rest; of a station that was not asked, why.
@@ -91,6 +92,7 @@ export function cautions(station) {
   const few = [...new Set(station.lines.filter((line) => line.case.place === 1
     && line.case.rods < 4).map((line) => line.case.rods))].sort();
   if (few.length) found.push(fill(data.asides.few, { rods: listed(few) + (few.length === 1 && few[0] === 1 ? ' rod' : ' rods') }));
-  if (station.lines.some((line) => !line.small && 4 * line.row.kcmil > 3 * kcmil(line.case.dia))) found.push(data.asides.stranded);
+  const close = (line) => !line.area && !line.small && 4 * line.row.kcmil > 3 * kcmil(line.case.dia);
+  if (station.lines.some(close)) found.push(data.asides.stranded);
   return found;
 }

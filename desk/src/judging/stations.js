@@ -11,13 +11,18 @@ function differing(lines) {
   return NAMES.slice(2).filter((name) => new Set(lines.map((line) => line.case[name])).size > 1);
 }
 
+// What the conductor of a line needs and has; solid where only its diameter is known.
+export function sizeOfLine({ row, area, case: { dia } }) {
+  return { needed: row.kcmil, diameter: dia, own: area || kcmil(dia), solid: !area };
+}
+
 function sizeOf(lines) {
   const small = lines.filter((line) => line.small);
   const line = (small.length ? small : lines).reduce((most, one) => {
     const more = one.row.kcmil - most.row.kcmil || most.case.dia - one.case.dia;
     return more > 0 ? one : most;
   });
-  return { needed: line.row.kcmil, diameter: line.case.dia, own: kcmil(line.case.dia) };
+  return sizeOfLine(line);
 }
 
 function reasonsOf(answer, lines, missing, differs) {
@@ -57,7 +62,8 @@ function refusedOf(judged) {
   return { byStation, unread };
 }
 
-// The stations of the sheet and of the licence; `licence` has name and seasons of a station, all four where it does not name it.
+// The stations of the sheet and of the licence; `licence` has name, seasons and wire of a station; one that it does not name is asked for
+// all four seasons.
 export function portfolio(judged, licence) {
   const lines = new Map(), refused = refusedOf(judged);
   for (const line of judged.lines) {
@@ -66,15 +72,15 @@ export function portfolio(judged, licence) {
     lines.set(number, [...(lines.get(number) ?? []), ...(line.refused ? [] : [line])]);
   }
   for (const number of licence.keys()) if (!lines.has(number)) lines.set(number, []);
-  const granted = (number) => licence.get(number) ?? { name: '', seasons: SEASONS, byLicence: false };
+  const granted = (number) => licence.get(number) ?? { name: '', seasons: SEASONS, wire: '', area: 0, byLicence: false };
   const open = [...lines.keys()].filter((number) => !refused.byStation.has(number) && granted(number).seasons.length
     && !refused.unread.length);
   const answers = new Map();
   if (judged.text) {
     for (let first = 0; first < open.length; first += data.lines) {
       const part = open.slice(first, first + data.lines);
-      core.release(judged.text, part.map((number) => [number, mask(granted(number).seasons)])).forEach((one) =>
-        answers.set(one.station, one));
+      const numbers = (number) => [number, mask(granted(number).seasons), granted(number).area];
+      core.release(judged.text, part.map(numbers)).forEach((one) => answers.set(one.station, one));
     }
   }
   const stations = [...lines].map(([number, own]) => ({
@@ -89,7 +95,7 @@ export function wireTo(station) {
   let [below, above] = [low - 1, high + 1];
   while (above - below > 1) {
     const fault = Math.floor((below + above) / 2);
-    if (smallWires(station.lines.map((line) => ({ ...line.case, fault }))).some(Boolean)) above = fault;
+    if (smallWires(station.lines.map((line) => ({ ...line.case, area: line.area, fault }))).some(Boolean)) above = fault;
     else below = fault;
   }
   return below;

@@ -1,32 +1,58 @@
-// A licence: station, name and seasons; one wrong line refuses the whole, for a season that is left out could release a station.
+// A licence: station, name, seasons and, where it is known, wire, read as `hocsimbur release` reads it; one wrong line refuses the whole,
+// for a season that is left out could release a station.
 import { SEASONS, data, fill } from '../library/data.js';
+import { areaOf } from './wires.js';
 
-const say = data.licences, COLUMNS = ['station', 'name', 'seasons'], MOST = data.lines;
+const say = data.licences, COLUMNS = ['station', 'name', 'seasons'], WIRE = 'wire';
 
-export const isLicence = (cells) => cells.length === COLUMNS.length && COLUMNS.every((name) => cells.includes(name));
-
-function wrongSeasons(line, text) {
-  const parts = text.split(/\s+/).filter(Boolean), wrong = parts.find((part) => !SEASONS.includes(Number(part)) || part.length > 1);
-  if (!parts.length) return fill(say.none, { line });
-  if (wrong !== undefined) return fill(say.season, { line, text: wrong });
-  return new Set(parts).size < parts.length ? fill(say.twice, { line, text }) : '';
+// The columns of a line of names, in its order; nothing where it is none of a licence.
+function columnsOf(cells) {
+  const names = cells.map((name) => name.toLowerCase());
+  while (names.length && !names.at(-1)) names.pop();
+  const wanted = names.includes(WIRE) ? [...COLUMNS, WIRE] : COLUMNS;
+  return names.length === wanted.length && wanted.every((name) => names.includes(name)) ? names : null;
 }
 
-// { licence }, a map from station to name and seasons, or { refused }, a sentence.
-export function licenceOf(lines) {
-  const found = lines.map((cells, i) => ({ cells, line: `line ${i + 1}` })).filter(({ cells }) => cells.some(Boolean)), licence = new Map(),
-    places = new Map();
-  const names = found[0].cells;
-  for (const { cells, line } of found.slice(1)) {
-    if (cells.length !== COLUMNS.length) return { refused: fill(say.cells, { line, count: cells.length }) };
-    const [text, name, seasons] = COLUMNS.map((column) => cells[names.indexOf(column)]), station = Number(text);
-    if (!/^\d{1,5}$/.test(text) || station < 1 || station > 65535) return { refused: fill(say.station, { line, text }) };
-    if (/\p{C}/u.test(name)) return { refused: fill(say.name, { line }) };
-    if (places.has(station)) return { refused: fill(say.again, { line, station, earlier: places.get(station) }) };
-    const wrong = wrongSeasons(line, seasons);
-    if (wrong) return { refused: wrong };
-    places.set(station, line);
-    licence.set(station, { name, seasons: SEASONS.filter((season) => seasons.includes(String(season))), byLicence: true });
+export const isLicence = (cells) => columnsOf(cells) !== null;
+
+// { seasons } as people write them ('1 2 4', '1,2,4', '1-4', 'all'), or { wrong }, the sentence and its text.
+function seasonsOf(text) {
+  if (text.toLowerCase() === 'all') return { seasons: SEASONS };
+  const found = [];
+  for (const part of text.split(/[\s,;+/]+/)) {
+    const span = /^([1-4])(?:[-\u2013]([1-4]))?$/.exec(part), [from, to] = span ? [Number(span[1]), Number(span[2] ?? span[1])] : [1, 0];
+    if (!part) return { wrong: say.none };
+    if (to < from) return { wrong: say.season, text: part };
+    found.push(...SEASONS.filter((season) => season >= from && season <= to));
   }
-  return licence.size && licence.size <= MOST ? { licence } : { refused: fill(say.count, { count: licence.size }) };
+  return new Set(found).size < found.length ? { wrong: say.twice, text } : { seasons: SEASONS.filter((season) => found.includes(season)) };
+}
+
+// { station, of } of a line, or { refused }, a sentence.
+function stationOf(names, cells, line, places) {
+  const [text, name, seasons, wire] = [...COLUMNS, WIRE].map((column) => cells[names.indexOf(column)] ?? '');
+  const digits = /^(\d{1,5})(?:\.0*)?$/.exec(text), station = Number(digits?.[1]);
+  if (!digits || station < 1 || station > 65535) return { refused: fill(say.station, { line, text }) };
+  if (/\p{C}|[^\P{Z} ]/u.test(name)) return { refused: fill(say.name, { line }) };
+  if (places.has(station)) return { refused: fill(say.again, { line, station, earlier: places.get(station) }) };
+  const asked = seasonsOf(seasons), area = areaOf(wire);
+  if (asked.wrong) return { refused: fill(asked.wrong, { line, text: asked.text }) };
+  if (area === null) return { refused: fill(say.wire, { line, text: wire }) };
+  return { station, of: { name, seasons: asked.seasons, wire, area, byLicence: true } };
+}
+
+// { licence }, a map from station to name, seasons, wire and its area in kcmil, or { refused }, a sentence.
+export function licenceOf(lines) {
+  const [head, ...found] = lines.map((cells, i) => ({ cells, line: `line ${i + 1}` })).filter(({ cells }) => cells.some(Boolean));
+  const names = columnsOf(head.cells), licence = new Map(), places = new Map();
+  for (const { cells, line } of found) {
+    if (cells.length < names.length || cells.slice(names.length).some(Boolean)) {
+      return { refused: fill(say.cells, { line, count: cells.length, columns: names.length }) };
+    }
+    const { station, of, refused } = stationOf(names, cells, line, places);
+    if (refused) return { refused };
+    places.set(station, line);
+    licence.set(station, of);
+  }
+  return licence.size ? { licence } : { refused: say.no_station };
 }

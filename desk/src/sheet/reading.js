@@ -35,10 +35,10 @@ export function whole(text, sign = ',') {
   else if (/^\d{1,3}(\.\d{3})+(,\d*)?$/.test(bare) && (bare.split('.').length > 2 || bare.includes(','))) {
     bare = bare.replaceAll('.', '').replace(',', '.');
   } else if (/^\d+,\d*$/.test(bare)) bare = bare.replace(',', '.');
-  const parts = /^\+?(\d{1,30})(?:\.(\d{0,30}))?(?:[eE]([+-]?\d{1,2}))?$/.exec(bare);
+  const parts = /^([+-]?)(?=\.?\d)(\d{0,30})(?:\.(\d{0,30}))?(?:[eE]([+-]?\d{1,2}))?$/.exec(bare);
   if (!parts) return text;
-  const digits = parts[1] + (parts[2] ?? ''), point = parts[1].length + Number(parts[3] ?? 0);
-  if (/[^0]/.test(digits.slice(Math.max(0, point)))) return text;
+  const digits = parts[2] + (parts[3] ?? ''), point = parts[2].length + Number(parts[4] ?? 0);
+  if (/[^0]/.test(digits.slice(parts[1] === '-' ? 0 : Math.max(0, point)))) return text; // no whole number, or below 0
   return String(BigInt(point <= 0 ? '0' : digits.slice(0, point).padEnd(point, '0')));
 }
 

@@ -88,7 +88,8 @@ export function casesAsCells(lines, cases) {
 }
 
 export function tick(station, season, on) {
-  const licence = new Map(store.now.licence), one = licence.get(station) ?? { name: '', seasons: SEASONS, byLicence: true };
+  const licence = new Map(store.now.licence);
+  const one = licence.get(station) ?? { name: '', seasons: SEASONS, wire: '', area: 0, byLicence: true };
   const seasons = SEASONS.filter((other) => (other === season ? on : one.seasons.includes(other)));
   licence.set(station, { ...one, seasons, byLicence: true });
   change(`licence of station ${station}`, { licence });

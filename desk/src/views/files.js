@@ -23,8 +23,9 @@ export function save() {
 // The ticked seasons as a licence, which `hocsimbur release` and `report` read.
 export function saveLicence() {
   const granted = [...store.now.licence].filter(([, one]) => one.seasons.length);
-  const lines = granted.map(([station, one]) => [String(station), one.name, one.seasons.join(' ')]);
-  download('licence.csv', text([['station', 'name', 'seasons'], ...lines]));
+  const lines = granted.map(([station, one]) => [String(station), one.name, one.seasons.join(' '), one.wire]);
+  const width = granted.some(([, one]) => one.wire) ? 4 : 3;
+  download('licence.csv', text([['station', 'name', 'seasons', 'wire'], ...lines].map((line) => line.slice(0, width))));
   markSaved({ licence: true });
   say('licence.csv saved by the browser as a download');
 }

@@ -1,10 +1,11 @@
 // The sheet on the screen: 22 columns by subject, then what the library answers of each line. Only what changed is drawn again.
-import { GROUPS, NAMES, data, fill, shortUnit } from '../library/data.js';
-import { grouped, tenths } from '../words/decimals.js';
+import { GROUPS, NAMES, data, shortUnit } from '../library/data.js';
+import { grouped } from '../words/decimals.js';
 import { bar, mark, withWord } from './drawing.js';
 import { byId, h, show } from './dom.js';
 import { incomplete, refusedColumn } from '../judging/judging.js';
-import { kcmil } from '../judging/stations.js';
+import { sizeWords } from '../judging/sentences.js';
+import { sizeOfLine } from '../judging/stations.js';
 import { margin, meaning, refusal, refusedPlace, verdict } from '../words/words.js';
 
 const SPARE = 4, LEAST = 14;
@@ -44,11 +45,10 @@ function drawRow(place) {
   return lines.at(-1).tr;
 }
 
-// A wire that is too small: what is needed, and what a solid round of the sheet's diameter has.
-function tooSmall({ row, case: { dia } }) {
-  const text = `${grouped(row.kcmil)} > ${grouped(kcmil(dia))}`,
-    size = { needed: grouped(row.kcmil), diameter: tenths(dia), own: grouped(kcmil(dia)) };
-  return h('b', { class: text.length > 11 ? 'red long' : 'red', title: fill(data.told.wire[1], size) }, text);
+// A wire that is too small: what is needed, and what it has.
+function tooSmall(line) {
+  const size = sizeOfLine(line), text = `${grouped(size.needed)} > ${grouped(size.own)}`;
+  return h('b', { class: text.length > 11 ? 'red long' : 'red', title: sizeWords(data.told.wire.slice(1), size) }, text);
 }
 
 function results(line, top) {
@@ -83,7 +83,7 @@ function drawResults(drawn, line, all, top) {
 function key(line, top) {
   if (!line) return '';
   if (line.refused) return `${line.typing}|${line.number}|${line.text}|${Object.values(line.refused)}|${line.cells}`;
-  return `${top}|${line.text}|${line.row.verdict}`;
+  return `${top}|${line.area}|${line.text}|${line.row.verdict}`;
 }
 
 function flag(drawn, line) {

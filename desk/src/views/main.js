@@ -59,7 +59,7 @@ function hint() {
 
 function upper() {
   const rows = store.rowsNow(), { draft, now } = store.store;
-  judged = judge(rows);
+  judged = judge(rows, now.licence);
   top = scaleOf(judged.kept);
   const typed = draft && judged.at.get(draft.row);
   if (typed?.refused) typed.typing = true;

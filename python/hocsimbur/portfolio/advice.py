@@ -48,22 +48,22 @@ def first_safe(candidates: Iterable[Tried]) -> Optional[Tried]:
     return None
 
 
-def _lengths(lines: Cases) -> Tuple[int, int]:
+def lengths(lines: Cases) -> Tuple[int, int]:
     """Conductor and rods in micrometres, upper ends, of the first line."""
     working = core.working(layout.text([lines[0]]))[0]
     return working.lc.upper, working.lr.upper
 
 
-def _added(before: Cases, after: Cases) -> str:
+def added(before: Cases, after: Cases) -> str:
     """The metres of conductor and rods that a change adds, as the core works them."""
     said = []
-    for name, old, new in zip(("conductor", "rods"), _lengths(before), _lengths(after)):
+    for name, old, new in zip(("conductor", "rods"), lengths(before), lengths(after)):
         if new != old:
             said.append(f"{exact(abs(new - old), 6)} m of {name} {'more' if new > old else 'less'}")
     return "; " + listed(said) if said else ""
 
 
-def _nearest(lines: Cases) -> str:
+def nearest(lines: Cases) -> str:
     """Where the changed lines are nearest their limits."""
     answered = core.margins(layout.text(list(lines)))
     margin, limit, season = max(((one, limit, case["season"]) for case, both in zip(lines, answered)
@@ -78,14 +78,14 @@ def _safe_changes(lines: Cases, one_yard: bool) -> List[Change]:
     for kind in kinds(lines, one_yard):
         best = first_safe(kind.candidates(lines))
         if best:
-            said = f"{kind.name}: {best.words}; {_nearest(best.lines)}{_added(lines, best.lines)}"
+            said = f"{kind.name}: {best.words}; {nearest(best.lines)}{added(lines, best.lines)}"
             found.append(Change(kind.name, said, best.lines))
         else:
             found.append(Change(kind.name, f"{kind.name}: {kind.none}"))
     return sorted(found, key=lambda change: not change.lines)
 
 
-def _wire(lines: Cases) -> Change:
+def thicker_wire(lines: Cases) -> Change:
     """The least diameter that is enough in every line."""
     name, now = BY_NAME["dia"], min(case["dia"] for case in lines)
     sizes = range(now + 1, name.high + 1)
@@ -98,7 +98,7 @@ def _wire(lines: Cases) -> Change:
     return Change("wire", f"wire: no solid round up to {most} mm is enough; try another metal or a shorter back-up time")
 
 
-def _own_wire(station: Station) -> Change:
+def larger_wire(station: Station) -> Change:
     """The least cross-section that is enough in every line, where the licence has the conductor's own."""
     needed, most = max(line.row.kcmil for line in station.lines), MOST_AREA
     if needed > most:
@@ -106,7 +106,7 @@ def _own_wire(station: Station) -> Change:
     return Change("wire", f"wire: {needed} kcmil or more (now {station.licensed.area}); give its size in the licence")
 
 
-def _yards(lines: Cases, columns: Sequence[str]) -> List[Change]:
+def agreed_yards(lines: Cases, columns: Sequence[str]) -> List[Change]:
     """The yard of each line put into all of them, and whether every line is then safe."""
     found = [Change("yard", f"yard: agree on {labels.columns(columns)} in all lines")]
     seen = set()
@@ -117,12 +117,13 @@ def _yards(lines: Cases, columns: Sequence[str]) -> List[Change]:
         seen.add(tuple(yard.values()))
         agreed = with_values(lines, **yard)
         safe = all(verdict == Verdict.SAFE for verdict in asking.verdicts(agreed))
-        said = f"every line is safe, {_nearest(agreed)}" if safe else "not every line is safe"
+        said = f"every line is safe, {nearest(agreed)}" if safe else "not every line is safe"
         found.append(Change("yard", f"yard: that of season {case['season']} in all lines: {said}", agreed if safe else ()))
     return found
 
 
-def _missing(reason: Missing) -> Change:
+def missing_lines(reason: Missing) -> Change:
+    """That seasons of the licence are to be measured."""
     seasons = ("season " if len(reason.seasons) == 1 else "seasons ") + listed(reason.seasons)
     return Change("missing", f"missing: measure and add {'a line' if len(reason.seasons) == 1 else 'lines'} for {seasons}")
 
@@ -134,11 +135,11 @@ def changes(station: Station) -> List[Change]:
     found: List[Change] = []
     for reason in station.reasons:
         if isinstance(reason, Missing):
-            found.append(_missing(reason))
+            found.append(missing_lines(reason))
         elif isinstance(reason, OtherYard):
-            found += _yards(lines, reason.columns)
+            found += agreed_yards(lines, reason.columns)
         elif isinstance(reason, SmallWire):
-            found.append(_own_wire(station) if station.licensed.area else _wire(lines))
+            found.append(larger_wire(station) if station.licensed.area else thicker_wire(lines))
     if station.answer.unsafe or station.answer.undecided:
         found += _safe_changes(lines, not station.answer.other_yard)
     return found

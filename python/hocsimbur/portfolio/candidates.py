@@ -114,20 +114,20 @@ class Kind(NamedTuple):
     none: str
 
 
-_OF_YARD = [
+OF_YARD = [
     Kind("rods", rods, "no count of rods up to 200 at the perimeter is enough"),
     Kind("conductors", conductors, "no finer grid in the same outline, in whole mm and of at most 25 conductors each way, is enough"),
     Kind("spacing", spacing, "no spacing in 2.5..30 m is enough"),
 ]
-_OF_LAYER = [
+OF_LAYER = [
     Kind("thickness", thickness, "no layer up to 300 mm is enough"),
     Kind("resistivity", resistivity, "no layer up to 10,000 Ω·m is enough"),
 ]
-_OF_BARE = [Kind("layer", layer, "no layer of 2,500 Ω·m up to 300 mm is enough")]
-_OF_SHOCK = [Kind("shock", shock, "no shock of 9 ms or more is short enough")]
+OF_BARE = [Kind("layer", layer, "no layer of 2,500 Ω·m up to 300 mm is enough")]
+OF_SHOCK = [Kind("shock", shock, "no shock of 9 ms or more is short enough")]
 
 
 def kinds(lines: Cases, one_yard: bool) -> List[Kind]:
     """The kinds of change that a station may have: those of the yard only where its lines agree on one."""
     bare = any(case["thick"] == 0 for case in lines)
-    return (_OF_YARD if one_yard else []) + (_OF_BARE if bare else _OF_LAYER) + _OF_SHOCK
+    return (OF_YARD if one_yard else []) + (OF_BARE if bare else OF_LAYER) + OF_SHOCK

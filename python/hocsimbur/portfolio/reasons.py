@@ -28,11 +28,13 @@ class Told(NamedTuple):
     detail: str
 
 
-def _above(one: Compared) -> str:
+def voltage_above(one: Compared) -> str:
+    """That a voltage is above what is tolerable, and by how much."""
     return f"{one.kind} {share(one.margin)} above tolerable {one.limit}"
 
 
-def _not_parted(one: Compared) -> str:
+def voltage_not_parted(one: Compared) -> str:
+    """That the ends do not part a voltage from what is tolerable."""
     return f"{one.kind} and tolerable {one.limit} not parted"
 
 
@@ -57,9 +59,9 @@ def _at(place: Place) -> str:
 def told(reason: Reason) -> Told:
     """A reason as the report tells it."""
     if isinstance(reason, Unsafe):
-        return Told(f"season {reason.season}{_at(reason.place)} unsafe", listed([_above(one) for one in reason.above]))
+        return Told(f"season {reason.season}{_at(reason.place)} unsafe", listed([voltage_above(one) for one in reason.above]))
     if isinstance(reason, Undecided):
-        return Told(f"season {reason.season}{_at(reason.place)} undecided", listed([_not_parted(one) for one in reason.not_parted]))
+        return Told(f"season {reason.season}{_at(reason.place)} undecided", listed([voltage_not_parted(one) for one in reason.not_parted]))
     if isinstance(reason, Missing):
         return Told(_no_line(reason), "")
     if isinstance(reason, OtherYard):
@@ -70,9 +72,9 @@ def told(reason: Reason) -> Told:
 def _short(reason: Reason) -> str:
     """A reason on a line of the command release."""
     if isinstance(reason, Unsafe):
-        return f"season {reason.season}{_at(reason.place)}: " + listed([_above(one) for one in reason.above])
+        return f"season {reason.season}{_at(reason.place)}: " + listed([voltage_above(one) for one in reason.above])
     if isinstance(reason, Undecided):
-        return f"season {reason.season}{_at(reason.place)}: " + listed([_not_parted(one) for one in reason.not_parted])
+        return f"season {reason.season}{_at(reason.place)}: " + listed([voltage_not_parted(one) for one in reason.not_parted])
     if isinstance(reason, Missing):
         if reason.no_line:
             return "no line for any season"

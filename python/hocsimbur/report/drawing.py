@@ -13,7 +13,7 @@ from ..portfolio.decision import Portfolio, Station
 LIMIT = 1000  # per mille: where the limit stands on every bar
 LEAST_TOP, MOST_TOP, STEP = 1250, 2000, 250
 
-_SHAPES = {
+SHAPES = {
     "safe": '<circle cx="80" cy="80" r="56"/>',
     "unsafe": '<path d="M80 16 150 144H10z"/>',
     "undecided": '<path d="M80 8 152 80 80 152 8 80z"/>',
@@ -54,7 +54,7 @@ def word(verdict: Verdict) -> str:
 
 def mark(kind: str) -> str:
     """A mark, for the eye alone: a word stands beside it."""
-    return f'<svg class="mark {kind}" viewBox="0 0 160 160" aria-hidden="true" focusable="false">{_SHAPES[kind]}</svg>'
+    return f'<svg class="mark {kind}" viewBox="0 0 160 160" aria-hidden="true" focusable="false">{SHAPES[kind]}</svg>'
 
 
 def badge(station: Station) -> str:

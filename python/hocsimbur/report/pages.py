@@ -19,7 +19,7 @@ from .markup import bold, cell, element, group, head, row, seen, span, spoken, t
 
 COLUMNS = 9  # of the table of stations
 
-_PROVED = (
+PROVED = (
     "Decisions, verdicts, ends, margins, sizes, fault currents and the working are answers of the proved library. "
     "What a wire of its own has in kcmil is worked here, rounded down, and decides nothing."
 )
@@ -195,7 +195,7 @@ def portfolio_page(portfolio: Portfolio, source: Source, scale: Scale) -> str:
                                  "still safe and the wire", "vh")
     stations = table("pf", caption, _table_head(scale) + _stations("Held", held, scale) + _stations("Released", released, scale)) + "\n"
     inside = title + _totals(portfolio, source.rise_limit) + stations + _key(scale, portfolio.licensed) + _signature(source) \
-        + _foot(source, below=_sheets(source) + element("p", _PROVED))
+        + _foot(source, below=_sheets(source) + element("p", PROVED))
     return element("section", inside, "page portfolio", aria_labelledby="top") + "\n"
 
 

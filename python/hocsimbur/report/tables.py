@@ -57,7 +57,7 @@ WORKING = (
     Quantity(_symbol("GPR", "", "potential rise"), "V", lambda line: line.row.rise, 3, 2),
 )
 
-_FORMULAS = (
+FORMULAS = (
     "Mesh = <i>ρ</i>·<i>K<sub>m</sub></i>·<i>K<sub>i</sub></i>·<i>I<sub>G</sub></i>/<i>L<sub>M</sub></i>. "
     "Step = <i>ρ</i>·<i>K<sub>s</sub></i>·<i>K<sub>i</sub></i>·<i>I<sub>G</sub></i>/<i>L<sub>S</sub></i>. "
     "GPR = <i>I<sub>G</sub></i>·<i>R</i>; it never decides."
@@ -180,4 +180,4 @@ def working(station: Station) -> str:
     """The quantities between the inputs and the results, lower end over upper end."""
     rows = [_of(station, one) for one in WORKING]
     return table("data wrk", caption("Working, each between two proved ends", "lower over upper", "sub lo"),
-                 heads(station, "Symbol") + group("tbody", "".join(rows))) + element("p", _FORMULAS, "formulas")
+                 heads(station, "Symbol") + group("tbody", "".join(rows))) + element("p", FORMULAS, "formulas")

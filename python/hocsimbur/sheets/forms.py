@@ -75,7 +75,7 @@ def missing_names(names: Sequence[str], form: Sequence[str]) -> str:
     return f"{told} {'are' if len(missing) > 1 else 'is'} missing: a sheet has {len(form)} names, here are {len(names)}"
 
 
-def _unknown(name: str, names: Sequence[str], form: Sequence[str]) -> str:
+def unknown_name(name: str, names: Sequence[str], form: Sequence[str]) -> str:
     """What is said of a name that the form does not have."""
     if not name:
         return f"no name stands here, for instance after a comma too many; {IMPORT}"
@@ -107,7 +107,7 @@ def wrong_name(names: List[str], line: int, column: int, form: Sequence[str]) ->
         return where, spoilt
     if name in names[:column - 1]:
         return where, f"{name} stands already in column {names.index(name) + 1}; each name stands once"
-    return where, _unknown(name, names, form)
+    return where, unknown_name(name, names, form)
 
 
 def whole_number(unit: str) -> str:

@@ -14,14 +14,14 @@ from .names import BY_NAME, FORMER, METALS, NAMES, Name
 
 __all__ = ["BY_NAME", "FORMER", "METALS", "NAMES", "Asked", "Name", "refusal", "verdict"]
 
-_VERDICTS = {Verdict.SAFE: "safe", Verdict.UNSAFE: "unsafe", Verdict.UNDECIDED: "undecided"}
+VERDICTS = {Verdict.SAFE: "safe", Verdict.UNSAFE: "unsafe", Verdict.UNDECIDED: "undecided"}
 CODES = ("place", "metal")  # columns whose numbers stand for something
-_OWN_FAULT = "the library was lent too little room; that is a mistake in this package, please report it"
+OWN_FAULT = "the library was lent too little room; that is a mistake in this package, please report it"
 
 
 def verdict(answered: Verdict) -> str:
     """The word of a verdict."""
-    return _VERDICTS[answered]
+    return VERDICTS[answered]
 
 
 @dataclass(frozen=True)
@@ -206,7 +206,7 @@ def _station(refused: Refused, asked: Asked) -> str:
 
 
 def _room(refused: Refused, asked: Asked) -> str:
-    return _OWN_FAULT
+    return OWN_FAULT
 
 
 _WORDS: Dict[int, Callable[[Refused, Asked], str]] = {
