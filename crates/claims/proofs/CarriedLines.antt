@@ -47,7 +47,8 @@ module _ (f g : table.Form) (s text : List ℕ) (from-right : wrongColumn f s �
       }
 
   each-taken : (names : List String) → T (inBoth f g names)
-      → Every (λ name. named g (valuesIn g text i) name ≡ named f (valuesIn f s i) name) names → Every (λ name. Taken s name text name i) names
+      → Every (λ name. named g (valuesIn g text i) name ≡ named f (valuesIn f s i) name) names
+      → Every (λ name. Taken s name text name i) names
   unfolding inBoth
   each-taken [] t e = tt
   each-taken (name ∷ names) t e =

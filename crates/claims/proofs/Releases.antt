@@ -14,7 +14,8 @@ use Rattle.headroom.proofs.Bracket.{fault-bounds}
 use Rattle.hocsimbur.specs.declared.RowAnswer.the-variants as answered
 use Rattle.hocsimbur.proofs.Answers.{row-told, row-sound, bounds-answered}
 use Rattle.release.specs.declared.{licence.Wrong.{Wrong, the-variants.{At, Nothing}}, Released.{Released, the-variants.{Stations, Refused}}}
-use Rattle.release.specs.{Licence.{entriesOf, badCount, among, wrongStation, wrongSeasons, wrongArea, firstWrong}, Earlier.{earlier, wrongAt}}
+use Rattle.release.specs.Licence.{entriesOf, badCount, among, wrongStation, wrongSeasons, wrongArea, firstWrong}
+use Rattle.release.specs.Earlier.{earlier, wrongAt}
 use Rattle.release.specs.Entry.{entryLength, releaseOf}
 use Rattle.release.specs.Answer.{roomAnswer, afterEntries, licenceAnswer, afterSheet, releaseAnswer, Filled, TableAfter, ReleaseAnswered}
 use Rattle.release.specs.Meaning.{licensedStation, licensedSeasons, licensedArea, LineOf}
@@ -25,7 +26,8 @@ use Rattle.release.proofs.ReleasedStations.{entry-numbers, entry-station, one-o
 use Rattle.release.proofs.ReleasedStations.{fault-means}
 use Rattle.release.specs.Meaning as meaning
 use Rattle.claims.specs.{Words.{BreaksNone, caseAt}, Later.{FaultInside}}
-use Rattle.claims.specs.Releases.{InEntries, StationSound, SeasonsSound, AreaSound, EntrySound, EntryWrong, ReleasedStation, SafeThroughout}
+use Rattle.claims.specs.Releases.{InEntries, StationSound, SeasonsSound, AreaSound, EntrySound, EntryWrong, ReleasedStation}
+use Rattle.claims.specs.Releases.{SafeThroughout}
 use Rattle.claims.specs.Releases.{FaultReported, EntryTold, ReleaseOutcome}
 use Rattle.claims.specs.Releases as claim
 use Rattle.claims.proofs.{Betweens.{between-yes, between-no}, Sheets.{cases-count, bounds-at}}
@@ -86,7 +88,8 @@ module _ (licence : List ℕ) where
   some-among x zero e h = clash cc
   some-among x (suc k) e h = go (eqb (licensedStation licence k) x) refl e (λ d. some-among x k d (λ i l. h i (omega arith)))
     where
-      go : (t : Bool) → eqb (licensedStation licence k) x ≡ t → t || among x (earlier licence k) ≡ true → (among x (earlier licence k) ≡ true → ⊥)
+      go : (t : Bool) → eqb (licensedStation licence k) x ≡ t → t || among x (earlier licence k) ≡ true
+          → (among x (earlier licence k) ≡ true → ⊥)
           → ⊥
       go true q e below = h k (omega arith) (eqb-true (licensedStation licence k) x q)
       go false q e below = below e
@@ -132,7 +135,8 @@ module _ (licence : List ℕ) where
     unfolding wrongArea
     area-wrong e s = omega (arith, ltb-true 2000 (licensedArea licence k) e)
 
-    judged-entry : ((wrongAt licence k ≡ 0) × EntrySound licence k) ⊎ ((wrongAt licence k ≡ 0 → ⊥) × EntryWrong licence k (wrongAt licence k))
+    judged-entry : ((wrongAt licence k ≡ 0) × EntrySound licence k)
+        ⊎ ((wrongAt licence k ≡ 0 → ⊥) × EntryWrong licence k (wrongAt licence k))
     unfolding wrongAt
     judged-entry =
         go (wrongStation (earlier licence k) own) (wrongSeasons (licensedSeasons licence k)) (wrongArea (licensedArea licence k)) refl refl
@@ -267,7 +271,8 @@ module _ {s licence : List ℕ} {before after : List ℤ} where
     where
       go : (t : Bool) → badCount (length licence) ≡ t
           → r
-          ≡ cond t (Refused 21 0 0) (afterEntries (roomAnswer (length before) (length (entriesOf licence))) (firstWrong [] 1 (entriesOf licence)))
+          ≡ cond t (Refused 21 0 0) (afterEntries (roomAnswer (length before) (length (entriesOf licence)))
+          (firstWrong [] 1 (entriesOf licence)))
           → ReleaseOutcome s licence before after r
       go true q e = rw e (claim.count b (not-in-entries licence q) (kept e h))
       go false q e = paired b (in-entries licence q) h _ (searched licence) e

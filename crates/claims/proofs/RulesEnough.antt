@@ -78,7 +78,8 @@ module _ {s : List ℕ} {n : ℕ} (kept : RulesKept s n) where
       let e : column ≡ getD (columnsIn columns s) k 0 =
       o .only column t ∙ sym (o .only _ (name-stands (names-stand columns (names s) names-right) k m)) in
       let c = header-accepted columns (names s) names-right .count in
-      let v : values (caseAt s i) ≡ valuesAt s i = ap values (case-is s i h) ∙ values-of-case (valuesAt s i) (values-count columns s names-right i ∙ name-count) in
+      let v : values (caseAt s i) ≡ valuesAt s i = ap values (case-is s i h) ∙ values-of-case (valuesAt s i)
+      (values-count columns s names-right i ∙ name-count) in
       rw e (sym (value-at (columnsIn columns s) (fieldsAt s i) k (omega (arith, c))) ∙ sym (ap (λ (l : List ℕ). getD l k 0) v))
 
   -- value line i breaks none

@@ -78,7 +78,8 @@ pub record EntryTold (s licence : List ℕ) (after : List ℤ) (k : ℕ) : Type 
   pub one-or-two : (answerAt after k 1 ≡ pos 1) ⊎ (answerAt after k 1 ≡ pos 2)
   -- "Released exactly when the five counts are 0."
   pub released : answerAt after k 1 ≡ pos 1 ↔ NothingFound after k
-  pub means : answerAt after k 1 ≡ pos 1 → ReleasedStation s (licensedStation licence k) (licensedSeasons licence k) (licensedArea licence k)
+  pub means : answerAt after k 1 ≡ pos 1
+      → ReleasedStation s (licensedStation licence k) (licensedSeasons licence k) (licensedArea licence k)
   pub fault : FaultReported s (licensedStation licence k) (natAbs (answerAt after k 7))
 
 -- ---- the answer

@@ -9,7 +9,8 @@ use Rattle.judgement.specs.Sheet.{judgement}
 use Rattle.sheet.specs.Answer.{cases}
 use Rattle.release.specs.declared.{licence.Wrong.the-variants.{At, Nothing}, Released.{Released, the-variants.{Stations, Refused}}}
 use Rattle.release.specs.{Licence.{entriesOf, badCount, firstWrong}, Entry.{entryLength, releaseOf}}
-use Rattle.release.specs.Answer.{roomAnswer, afterEntries, licenceAnswer, afterSheet, releaseAnswer, Filled, TableAfter, LinesReleased}
+use Rattle.release.specs.Answer.{roomAnswer, afterEntries, licenceAnswer, afterSheet, releaseAnswer, Filled, TableAfter}
+use Rattle.release.specs.Answer.{LinesReleased}
 use Rattle.release.specs.Answer.{ReleaseAnswered}
 use Rattle.release.proofs.Entries.{entry-count}
 

@@ -1,4 +1,5 @@
--- What an answer that is a count of entries says: the sheet was read, its cases are within their bounds, and the count is that of the entries.
+-- What an answer that is a count of entries says: the sheet was read, its cases are within their bounds, and the count is that of the
+-- entries.
 use Prim.Native.Nat.{ℕ, _*_, _/_, _<_}
 use mathlib.Core.{Path.{_≡_, refl, sym, _∙_}, Bool.{Bool, true, false, cond}, List.{List, []}}
 use lib.{Dec.{ltb}, ListN.{length, length-map}}

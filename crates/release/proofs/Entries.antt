@@ -4,7 +4,8 @@ use mathlib.Core.{Path.{_≡_, refl, sym, _∙_}, Bool.{Bool, true, false, cond,
 use native.Mathlib.{Numerals.{add-one}, Omega.{arith}}
 use lib.{Dec.{eqb}, ListN.{length, getD, drop, drop-of-length-le}}
 use Rattle.release.specs.declared.licence.Wrong.{Wrong, the-variants.{At, Nothing}}
-use Rattle.release.specs.{Licence.{entriesOf, among, wrongStation, wrongSeasons, wrongArea, firstWrong}, Earlier.{entryAt, earlier, wrongAt}}
+use Rattle.release.specs.Licence.{entriesOf, among, wrongStation, wrongSeasons, wrongArea, firstWrong}
+use Rattle.release.specs.Earlier.{entryAt, earlier, wrongAt}
 
 pub entry-count : (s : List ℕ) → length (entriesOf s) ≡ length s / 3
 unfolding entriesOf

@@ -10,7 +10,8 @@ use Rattle.case.specs.declared.Case.{Case}
 use Rattle.sheet.specs.Answer.{cases}
 use Rattle.release.specs.{declared.Released.the-variants.{Stations}, Licence.{entriesOf}}
 use Rattle.release.specs.{Entry.{entryLength, numbersOf, stationNumbers, releaseOf}, Answer.{Filled, TableAfter, ReleaseAnswered}}
-use Rattle.release.specs.Meaning.{answerAt, licensedStation, licensedSeasons, licensedArea, ReleasedStation, FaultReported, NothingFound}
+use Rattle.release.specs.Meaning.{answerAt, licensedStation, licensedSeasons, licensedArea, ReleasedStation, FaultReported}
+use Rattle.release.specs.Meaning.{NothingFound}
 use Rattle.tally.specs.Lines.{linesOf, countOf, missing, answeredUnsafe, answeredUndecided, otherYard, tooSmall, firstLine}
 use Rattle.tally.specs.Tally.{released, EveryBounds}
 use Rattle.release.proofs.{Tables.{release-count, release-at}, CountedEntries.{Counted, counted, cases-bounds}}
@@ -59,14 +60,17 @@ module _ {s licence : List ℕ} {before after : List ℤ} {n : ℕ} (a : Release
       let l : k < length licence / 3 = omega (arith, known .count) in
       filled .parts k (omega (arith, release-count licence (cases s), known .count)) ∙ release-at licence (cases s) k l
 
-  number-is : (place : ℕ) → answerAt after k place ≡ getD (numbersOf (licensedStation licence k) (licensedSeasons licence k) (licensedArea licence k) own) place (pos 0)
+  number-is : (place : ℕ)
+      → answerAt after k place ≡ getD (numbersOf (licensedStation licence k) (licensedSeasons licence k) (licensedArea licence k) own) place
+      (pos 0)
   number-is place = ap (λ (l : List ℤ). getD l place (pos 0)) numbers-are
 
   bounded-cases : EveryBounds (cases s)
   bounded-cases = cases-bounds s (known .lines) (known .read)
 
   -- all eight
-  pub entry-numbers : partAt entryLength after k ≡ stationNumbers (licensedStation licence k) (licensedSeasons licence k) (licensedArea licence k) (cases s)
+  pub entry-numbers : partAt entryLength after k ≡ stationNumbers (licensedStation licence k) (licensedSeasons licence k)
+      (licensedArea licence k) (cases s)
   unfolding stationNumbers
   entry-numbers = numbers-are
 
@@ -88,10 +92,12 @@ module _ {s licence : List ℕ} {before after : List ℤ} {n : ℕ} (a : Release
   one-or-two = choice _ _ _ _ _ (number-is 1)
 
   -- of a released station
-  pub released-means : answerAt after k 1 ≡ pos 1 → ReleasedStation s (licensedStation licence k) (licensedSeasons licence k) (licensedArea licence k)
+  pub released-means : answerAt after k 1 ≡ pos 1
+      → ReleasedStation s (licensedStation licence k) (licensedSeasons licence k) (licensedArea licence k)
   released-means e =
       let z = sum-is-none e in
-      station-released s (licensedStation licence k) bounded-cases (licensedSeasons licence k) (licensedArea licence k) (omega arith) (omega arith) (omega arith) (omega arith)
+      station-released s (licensedStation licence k) bounded-cases (licensedSeasons licence k) (licensedArea licence k) (omega arith)
+      (omega arith) (omega arith) (omega arith)
       (omega arith)
 
   -- "Released exactly when the five counts are 0"

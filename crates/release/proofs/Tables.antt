@@ -37,7 +37,8 @@ entry-written i t part station noLine y h e = rw e (put-written entryLength i t 
 -- ---- the eight numbers by what is counted
 
 pub eight-is : (station seasons area : ℕ) (cs : List Case)
-    → eight station (missingBy seasons (tallyOf (firstLine cs) area cs)) (tallyOf (firstLine cs) area cs) ≡ numbersOf station seasons area cs
+    → eight station (missingBy seasons (tallyOf (firstLine cs) area cs)) (tallyOf (firstLine cs) area cs)
+    ≡ numbersOf station seasons area cs
 unfolding eight numbersOf missingBy missing lacks without tallyOf stationFault
 eight-is station seasons area cs = refl
 

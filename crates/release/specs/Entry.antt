@@ -12,7 +12,8 @@ use Rattle.tally.specs.{Fault.{stationFault}, Tally.{released}}
 abbrev pub entryLength : ℕ
 entryLength = 8
 
--- of a station with its seasons, its conductor's own cross-section or 0, and its lines: "station; 1 released or 2 held; how many seasons of the licence have no line; of all lines
+-- of a station with its seasons, its conductor's own cross-section or 0, and its lines: "station; 1 released or 2 held; how many seasons of
+-- the licence have no line; of all lines
 -- of the station, licensed or not, how many are answered unsafe; how many undecided; how many describe another yard than its first line;
 -- how many have a conductor too small for the row's size; and the greatest fault current"
 unfoldable pub numbersOf : ℕ → ℕ → ℕ → List Case → List ℤ

@@ -3,7 +3,8 @@ use mathlib.Core.{Path.{sym, _∙_, _≡_}, Bool.{false}, List.{[]}}
 use lib.ListN.{length}
 use borrow.Author.Needs.{needs}
 use Rattle.release.specs.{declared.licence.Wrong.the-variants.{Nothing}, Licence.{entriesOf, badCount, firstWrong}}
-use Rattle.release.proofs.{Answers.{count-refused, entry-refused, room-refused, entries-released}, release_lines.Statement.{statement}}
+use Rattle.release.proofs.Answers.{count-refused, entry-refused, room-refused, entries-released}
+use Rattle.release.proofs.release_lines.Statement.{statement}
 use Rattle.release.proofs.release_lines.Tie as tie
 
 -- what the checks found

@@ -29,7 +29,8 @@ module _ (m : tie.After-missing-seasons) where
   )
 
   numbers-are : eight (start .args .station) (m .missing-seasons .result) (m .before .count-lines .result)
-      ≡ stationNumbers (start .args .station) (start .args .seasons) (start .args .area) (storedCases (start .args .values .now) (start .args .n))
+      ≡ stationNumbers (start .args .station) (start .args .seasons) (start .args .area) (storedCases (start .args .values .now)
+      (start .args .n))
   unfolding stationNumbers
   numbers-are =
       ap (λ (k : ℕ). eight (start .args .station) k (m .before .count-lines .result)) (m .missing-seasons .ensures)
