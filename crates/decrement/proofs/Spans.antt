@@ -152,7 +152,9 @@ module _ {c : Case} (h : Bounds c) where
   powerLow = endOf 0 1 (halvingsOf exponentHigh) exponentHigh / 4
 
   powerHigh : ℕ
-  powerHigh = min (powerLow + gapOf (halvingsOf exponentHigh) exponentLow exponentHigh + 1) billion
+  powerHigh =
+      let j = halvingsOf exponentHigh in
+      min ((endOf 0 1 j exponentHigh + gapOf j exponentLow exponentHigh) / 4 + 1) billion
 
   power-is : exponentLow < large → expPair (exponentEnds c) ≡ natural powerLow powerHigh
   unfolding expPair nearEnds pairOf natural exponentLow exponentHigh powerLow powerHigh

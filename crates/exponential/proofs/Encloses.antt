@@ -94,14 +94,14 @@ module _ (j q : ℕ) where
 
 -- ---- the pair
 
--- the upper end: l and 4g together hold u, which is below 1
-pair-above : {u : ℕ} (l g : ℕ) → u < unit → u ≤ l + 4 * g → fine u ≤f parts (min (l / 4 + g + 1) billion)
+-- the upper end: l and g together hold u, which is below 1
+pair-above : {u : ℕ} (l g : ℕ) → u < unit → u ≤ l + g → fine u ≤f parts (min ((l + g) / 4 + 1) billion)
 unfolding over quarters ten
-pair-above {u} l g h k = go (decLe (l / 4 + g + 1) billion)
+pair-above {u} l g h k = go (decLe ((l + g) / 4 + 1) billion)
   where
-    go : Dec (l / 4 + g + 1 ≤ billion) → fine u ≤f parts (min (l / 4 + g + 1) billion)
+    go : Dec ((l + g) / 4 + 1 ≤ billion) → fine u ≤f parts (min ((l + g) / 4 + 1) billion)
     go (yes p) = rw (min-eq-left p) (omega (arith, k))
-    go (no p) = let m : billion ≤ l / 4 + g + 1 = omega arith in rw (min-eq-right m) (omega (arith, h))
+    go (no p) = let m : billion ≤ (l + g) / 4 + 1 = omega arith in rw (min-eq-right m) (omega (arith, h))
 
 module _ {x : Exact} (a b : ℕ) (some : 1 ≤ a) (c : Consistent x) where
   -- an upper end at or above the one by the terms

@@ -18,10 +18,10 @@ pub end-most : (j q : ℕ) → endOf 0 1 j q ≤ unit
 unfolding endOf inverseOf
 end-most j q = squared-below (omega (arith, inverse-most (series-least 1 (argumentOf 1 j q)))) j
 
-pair-span : {l : ℕ} (g : ℕ) → l ≤ unit → Span (pairOf l g) 0 billion (g + 1)
+pair-span : {l : ℕ} (g : ℕ) → l ≤ unit → Span (pairOf l g) 0 billion ((g + 3) / 4 + 1)
 unfolding pairOf
 pair-span {l} g h =
-    let u = l / 4 + g + 1 in
+    let u = (l + g) / 4 + 1 in
     record {
       a = l / 4;
       b = min u billion;
@@ -37,7 +37,7 @@ unfolding nearEnds gapOf errorOf
 near-span a b =
     let j = halvingsOf b in
     let m : 2 ^ min j 2 ≤ 2 ^ j = pow-le-pow-right (lit≤ tt) (min-le-left j 2) in
-    span-wider (pair-span (b - a + 3 * 2 ^ min j 2) (end-most j b)) (lit≤ tt) (lit≤ tt) (omega (arith, m))
+    span-wider (pair-span (4 * (b - a) + (12 * 2 ^ min j 2 - 2)) (end-most j b)) (lit≤ tt) (lit≤ tt) (omega (arith, m))
 
 -- below 22
 pub exp-near : (a b : ℕ) → a < large → expEnds a b ≡ nearEnds a b

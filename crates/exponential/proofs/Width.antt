@@ -230,7 +230,7 @@ module _ {a b : ℕ} (low : 65536 ≤ a) (l : a ≤ b) (high : b ≤ most) where
           omega arith
 
   -- in quarters of a billionth: four for a billionth between the exponents, and 12 for each of 2^j parts, at most four
-  pub end-close : b ≤ a + 1000 → endOf 1 0 (halvingsOf b) a ≤ endOf 0 1 (halvingsOf b) b + 4 * gapOf (halvingsOf b) a b
+  pub end-close : b ≤ a + 1000 → endOf 1 0 (halvingsOf b) a ≤ endOf 0 1 (halvingsOf b) b + gapOf (halvingsOf b) a b
   unfolding endOf argumentOf gapOf errorOf
   end-close near =
       let y = 4 * a / p in
@@ -247,7 +247,7 @@ module _ {a b : ℕ} (low : 65536 ≤ a) (l : a ≤ b) (high : b ≤ most) where
       by-count : (j : ℕ) → halvingsOf b ≡ j → (d : ℕ) → d ≤ 5000 → p * d ≤ 4 * (b - a) + 2 * p
           → inverseOf 1 (seriesOf 0 (4 * a / p)) ≤ inverseOf 0 (seriesOf 1 (4 * b / p + 1)) + (d + 8)
           → squaredOf 1 (inverseOf 1 (seriesOf 0 (4 * a / p))) j
-          ≤ squaredOf 0 (inverseOf 0 (seriesOf 1 (4 * b / p + 1))) j + 4 * (b - a + 3 * 2 ^ min j 2)
+          ≤ squaredOf 0 (inverseOf 0 (seriesOf 1 (4 * b / p + 1))) j + (4 * (b - a) + (12 * 2 ^ min j 2 - 2))
       by-count zero e d few o v =
           omega (arith, squared-close (d + 8) inverse-low (one-over-most (4 * b / p + 1)) v 0, o, ap (λ t. 2 ^ t * d) e, ap (λ t. 2 ^ t) e)
       by-count (suc zero) e d few o v =

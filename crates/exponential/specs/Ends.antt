@@ -56,17 +56,17 @@ squaredOf up v (suc m) = squaredOf up v m * squaredOf up v m / unit + up
 unfoldable pub endOf : ℕ → ℕ → ℕ → ℕ → ℕ
 endOf up down j q = squaredOf up (inverseOf up (seriesOf down (argumentOf down j q))) j
 
--- how far a calculation by j squarings can err, in billionths: from the third on a squaring makes it less
+-- how far a calculation by j squarings can err, in quarters of a billionth: from the third on a squaring makes it less
 unfoldable pub errorOf : ℕ → ℕ
-errorOf j = 3 * 2 ^ min j 2
+errorOf j = 12 * 2 ^ min j 2 - 2
 
--- how far above the lower end, by b, the upper end, by a, can be, in billionths: e^−q falls by less than q grows
+-- how far above the lower end, by b, the upper end, by a, can be, in quarters: e^−q falls by less than q grows
 unfoldable pub gapOf : ℕ → ℕ → ℕ → ℕ
-gapOf j a b = b - a + errorOf j
+gapOf j a b = 4 * (b - a) + errorOf j
 
--- the two ends from l quarters, g billionths apart: at most 1
+-- the two ends from l quarters, g quarters apart: at most 1
 unfoldable pub pairOf : ℕ → ℕ → Interval
-pairOf l g = natural (l / 4) (min (l / 4 + g + 1) billion)
+pairOf l g = natural (l / 4) (min ((l + g) / 4 + 1) billion)
 
 -- for q from a to b, by the halvings of b
 unfoldable pub nearEnds : ℕ → ℕ → Interval

@@ -55,11 +55,11 @@ fn squared(v: u64, m: u64) -> u64
     power
 }
 
-// How far the calculation by j squarings can err, in billionths.
+// How far the calculation by j squarings can err, in quarters of a billionth.
 fn error(j: u64) -> u64
     ensures { λ r. ⌜ r ≡ errorOf j ⌝ }
 {
-    if j < 2 { 3 << j } else { 12 }
+    if j < 2 { (12 << j) - 2 } else { 46 }
 }
 
 // The two ends from the lower one in quarters, and from how far above it the upper one can be.
@@ -68,7 +68,7 @@ fn pair(l: u64, g: u64) -> Interval
     ensures { λ r. ⌜ r ≡ pairOf l g ⌝ }
 {
     let lower = l / 4;
-    let upper = lower + g + 1;
+    let upper = (l + g) / 4 + 1;
     if upper < BILLION {
         Interval::natural(lower, upper)
     } else {
@@ -85,7 +85,7 @@ fn near_ends(a: u64, b: u64) -> Interval
     let j = halve(b);
     let s = series((4 * b >> j) + 1);
     let l = squared(UNIT * UNIT / s, j);
-    pair(l, b - a + error(j))
+    pair(l, 4 * (b - a) + error(j))
 }
 
 // The same, below a billionth from 22 on.

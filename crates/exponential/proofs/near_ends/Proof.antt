@@ -44,8 +44,11 @@ squared-requires c κs = (inverse-most (series-low c), small (c .before) .1)
 sub-pair : tie.Need-sub-pair
 sub-pair c = omega (arith, c .before .before .before .pre .0)
 
+mul-pair : tie.Need-mul-pair
+mul-pair c = omega (arith, c .before .before .before .pre .1)
+
 -- what the calculation can err by
-few : (c : tie.After-error) → c .error .result ≤ 12
+few : (c : tie.After-error) → c .error .result ≤ 46
 unfolding errorOf
 few c =
     let k : 2 ^ min _ 2 ≤ 2 ^ 2 = pow-le-pow-right (lit≤ tt) (min-le-right (c .before .before .before .halve .result) 2) in
@@ -71,5 +74,5 @@ returns c =
 pub near-ends-spec : {M : Type 1} → statement M
 near-ends-spec =
     tie.close
-    (tie.spec halve-requires mul-series shr-series add-series series-requires mul-squared div-squared squared-requires sub-pair
+    (tie.spec halve-requires mul-series shr-series add-series series-requires mul-squared div-squared squared-requires sub-pair mul-pair
     (λ c κs. search needs) add-pair pair-requires returns)
