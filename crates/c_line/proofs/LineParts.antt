@@ -6,15 +6,13 @@ use lib.{IntN.{ℤ}, ListN.{length, drop, set}, Seq.{drop-length}}
 use mir.{Syntax.{w64}, Val.{SFits}, Facts.{toZ-ofZ}}
 use Rattle.whole.proofs.Bits.{read}
 use Rattle.text.proofs.Clash.{clash}
-use Rattle.case.{specs.{declared.Case.{Case}, Check.{recordAnswer}, Bounds.{Bounds}}, proofs.BoundsSound.{bounds-sound}}
+use Rattle.case.specs.{declared.Case.{Case}, Bounds.{Bounds}}
 use Rattle.row.specs.{Row.{numbers}, Ends.{rowOf}}
-use Rattle.working.specs.{declared.{Quantities.{Quantities}, Worked.{Worked}}, Ends.{workingOf}, Numbers.{workingNumbers}}
-use Rattle.working.specs.Working.{workingAnswer, RightWorked, WorkingAnswered}
-use Rattle.working.specs.declared.Worked.the-variants as worked
+use Rattle.working.specs.Numbers.{workingNumbers}
 use Rattle.margin.{specs.{declared.Compared.{Compared}, Margin.{marginsOf}, Meaning.{Right}}, proofs.Right.{right-margins}}
 use Rattle.margin.specs.declared.Compared.the-variants as compared
 use Rattle.c_line.specs.declared.Question.{Question, the-variants.{Margins, Working, Headroom}}
-use Rattle.c_line.specs.Line.{widthOf, MarginsLine, WorkingLine, LineOf}
+use Rattle.c_line.specs.Line.{widthOf, MarginsLine, LineOf}
 
 -- as many numbers as a part has take the place of all of it
 pub put-whole : (zs part : List ℤ) → length part ≡ length zs → zs ++ drop (length zs) part ≡ zs
@@ -39,21 +37,6 @@ module _ {c : Case} (b : Bounds c) where
   pub margins-line : {r : Compared} {mesh step : ℤ} {part : List ℤ} → r ≡ marginsOf (numbers (rowOf c)) → r ≡ compared.Margins mesh step
       → part ≡ mesh ∷ step ∷ [] → MarginsLine c part
   margins-line e f p = record { mesh = _; step = _; is = p; margins = sym e ∙ f }
-
-  -- a case within its bounds is worked
-  pub is-worked : workingAnswer c ≡ worked.Is (workingOf c)
-  unfolding workingAnswer recordAnswer
-  is-worked = rw (bounds-sound b)
-
-  pub working-some : {r : Worked} {number line column : ℕ} → WorkingAnswered c r → r ≡ worked.Refused number line column → ⊥
-  working-some w e = let z = sym e ∙ w .answer ∙ is-worked in clash cc
-
-  pub working-line : {r : Worked} {w : Quantities} {part : List ℤ} → WorkingAnswered c r → r ≡ worked.Is w → part ≡ workingNumbers w
-      → WorkingLine c part
-  unfolding RightWorked
-  working-line {r} {w} a e p =
-      let z : w ≡ workingOf c = let q = sym e ∙ a .answer ∙ is-worked in cc in
-      record { is = p ∙ ap workingNumbers z; right = rw (← z) (rw e at (a .right)) }
 
 -- ---- what is asked
 

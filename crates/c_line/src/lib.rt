@@ -12,8 +12,7 @@ use row::ROW_LENGTH;
 use row::put_row;
 use row::work_row;
 use working::WORKING_NUMBERS;
-use working::Worked;
-use working::working;
+use working::work;
 use working::working_numbers;
 
 // What is asked of a value line.
@@ -62,14 +61,8 @@ fn put_working(c: Case, part: &mut [i64])
     requires { ⌜ length (now part) ≡ 30 ⌝ }
     ensures { λ _. ⌜ WorkingLine c (now (part .exit)) ⌝ }
 {
-    match working(c) {
-        Worked::Is(w) => {
-            let zs = working_numbers(w);
-            put_first(&zs, part);
-        }
-        // a case within its bounds is not refused
-        Worked::Refused(_, _, _) => {}
-    }
+    let zs = working_numbers(work(c));
+    put_first(&zs, part);
 }
 
 // The headroom of the case, or 0 for none.

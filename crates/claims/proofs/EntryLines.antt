@@ -5,18 +5,20 @@ use native.Mathlib.Omega.{arith}
 use lib.{Dec.{ltb}, IntN.{ℤ, pos}, ListN.{length}}
 use borrow.Author.Tests.{ltb-true, ltb-false}
 use Rattle.tables.specs.Parts.{partAt}
-use Rattle.case.{specs.{declared.Case.{Case}, Columns.{columns}, Bounds.{Bounds}}, proofs.BoundsSound.{bounds-sound}}
+use Rattle.case.specs.{declared.Case.{Case}, Columns.{columns}, Check.{recordAnswer}, Bounds.{Bounds}}
+use Rattle.case.proofs.BoundsSound.{bounds-sound}
 use Rattle.judgement.specs.{declared.Judgement.{Judgement}, Sheet.{judgement}}
 use Rattle.judgement.specs.declared.Judgement.the-variants as judged
 use Rattle.row.specs.{declared.Row.{Row}, Ends.{rowOf}}
 use Rattle.margin.{specs.Meaning.{Right, RightMargins}, proofs.Right.{right-margins}}
-use Rattle.working.specs.Working.{RightWorked}
+use Rattle.working.specs.{Ends.{workingOf}, Working.{workingAnswer, RightWorked}}
 use Rattle.headroom.specs.Headroom as headroom
 use Rattle.sheet.specs.declared.Answer.the-variants as answer
 use Rattle.sheet.specs.Answer.{cases}
 use Rattle.hocsimbur.{specs.{declared.RowAnswer.{RowAnswer}, Asked.{RowAnswered}}, proofs.Answers.{bounds-answered}}
 use Rattle.hocsimbur.specs.declared.RowAnswer.the-variants as answered
-use Rattle.c_line.{specs.declared.Question.{Question}, proofs.LineParts.{is-worked}}
+use Rattle.c_line.specs.declared.Question.{Question}
+use Rattle.working.specs.declared.Worked.the-variants as worked
 use Rattle.c_line.specs.declared.Question.the-variants as question
 use Rattle.c_line.specs.Line as line
 use Rattle.c_lines.specs.Lines.{linesBy, linesAnswer, Filled, ArrayAfter, LinesTold}
@@ -86,6 +88,11 @@ margins-say c part b l =
       λ w. right .safe-both (rw (answered-row b h (w .is)) at (w .verdict)),
       λ p. record { row = rowOf c; is = bounds-answered b h; verdict = right .both-safe (p .0) (p .1) },
     )))
+
+-- a case within its bounds is worked
+is-worked : {c : Case} → Bounds c → workingAnswer c ≡ worked.Is (workingOf c)
+unfolding workingAnswer recordAnswer
+is-worked b = rw (bounds-sound b)
 
 working-says : (c : Case) (part : List ℤ) → Bounds c → line.WorkingLine c part → entries.WorkingNumbers c part
 unfolding RightWorked

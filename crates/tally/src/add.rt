@@ -1,6 +1,5 @@
 // One line added to what is counted of its station.
 ghost use mathlib.Core.Path.{_≡_};
-ghost use mathlib.Core.List.{[], _∷_};
 ghost use Prim.Native.Nat.{min};
 ghost use lib.Dec.{eqb};
 ghost use mathlib.Core.Bool.{_||_};
@@ -9,7 +8,6 @@ ghost use Rattle.decision.specs.Verdict.{verdictNumber};
 ghost use Rattle.row.specs.Ends.{rowOf};
 ghost use Rattle.whole.specs.Count.{one};
 ghost use Rattle.tally.specs.Lines.{sameYard, otherYard, areaOf, tooSmall};
-ghost use Rattle.tally.specs.Fault.{commonFault};
 ghost use Rattle.tally.specs.Tally.{addLine, Small};
 use crate::Tally;
 use case::Case;
@@ -95,14 +93,6 @@ fn count_small(c: Case, area: u32, size: i64) -> u32
     0
 }
 
-// The headroom of one line, or 0.
-fn line_fault(c: Case) -> u32
-    requires { ⌜ Bounds c ⌝ }
-    ensures { λ r. ⌜ r ≡ commonFault (c ∷ []) ⌝ }
-{
-    greatest_fault(c)
-}
-
 fn lesser(a: u32, b: u32) -> u32
     ensures { λ r. ⌜ r ≡ min a b ⌝ }
 {
@@ -141,6 +131,6 @@ pub fn add(yard: Case, area: u32, c: Case, t: Tally) -> Tally
         undecided,
         other,
         small,
-        fault: lesser(line_fault(c), t.fault),
+        fault: lesser(greatest_fault(c), t.fault),
     }
 }

@@ -79,7 +79,8 @@ fn step_in_micrometres(c: Case) -> Interval
     Interval::point(50 * step::step_length(c))
 }
 
-fn work(c: Case) -> Quantities
+// The working of a case within its bounds.
+pub fn work(c: Case) -> Quantities
     requires { ⌜ Bounds c ⌝ }
     ensures { λ r. ⌜ r ≡ workingOf c ⌝ }
 {

@@ -4,7 +4,7 @@ use native.Mathlib.Omega.{arith}
 use borrow.Author.Needs.{needs}
 use mir.{Syntax.{w64}, Val.{SFits}, Facts.{toZ-ofZ}}
 use Rattle.tally.specs.{Lines.{answeredUnsafe, answeredUndecided}, Tally.{addLine}}
-use Rattle.tally.proofs.{Counts.{counts-most}, add.add.Statement.{statement}}
+use Rattle.tally.proofs.{Counts.{counts-most}, Faults.{fault-common}, add.add.Statement.{statement}}
 use Rattle.tally.proofs.add.add.Tie as tie
 
 abbrev start : tie.After-work-row → tie.Start
@@ -47,8 +47,8 @@ add-small c =
 add-t11 : tie.Need-add-t11
 add-t11 c = record { fits = omega (arith, start (worked (c .before .before .before)) .pre .1 .lines) }
 
-line-fault-requires : tie.Need-line-fault-requires
-line-fault-requires c κs = start (worked (c .before .before .before .before .before .before .before)) .pre .0
+greatest-fault-requires : tie.Need-greatest-fault-requires
+greatest-fault-requires c κs = start (worked (c .before .before .before .before .before .before .before)) .pre .0
 
 returns : tie.Need-returns
 unfolding addLine answeredUnsafe answeredUndecided
@@ -61,10 +61,10 @@ returns c =
     let u = d .before .before in
     rw (u .count-unsafe .ensures, d .count-undecided .ensures, o .count-other .ensures, p .count-small .ensures)
     (rw (h .has4 .ensures, h .before .has3 .ensures, h .before .before .has2 .ensures, h .before .before .before .has .ensures)
-    (rw (c .lesser .ensures, f .line-fault .ensures, u .before .work-row .ensures)))
+    (rw (c .lesser .ensures, fault-common (start (u .before) .pre .0) _ (f .greatest-fault .ensures), u .before .work-row .ensures)))
 
 pub add-spec : {M : Type 1} → statement M
 add-spec =
     tie.close (tie.spec (λ c κs. search needs) (λ c κs. search needs) add-not-safe (λ c κs. search needs) add-undecided
     (λ c κs. search needs) add-other count-small-requires add-small add-t11 (λ c κs. search needs) (λ c κs. search needs)
-    (λ c κs. search needs) (λ c κs. search needs) line-fault-requires (λ c κs. search needs) returns)
+    (λ c κs. search needs) (λ c κs. search needs) greatest-fault-requires (λ c κs. search needs) returns)
