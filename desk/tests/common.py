@@ -29,5 +29,5 @@ def plain(text):
 
 def told(browser):
     """What the page says of each line: verdict, nearest limit, wire, fault; or the refusal."""
-    return json.loads(browser.run("""JSON.stringify([...document.querySelectorAll('#sheet tbody tr:not(.blank)')].map(tr =>
+    return json.loads(browser.run("""JSON.stringify([...document.querySelectorAll('#sheet tbody tr:not(.blank, .space)')].map(tr =>
       [...tr.querySelectorAll('[class^=r-]')].filter(td => !td.hidden).map(td => td.textContent)))"""))

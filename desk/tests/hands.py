@@ -108,6 +108,41 @@ def drawn(b):
     same("edge of the curve is the headroom", "up to 3,476 A" in plain(b.run("document.querySelector('.under').textContent")), True)
 
 
+MANY = 2000
+
+
+def many_lines(b):
+    """A portfolio of 500 stations: all of it judged, only what is seen drawn, keys and the printer as with few lines."""
+    rest = "2500,102,500,500,1000,70,8900,420,14,12,12,6000,600,134,24,3000,1,2,60"
+    soils = [50 + 37 * i % 251 for i in range(MANY)]
+    folder = Path(tempfile.mkdtemp(prefix="desk-"))
+    path = folder / "many.csv"
+    path.write_text("\n".join([",".join(NAMES), *(f"{i // 4 + 1},{i % 4 + 1},{soil},{rest}" for i, soil in enumerate(soils)), ""]))
+    same("said", dropped(b, path), f"many.csv: {MANY} lines")
+    drawn_rows = "document.querySelectorAll('#sheet tbody tr').length"
+    place = "document.activeElement.dataset.r + ',' + document.activeElement.dataset.c"
+    same("rows drawn", b.run(drawn_rows) < 120, True)
+    same("totals", plain(b.run("document.getElementById('totals').textContent")).startswith("500 stations: "), True)
+    b.click(cell(0, "fault")), b.key("End", 2), b.settle()
+    same("the last cell", b.run(place), f"{MANY - 1},{len(NAMES) - 1}")
+    same("its line", b.run(f"document.querySelector('{cell(MANY - 1, 'soil')}').textContent"), str(soils[-1]))
+    b.run("document.getElementById('pane').scrollTop = 20000"), b.settle()
+    same("the chosen cell is not drawn", b.run(f"document.querySelector('{cell(MANY - 1, 'soil')}')"), None)
+    b.key("ArrowUp"), b.settle()
+    same("and a key finds it", b.run(place), f"{MANY - 2},{len(NAMES) - 1}")
+    b.click(cell(MANY - 2, "fault")), b.type("100"), b.key("Enter"), b.settle()
+    same("typed", b.run(f"document.querySelector('{cell(MANY - 2, 'fault')}').textContent"), "100")
+    b.run(f"addEventListener('beforeprint', () => {{ window.printed = {drawn_rows}; }})")
+    b.call("Page.printToPDF")
+    b.settle()
+    same("all lines are printed", b.run("window.printed") >= MANY, True)
+    same("after printing", b.run(drawn_rows) < 120, True)
+    big = folder / "big.csv"
+    big.write_text(",".join(NAMES) + "\n" + f"1,1,100,{rest}\n" * 10001)
+    same("too many", dropped(b, big), "big.csv was not opened: 10,001 lines of values, at most 10,000 are taken; split it into several")
+    b.click("#new"), b.settle()
+
+
 def dropped(b, *paths):
     """Files dropped on the page, and what it then says."""
     for kind in ("dragEnter", "dragOver", "drop"):

@@ -61,21 +61,29 @@ test('every refusal has the same words, at the same line and column', () => {
 const plain = (text) => text.replaceAll('\u00a0', ' ');
 const changeWords = ({ kind, words: said, then }) => plain(`${kind}: ${said}${then ? `${kind === 'yard' ? ', ' : '; '}${then}` : ''}`);
 
+// the stations of a licence's text, their numbers shifted
+const licenceMap = (text, shift = 0) => new Map(
+  (text ? [...licenceOf(parsed(text).lines).licence] : []).map(([station, granted]) => [station + shift, granted]),
+);
+// all that is said of a station
+const saidOf = (asked, number) => {
+  const one = asked.at.get(number);
+  return {
+    station: number, decision: sentences.decision(one, asked.unread), asides: sentences.asides(one), cautions: sentences.cautions(one),
+    greatest: sentences.greatest(one), now: sentences.now(one), changes: changes(one).map(changeWords),
+  };
+};
+
 test('lines and stations are told alike: verdicts, margins, decisions, asides, cautions and what to change', () => {
   let released = 0, held = 0, changed = 0, thin = 0;
   for (const { rows, licence, lines, stations } of expected.portfolios) {
     judge(rows); // what is known of a line without the licence's wires is not taken for what it is with them
-    const granted = licence ? licenceOf(parsed(licence).lines).licence : new Map(), judged = judge(rows, granted);
+    const granted = licenceMap(licence), judged = judge(rows, granted);
     assert.deepEqual(judged.lines.map((line) => [words.verdict(line), words.margin(line.nearest), line.nearest.limit, line.row.kcmil,
       line.headroom, line.small]), lines);
     const asked = portfolio(judged, granted);
     for (const wanted of stations) {
-      const one = asked.at.get(wanted.station);
-      const found = {
-        station: one.station, decision: sentences.decision(one, asked.unread), asides: sentences.asides(one),
-        cautions: sentences.cautions(one), greatest: sentences.greatest(one), now: sentences.now(one),
-        changes: changes(one).map(changeWords),
-      };
+      const one = asked.at.get(wanted.station), found = saidOf(asked, wanted.station);
       assert.deepEqual(found, { ...wanted, changes: wanted.changes.map(plain) });
       if (one.released) released++;
       else held++;
@@ -85,6 +93,33 @@ test('lines and stations are told alike: verdicts, margins, decisions, asides, c
   }
   assert.ok(released > 50 && held > 150 && changed > 700, `${released} released, ${held} held, ${changed} changes`);
   assert.ok(thin > 20, `${thin} stations with a wire of the licence that is too small`);
+});
+
+test('any number of lines is judged as few are, in sheets of whole stations', () => {
+  const rows = [], licence = new Map(), wanted = [];
+  expected.portfolios.forEach((one, i) => {
+    rows.push(...one.rows.map(([station, ...rest]) => [String(Number(station) + 10 * i), ...rest]));
+    for (const [station, granted] of licenceMap(one.licence, 10 * i)) licence.set(station, granted);
+    wanted.push(...one.stations.map((said) => ({ ...said, station: said.station + 10 * i, changes: said.changes.map(plain) })));
+  });
+  const judged = judge(rows, licence), asked = portfolio(judged, licence), places = new Map();
+  assert.ok(rows.length > 900 && judged.sheets.length > 3 && judged.lines.every((line) => !line.refused));
+  for (const [place, { text, stations }] of judged.sheets.entries()) {
+    assert.ok(text.split('\n').length - 2 <= 256);
+    for (const station of stations) assert.ok(!places.has(station) && places.set(station, place));
+  }
+  for (const one of wanted) assert.deepEqual(saidOf(asked, one.station), one);
+  for (const [number, { byLicence }] of licence) assert.ok(asked.at.get(number).released !== undefined && byLicence, `station ${number}`);
+});
+
+test('a station with more lines than a sheet takes keeps its first of each season', () => {
+  const [row] = expected.portfolios[0].rows;
+  const rows = Array.from({ length: 700 }, (_, i) => ['7', String(1 + (i >> 1) % 4), ...row.slice(2)]);
+  const judged = judge(rows), kept = judged.lines.filter((line) => !line.refused);
+  assert.deepEqual(kept.map((line) => line.number), [2, 4, 6, 8]);
+  assert.ok(judged.lines.every((line) => !line.refused || line.refused.number === 7));
+  const said = words.refusal(judged.lines[699], judged.lines);
+  assert.equal(said, 'station 7, season 2 stands already in line 4; a station has one line for a season');
 });
 
 test('a licence is read or refused in the same words', () => {

@@ -62,6 +62,24 @@ function refusedOf(judged) {
   return { byStation, unread };
 }
 
+// What the library answers of some stations, each on the sheet that has its lines; those without a line are asked on the first sheet.
+// The same sheet and entries have the same answers, so that a keystroke asks of one sheet alone.
+let kept = new Map();
+function releases(sheets, open, entryOf) {
+  const wanted = new Set(open), answers = new Map(), asked = new Map();
+  const placed = new Set(sheets.flatMap((one) => one.stations)), others = open.filter((number) => !placed.has(number));
+  sheets.forEach(({ text, stations }, place) => {
+    const entries = [...stations.filter((number) => wanted.has(number)), ...(place ? [] : others)].map(entryOf);
+    for (let first = 0; first < entries.length; first += data.lines) {
+      const part = entries.slice(first, first + data.lines), key = `${part}\n${text}`;
+      asked.set(key, kept.get(key) ?? core.release(text, part));
+      for (const one of asked.get(key)) answers.set(one.station, one);
+    }
+  });
+  kept = asked;
+  return answers;
+}
+
 // The stations of the sheet and of the licence; `licence` has name, seasons and wire of a station; one that it does not name is asked for
 // all four seasons.
 export function portfolio(judged, licence) {
@@ -75,14 +93,8 @@ export function portfolio(judged, licence) {
   const granted = (number) => licence.get(number) ?? { name: '', seasons: SEASONS, wire: '', area: 0, byLicence: false };
   const open = [...lines.keys()].filter((number) => !refused.byStation.has(number) && granted(number).seasons.length
     && !refused.unread.length);
-  const answers = new Map();
-  if (judged.text) {
-    for (let first = 0; first < open.length; first += data.lines) {
-      const part = open.slice(first, first + data.lines);
-      const numbers = (number) => [number, mask(granted(number).seasons), granted(number).area];
-      core.release(judged.text, part.map(numbers)).forEach((one) => answers.set(one.station, one));
-    }
-  }
+  const entry = (number) => [number, mask(granted(number).seasons), granted(number).area];
+  const answers = releases(judged.sheets, open, entry);
   const stations = [...lines].map(([number, own]) => ({
     ...stationOf(number, own, granted(number), answers.get(number)), refused: refused.byStation.get(number) ?? [],
   }));

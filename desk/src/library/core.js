@@ -13,7 +13,7 @@ export const rows = (text) => library.rows(text);
 export const margins = (text) => library.margins(text);
 export const working = (text) => library.working(text);
 export const headroom = (text) => library.headroom(text);
-export const release = (text, pairs) => library.release(text, pairs);
+export const release = (text, entries) => library.release(text, entries);
 export const carry = (text) => library.carry(text);
 
 // a sheet of lines, and a line of a case

@@ -2,7 +2,9 @@
 // A number is written as whole digits where its size stays the same; nothing is rounded, and what is no whole number is left as it is.
 import { NAMES, data, fill } from '../library/data.js';
 import { carry } from '../library/core.js';
+import { grouped } from '../words/decimals.js';
 import { listed } from '../words/words.js';
+import { MOST_LINES } from './store.js';
 
 const SPACES = '\u00a0\u202f\u2007\ufeff';
 
@@ -61,8 +63,9 @@ export function cellsOf(text) {
   return { rows, header: true, notes };
 }
 
-// Why so many lines cannot stand in a sheet; '' where they can. None is left out in silence.
-export const tooMany = (count) => (count > data.lines ? fill(data.refusals.lines, { count }) : '');
+// Why so many lines cannot stand in the page; '' where they can. None is left out in silence.
+export const tooMany = (count) => (count > MOST_LINES
+  ? `${grouped(count)} lines of values, at most ${grouped(MOST_LINES)} are taken; split it into several` : '');
 
 // A sheet of the former 18 names: the library makes today's of it.
 function carried(kept, sign) {

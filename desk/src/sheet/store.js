@@ -1,8 +1,9 @@
 // The sheet as it is edited: rows of text, the licence, what was done and undone. It lives in the page alone.
-import { NAMES, SEASONS, data } from '../library/data.js';
+import { NAMES, SEASONS } from '../library/data.js';
 
 const blank = () => NAMES.map(() => '');
 const MOST_STEPS = 300;
+export const MOST_LINES = 10000; // that the page takes
 const listeners = [];
 const empty = { rows: [], licence: new Map(), name: '' };
 let past = [], future = [], saved = empty;
@@ -72,7 +73,7 @@ export function rowsNow() {
 export function withCells(cells, rows = store.now.rows) {
   const made = [...rows], own = new Set();
   for (const [row, column, text] of cells) {
-    if (row >= data.lines || column >= NAMES.length) continue;
+    if (row >= MOST_LINES || column >= NAMES.length) continue;
     while (made.length <= row) made.push(blank());
     if (!own.has(row)) made[row] = [...made[row]];
     own.add(row);

@@ -4,11 +4,13 @@ import { grouped } from '../words/decimals.js';
 import { bar, mark, withWord } from './drawing.js';
 import { byId, h, show } from './dom.js';
 import { incomplete, refusedColumn } from '../judging/judging.js';
+import { MOST_LINES } from '../sheet/store.js';
 import { sizeWords } from '../judging/sentences.js';
 import { sizeOfLine } from '../judging/stations.js';
 import { margin, meaning, refusal, refusedPlace, verdict } from '../words/words.js';
 
 const SPARE = 4, LEAST = 14;
+const ALL = 300, AROUND = 24; // a sheet up to so many rows is drawn whole, else only the rows in sight and so many on both sides
 const RESULTS = [['verdict', 'Verdict', ''], ['near', 'Nearest limit', ''], ['need', 'Wire', 'kcmil'], ['upto', 'Safe up to', 'A']];
 const WIDTHS = { // rem: so that a cell that is typed moves no other
   ln: 2.3, station: 3.55, season: 3.25, soil: 2.8, layer: 2.95, thick: 2.75, shock: 2.95, clear: 2.65, wire: 2.7, body: 2.6, fault: 3.35,
@@ -17,11 +19,12 @@ const WIDTHS = { // rem: so that a cell that is typed moves no other
   near: 9, need: 5.1, upto: 4.9,
 };
 const starts = new Set(GROUPS.map(([, names]) => names[0]));
-const lines = []; // drawn rows: { tr, head, cells, texts, results, seen }
+const lines = new Map(); // drawn rows by place: { tr, head, cells, texts, results, seen }
+let shown = { rows: [], judged: null, top: 0, total: 0 }, whole = false;
 
 const classOf = (name) => `c-${name}${starts.has(name) ? ' first' : ''}`;
-export const cellAt = (row, column) => lines[row]?.cells[column];
-export const rowCount = () => lines.length;
+export const cellAt = (row, column) => lines.get(row)?.cells[column];
+export const rowCount = () => shown.total;
 
 export function head() {
   const col = ([, width]) => { const made = h('col'); made.style.width = `${width}rem`; return made; };
@@ -40,9 +43,80 @@ function drawRow(place) {
     h('td', { role: 'gridcell', tabindex: -1, 'data-r': place, 'data-c': column, class: classOf(name) }));
   const number = h('th', { scope: 'row', class: 'ln', 'data-r': place });
   const results = RESULTS.map(([kind]) => h('td', { class: `r-${kind}` }));
-  lines.push({ tr: h('tr', { class: 'blank' }, number, cells, results), head: number, cells, texts: cells.map(() => ''), results,
-    seen: '' });
-  return lines.at(-1).tr;
+  const tr = h('tr', { class: 'blank', 'aria-rowindex': place + 3 }, number, cells, results);
+  lines.set(place, { tr, head: number, cells, texts: cells.map(() => ''), results, seen: '' });
+}
+
+// The rows to be drawn, the first and one past the last, by where the pane is scrolled to.
+function wanted() {
+  const { total } = shown, pane = byId('pane'), height = rowHeight();
+  if (whole || total <= ALL) return [0, total];
+  const first = Math.floor(pane.scrollTop / height) - AROUND, last = Math.ceil((pane.scrollTop + pane.clientHeight) / height) + AROUND;
+  return [Math.max(0, Math.min(first, total - 2 * AROUND)), Math.min(total, Math.max(last, 2 * AROUND))];
+}
+
+let height = 0;
+function rowHeight() {
+  const [one] = lines.values();
+  if (one) height = one.tr.getBoundingClientRect().height || height;
+  return height || 24;
+}
+
+export function drawnRows() {
+  const places = [...lines.keys()];
+  return [Math.min(...places), Math.max(...places)];
+}
+
+// Empty rows in the place of those that are not drawn.
+function space(id, rows) {
+  const body = byId('sheet').tBodies[0];
+  const tr = byId(id) ?? h('tr', { id, class: 'space', 'aria-hidden': 'true' }, h('td', { colspan: NAMES.length + RESULTS.length + 1 }));
+  tr.hidden = rows === 0;
+  tr.firstChild.style.height = `${rows * rowHeight()}px`;
+  if (!tr.parentNode) body[id === 'above' ? 'prepend' : 'append'](tr);
+  return tr;
+}
+
+// Puts rows in and takes rows out, so that those drawn are the wanted ones, in order.
+function placeRows() {
+  const [first, last] = wanted(), sheet = byId('sheet');
+  for (const [place, { tr }] of lines) {
+    if (place >= first && place < last) continue;
+    if (tr.contains(document.activeElement)) sheet.focus({ preventScroll: true }); // keys still go to the sheet
+    tr.remove();
+    lines.delete(place);
+  }
+  const below = space('below', shown.total - last);
+  let next = space('above', first).nextSibling;
+  for (let place = first; place < last; place++) {
+    if (!lines.has(place)) drawRow(place);
+    const { tr } = lines.get(place);
+    if (tr === next) next = tr.nextSibling;
+    else sheet.tBodies[0].insertBefore(tr, next ?? below);
+  }
+}
+
+// Draws what came into sight.
+export function scrolled() {
+  if (!shown.judged || shown.total <= ALL || whole) return false;
+  const [first, last] = wanted(), [from, to] = drawnRows();
+  if (first >= from && last <= to + 1 && first - from < AROUND && to + 1 - last < AROUND) return false;
+  drawRows();
+  return true;
+}
+
+// Scrolls so far that a row is drawn; what else of it is to be seen is scrolled by who chooses it.
+export function reveal(row) {
+  if (lines.has(row) || row >= shown.total) return;
+  const pane = byId('pane');
+  pane.scrollTop = Math.max(0, row * rowHeight() - pane.clientHeight / 2);
+  drawRows();
+}
+
+// All rows for the printer, and then again those in sight.
+export function drawWhole(on) {
+  whole = on;
+  if (shown.total > ALL) drawRows();
 }
 
 // A wire that is too small: what is needed, and what it has.
@@ -101,9 +175,13 @@ function flag(drawn, line) {
 
 // Draws the rows of the sheet and what is known of them; cells and answers that stay the same are left alone.
 export function draw(rows, judged, top) {
-  const wanted = Math.min(data.lines, Math.max(LEAST, rows.length + SPARE)), body = byId('sheet').tBodies[0];
-  while (lines.length < wanted) body.append(drawRow(lines.length));
-  while (lines.length > wanted) lines.pop().tr.remove();
+  shown = { rows, judged, top, total: Math.min(MOST_LINES, Math.max(LEAST, rows.length + SPARE)) };
+  drawRows();
+}
+
+function drawRows() {
+  const { rows, judged, top } = shown;
+  placeRows();
   lines.forEach((drawn, place) => {
     const row = rows[place], line = judged.at.get(place);
     drawn.cells.forEach((td, column) => {
@@ -122,13 +200,17 @@ export function draw(rows, judged, top) {
   });
 }
 
-export const restore = (row, column) => { const drawn = lines[row]; drawn.cells[column].textContent = drawn.texts[column]; };
+export function restore(row, column) {
+  const drawn = lines.get(row);
+  if (drawn) drawn.cells[column].textContent = drawn.texts[column];
+}
 
 // The words of a refusal at its cell.
 export function callout(line, all) {
   const box = byId('callout');
-  if (!line?.refused || line.typing) { box.hidden = true; return; }
-  const td = cellAt(line.place, refusedColumn(line)), pane = byId('pane'), words = refusal(line, all);
+  const td = line?.refused && !line.typing ? cellAt(line.place, refusedColumn(line)) : null;
+  if (!td) { box.hidden = true; return; }
+  const pane = byId('pane'), words = refusal(line, all);
   box.className = incomplete(line) ? 'callout todo' : 'callout';
   show(box, h('b', {}, NAMES[line.refused.column - 1] ?? `line ${line.number}`), ` ${words}`,
     h('small', {}, `${refusedPlace(line)}; refusal ${line.refused.number}`));

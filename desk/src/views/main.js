@@ -87,7 +87,8 @@ function addSeason() {
   const taken = new Set(judged.lines.filter((one) => one.cells[0] === line.cells[0]).map((one) => one.cells[1]));
   const season = ['1', '2', '3', '4'].find((one) => !taken.has(one)) ?? '';
   const copy = line.cells.map((cell, column) => (column === 1 ? season : cell));
-  store.change('a line added', { rows: [...rows.slice(0, line.place + 1), copy, ...rows.slice(line.place + 1)].slice(0, 256) });
+  const more = [...rows.slice(0, line.place + 1), copy, ...rows.slice(line.place + 1)];
+  store.change('a line added', { rows: more.slice(0, store.MOST_LINES) });
   choose(line.place + 1, NAMES.indexOf('soil'));
   say(season ? `season ${season} of station ${line.cells[0]}, a copy: set its soil` : 'a copy; all four seasons have a line already');
 }
@@ -118,14 +119,19 @@ function wire() {
     keys.finish(true); // what is typed is saved too
     byId(act).click();
   });
+  addEventListener('afterprint', () => grid.drawWhole(false));
   addEventListener('beforeprint', () => {
+    grid.drawWhole(true);
     listing.draw(portfolio, top, pick);
     const today = new Date().toLocaleDateString('en-GB', { day: 'numeric', month: 'long', year: 'numeric' });
     byId('printed').textContent = `Hocsimbur ${version()}, ${today}`;
   });
   let width = innerWidth;
   addEventListener('resize', () => { if (innerWidth !== width) { width = innerWidth; later(); } });
-  byId('pane').addEventListener('scroll', () => { byId('callout').hidden = true; }, { passive: true });
+  byId('pane').addEventListener('scroll', () => {
+    byId('callout').hidden = true;
+    if (grid.scrolled()) paint();
+  }, { passive: true });
   byId('sheet').addEventListener('pointerover', (event) => {
     const td = event.target.closest('td.bad, td.todo');
     if (td) grid.callout(judged.at.get(Number(td.dataset.r)), judged.lines);

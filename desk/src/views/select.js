@@ -1,7 +1,7 @@
 // The chosen cell and range of cells, and moving among them.
-import { NAMES, data } from '../library/data.js';
+import { NAMES } from '../library/data.js';
 import { byId } from './dom.js';
-import { cellAt, rowCount } from './grid.js';
+import { cellAt, drawnRows, reveal, rowCount } from './grid.js';
 
 const WIDTH = NAMES.length;
 export const at = { row: 0, column: 0, fromRow: 0, fromColumn: 0 };
@@ -20,7 +20,8 @@ export function paint() {
   marked.forEach((td) => { td.tabIndex = -1; });
   marked = [];
   const { top, bottom, left, right } = range(), single = top === bottom && left === right;
-  for (let row = top; row <= bottom && !single; row++) {
+  const [first, last] = drawnRows();
+  for (let row = Math.max(top, first); row <= Math.min(bottom, last) && !single; row++) {
     for (let column = left; column <= right; column++) {
       const td = cellAt(row, column);
       if (td) { td.classList.add('in'); marked.push(td); }
@@ -50,9 +51,10 @@ function sight(td) {
 }
 
 export function choose(row, column, extend = false, focus = true) {
-  at.row = Math.max(0, Math.min(Math.min(rowCount(), data.lines) - 1, row));
+  at.row = Math.max(0, Math.min(rowCount() - 1, row));
   at.column = Math.max(0, Math.min(WIDTH - 1, column));
   if (!extend) Object.assign(at, { fromRow: at.row, fromColumn: at.column });
+  reveal(at.row);
   paint();
   const td = cellAt(at.row, at.column);
   if (td) {
