@@ -1,9 +1,12 @@
 """Real input: keys, pasted text, ranges, the curve, dropped files."""
+import hashlib
+import json
 import tempfile
 import time
 from pathlib import Path
 
 from common import NAMES, ROOT, cell, plain, same, told
+from hocsimbur import core
 from hocsimbur.portfolio import licence
 
 
@@ -106,6 +109,21 @@ def drawn(b):
     same("undone", b.run(f"document.querySelector('{cell(5, 'rods')}').textContent"), "20")
     b.click(cell(5, "fault")), b.settle()
     same("edge of the curve is the headroom", "up to 3,476 A" in plain(b.run("document.querySelector('.under').textContent")), True)
+
+
+def printed(b):
+    """A print names the sheet with its SHA-256, the library, and the command that makes the formal report."""
+    b.click("#sample"), b.call("Page.printToPDF"), b.settle()
+    lines = json.loads(b.run("JSON.stringify([...document.querySelectorAll('#printed span')].map(e => e.textContent))"))
+    digest = hashlib.sha256((ROOT / "examples/portfolio.csv").read_bytes()).hexdigest()
+    same("sheet", lines[0], f"portfolio.csv, SHA-256 {digest}")
+    same("library", lines[1].startswith(f"Hocsimbur {core.version()}, "), True)
+    same("report", lines[2], "This is a print of the desk page. The formal report: "
+                             "hocsimbur report portfolio.csv --licence licence.csv -o report.html")
+    b.click(cell(0, "soil")), b.type("131"), b.key("Enter"), b.call("Page.printToPDF"), b.settle()
+    text = b.run("document.getElementById('printed').textContent")
+    same("changed", "portfolio.csv (not saved)" in text and digest not in text, True)
+    b.click("#undo"), b.settle()
 
 
 MANY = 2000

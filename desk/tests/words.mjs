@@ -2,6 +2,8 @@
 //
 //     EXPECTED=.. node --test desk/tests/words.mjs     after `make desk`; EXPECTED is what desk/tests/expected.py wrote
 import assert from 'node:assert/strict';
+import { execFileSync } from 'node:child_process';
+import { createHash } from 'node:crypto';
 import fs from 'node:fs';
 import test from 'node:test';
 
@@ -16,6 +18,8 @@ const decimals = await import('../src/words/decimals.js');
 const words = await import('../src/words/words.js');
 const { parsed, whole } = await import('../src/sheet/reading.js');
 const { isLicence, licenceOf } = await import('../src/sheet/licence.js');
+const { sha256 } = await import('../src/sheet/digest.js');
+const { licenceText, sheetText, word } = await import('../src/sheet/writing.js');
 const { judge } = await import('../src/judging/judging.js');
 const { portfolio } = await import('../src/judging/stations.js');
 const sentences = await import('../src/judging/sentences.js');
@@ -120,6 +124,26 @@ test('a station with more lines than a sheet takes keeps its first of each seaso
   assert.ok(judged.lines.every((line) => !line.refused || line.refused.number === 7));
   const said = words.refusal(judged.lines[699], judged.lines);
   assert.equal(said, 'station 7, season 2 stands already in line 4; a station has one line for a season');
+});
+
+test('a text has the SHA-256 that others find', () => {
+  for (let length = 0; length < 300; length++) {
+    const text = 'aé€\n'.repeat(length).slice(0, length);
+    assert.equal(sha256(text), createHash('sha256').update(text).digest('hex'));
+  }
+  assert.equal(sha256('x'.repeat(1000003)), createHash('sha256').update('x'.repeat(1000003)).digest('hex'));
+});
+
+test('a sheet and a licence are written as they are read, and a name is one word of a shell', () => {
+  const rows = [['7', '1', 'a,b', 'say "so"', ...Array(18).fill('')], Array(22).fill('')];
+  assert.deepEqual(parsed(sheetText(rows)).lines.slice(1, 2), rows.slice(0, 1));
+  for (const [text] of expected.licences) {
+    const { licence } = licenceOf(parsed(text).lines);
+    if (licence) assert.deepEqual(licenceOf(parsed(licenceText(licence)).lines).licence, licence);
+  }
+  for (const name of ['a.csv', 'a b.csv', "it's $HOME.csv", '`x`;y', '-']) {
+    assert.equal(execFileSync('sh', ['-c', `printf %s ${word(name)}`], { encoding: 'utf8' }), name);
+  }
 });
 
 test('a licence is read or refused in the same words', () => {

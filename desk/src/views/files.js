@@ -4,28 +4,23 @@ import { byId, download } from './dom.js';
 import { isLicence, licenceOf } from '../sheet/licence.js';
 import { cellsOf, parsed, tooMany } from '../sheet/reading.js';
 import { change, markSaved, store, unsaved } from '../sheet/store.js';
+import { licenceText, sheetText } from '../sheet/writing.js';
 
+export const UNNAMED = 'yards.csv'; // the file of a sheet that was never saved
 let say = () => {}, opened = () => {};
 export const onSay = (call) => { say = call; };
 export const onOpened = (call) => { opened = call; };
 
-const quoted = (cell) => (/[",\n]/.test(cell) ? `"${cell.replaceAll('"', '""')}"` : cell);
-const text = (lines) => `${lines.map((line) => line.map(quoted).join(',')).join('\n')}\n`;
-const csv = () => text([NAMES, ...store.now.rows.filter((row) => row.some(Boolean))]);
-
 export function save() {
-  const name = store.now.name || 'yards.csv';
-  download(name, csv());
+  const name = store.now.name || UNNAMED;
+  download(name, sheetText(store.now.rows));
   markSaved({ sheet: name });
   say(`${name} saved by the browser as a download`);
 }
 
 // The ticked seasons as a licence, which `hocsimbur release` and `report` read.
 export function saveLicence() {
-  const granted = [...store.now.licence].filter(([, one]) => one.seasons.length);
-  const lines = granted.map(([station, one]) => [String(station), one.name, one.seasons.join(' '), one.wire]);
-  const width = granted.some(([, one]) => one.wire) ? 4 : 3;
-  download('licence.csv', text([['station', 'name', 'seasons', 'wire'], ...lines].map((line) => line.slice(0, width))));
+  download('licence.csv', licenceText(store.now.licence));
   markSaved({ licence: true });
   say('licence.csv saved by the browser as a download');
 }

@@ -2,7 +2,7 @@
 import { NAMES, data } from '../library/data.js';
 import { start, version } from '../library/core.js';
 import * as detail from './detail.js';
-import { byId, show } from './dom.js';
+import { byId, h, show } from './dom.js';
 import { scaleOf } from './drawing.js';
 import * as files from './files.js';
 import * as grid from './grid.js';
@@ -11,7 +11,9 @@ import * as keys from './keys.js';
 import * as listing from './listing.js';
 import { at, choose, onMove, paint, range } from './select.js';
 import { portfolio as asked } from '../judging/stations.js';
+import { sha256 } from '../sheet/digest.js';
 import * as store from '../sheet/store.js';
+import { sheetText, word } from '../sheet/writing.js';
 import * as whatif from './whatifview.js';
 import { margin, meaning, refusal, refusedPlace, verdict } from '../words/words.js';
 
@@ -69,6 +71,17 @@ function upper() {
   byId('redo').disabled = !store.canRedo();
 }
 
+// What a print is of: the sheet and its SHA-256, the library and the date; and the command that makes the formal report.
+function printedHead() {
+  const { now } = store.store, name = now.name || files.UNNAMED, licence = now.licence.size ? ' --licence licence.csv' : '';
+  const today = new Date().toLocaleDateString('en-GB', { day: 'numeric', month: 'long', year: 'numeric' });
+  return [
+    `${name}${store.unsaved() ? ' (not saved)' : ''}, SHA-256 ${sha256(sheetText(now.rows))}`,
+    `Hocsimbur ${version()}, ${today}`,
+    `This is a print of the desk page. The formal report: hocsimbur report ${word(name)}${licence} -o report.html`,
+  ];
+}
+
 const pick = (line) => choose(line.place, at.column, false, false);
 
 function setView(next) {
@@ -123,8 +136,7 @@ function wire() {
   addEventListener('beforeprint', () => {
     grid.drawWhole(true);
     listing.draw(portfolio, top, pick);
-    const today = new Date().toLocaleDateString('en-GB', { day: 'numeric', month: 'long', year: 'numeric' });
-    byId('printed').textContent = `Hocsimbur ${version()}, ${today}`;
+    show(byId('printed'), printedHead().map((line) => h('span', {}, line)));
   });
   let width = innerWidth;
   addEventListener('resize', () => { if (innerWidth !== width) { width = innerWidth; later(); } });
