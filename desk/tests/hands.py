@@ -126,6 +126,38 @@ def printed(b):
     b.click("#undo"), b.settle()
 
 
+def hostile(b):
+    """Markup stays text, long names do not widen the page, and what is no sheet is refused in words."""
+    folder = Path(tempfile.mkdtemp(prefix="desk-"))
+    def file(name, text):
+        (folder / name).write_bytes(text if isinstance(text, bytes) else text.encode())
+        return folder / name
+    b.click("#sample"), b.click("#view-stations")
+    names_ = ["<img src=x onerror=\"document.title='run'\">", "<script>document.title='run'</script>", "W" * 3000, "\u202eevil", "a&amp;b"]
+    quoted = ['"' + one.replace('"', '""') + '"' for one in names_]
+    lines = [f"{station},{name},1 2" for station, name in zip((101, 104, 110, 118, 126), quoted)]
+    said = dropped(b, file("l.csv", "\n".join(["station,name,seasons", *lines[:3], *lines[4:], ""])))
+    same("licence", said, "l.csv: a licence of 4 stations")
+    same("a name is text", names_[0] in b.run("document.getElementById('stations').textContent"), True)
+    same("no element of it", b.run("document.querySelectorAll('img, main script').length"), 0)
+    for view in ("#view-stations", "#view-lines"):
+        b.click(view), b.click(cell(8, "soil")) if view == "#view-lines" else None, b.settle()
+        same(f"as wide as the screen, {view}", b.run("document.documentElement.scrollWidth <= innerWidth"), True)
+    wrong_name = "l2.csv was not opened: licence line 2, name: it has a character that cannot be printed"
+    same("an invisible sign", dropped(b, file("l2.csv", "\n".join(["station,name,seasons", lines[3], ""]))), wrong_name)
+    b.click(cell(0, "soil")), b.paste("<b>7</b>"), b.settle()
+    same("a cell is text", told(b)[0], ["refusedsoil: '<b>7</b>' is no number; it must be a whole number of Ω·m, 10..5000"])
+    same("nothing ran", b.run("document.title"), "Ground-grid desk")
+    for name, text in (("nul.csv", b"station,season\n1,\0\n"), ("book.xlsx", b"PK\x03\x04abc")):
+        same(name, dropped(b, file(name, text)),
+             f"{name} is a spreadsheet file and no text; copy its cells and paste them here, or save it as CSV")
+    same("bytes", dropped(b, file("huge.csv", "1\n" * 5_000_000)),
+         "huge.csv was not opened: 10,000,000 bytes, at most 8,388,608 are taken")
+    same("lines", dropped(b, file("long.csv", ",".join(NAMES) + "\n" + "1\n" * 1_000_000)),
+         "long.csv was not opened: 1,000,000 lines of values, at most 10,000 are taken; split it into several")
+    b.click("#new"), b.settle()
+
+
 MANY = 2000
 
 

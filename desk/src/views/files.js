@@ -1,11 +1,13 @@
 // Files: opened by a button or dropped on the page, saved as a download. Nothing is fetched and nothing is sent.
 import { NAMES, samples } from '../library/data.js';
+import { grouped } from '../words/decimals.js';
 import { byId, download } from './dom.js';
 import { isLicence, licenceOf } from '../sheet/licence.js';
 import { cellsOf, parsed, tooMany } from '../sheet/reading.js';
 import { change, markSaved, store, unsaved } from '../sheet/store.js';
 import { licenceText, sheetText } from '../sheet/writing.js';
 
+const MOST_BYTES = 8 * 1048576; // of a file; 10,000 lines have less than 2 million
 export const UNNAMED = 'yards.csv'; // the file of a sheet that was never saved
 let say = () => {}, opened = () => {};
 export const onSay = (call) => { say = call; };
@@ -66,9 +68,12 @@ export function fresh() {
 export function wire() {
   const input = byId('file');
   const read = async (files) => {
+    const large = [...files].find((file) => file.size > MOST_BYTES);
+    if (large) return say(`${large.name} was not opened: ${grouped(large.size)} bytes, at most ${grouped(MOST_BYTES)} are taken`, true);
     const found = await Promise.all([...files].map(async (file) => [await file.text(), file.name]));
     const last = ([one]) => Number(isLicence(parsed(one).lines[0] ?? [])); // licences after sheets
     for (const one of found.sort((a, b) => last(a) - last(b))) open(...one);
+    return undefined;
   };
   input.addEventListener('change', async () => { await read(input.files); input.value = ''; });
   addEventListener('dragover', (event) => { event.preventDefault(); document.body.classList.add('drop'); });
