@@ -23,7 +23,7 @@ NAMES = [name.name for name in names.NAMES]
 COUNT = 1000
 SOUND = "7,1,400,2500,102,500,500,500,70,3180,600,10,11,11,7000,500,100,4,3000,1,1,60".split(",")
 WRONG = ["", "0", "00", "007", "-5", "+7", "\u22125", "62.5", "62.", "62.0", ".5", "1234567", "4 kA", "3m", "abc", "x1", "99999", "1", "3",
-         "250000", "1e3", "1 000", "\u00b2", "\u0663", "m" * 60, "7.25", "é", "'7'", "--", "12x", "5%"]
+         "250000", "1e3", "1 000", "1000000", "\u00b2", "\u0663", "m" * 60, "7.25", "é", "'7'", "--", "12x", "5%"]
 
 
 def random_case(rng: random.Random, station: int, season: int) -> Dict[str, int]:
@@ -76,6 +76,16 @@ def mended(rng: random.Random):
         except spreadsheet.Refusals:
             made = None
         yield [text, sign, made]
+
+
+def ambiguous(rng: random.Random):
+    """Cells that may be two numbers, and what `import` says of them."""
+    for _ in range(COUNT // 20):
+        text = f"{rng.randint(1, 999)},{rng.randint(0, 999):03d}"
+        try:
+            spreadsheet.exact(text, "\t")
+        except ValueError as error:
+            yield [text, str(error)]
 
 
 def check(rows: List[List[str]], places: List[int]) -> List[checking.Found]:
@@ -183,7 +193,8 @@ def licences(rng: random.Random):
         yield [text, found]
 
 
-KINDS = {"shown": shown, "shares": shares, "mended": mended, "refused": refused, "portfolios": portfolios, "licences": licences}
+KINDS = {"shown": shown, "shares": shares, "mended": mended, "ambiguous": ambiguous, "refused": refused, "portfolios": portfolios,
+         "licences": licences}
 
 if __name__ == "__main__":
     json.dump({kind: list(make(random.Random(number))) for number, (kind, make) in enumerate(KINDS.items())}, sys.stdout)

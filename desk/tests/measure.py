@@ -17,7 +17,7 @@ LINE = "1,130,2500,102,500,500,1000,70,8900,420,14,12,12,6000,600,134,24,3000,1,
 
 WATCH = """(() => { window.times = []; let t0 = 0;
   addEventListener('keydown', () => { t0 = performance.now(); }, true);
-  const row = document.querySelectorAll('#sheet tbody tr')[ROW];
+  const row = document.querySelector('#sheet td[data-r="ROW"]').parentNode;
   new MutationObserver(() => { if (!t0) return; const seen = performance.now() - t0, from = t0; t0 = 0;
     requestAnimationFrame(() => setTimeout(() => times.push([seen, performance.now() - from])));
   }).observe(row, {childList: true, subtree: true, characterData: true});
@@ -50,9 +50,10 @@ def main():
         b.paste("\n".join(lines).replace(",", "\t"))
         print("256 lines pasted, judged and drawn, ms:", round(b.run("performance.now() - t"), 1))
         b.settle()
-        print("lines:", b.run("document.querySelectorAll('#sheet tbody tr.safe, #sheet tbody tr.unsafe').length"))
+        print("judged:", b.run("document.getElementById('totals').textContent"))
         b.call("Performance.enable", timeDomain="threadTicks")  # processor time, which other work on the machine does not stretch
         for row in (0, 200):
+            b.run(f"document.getElementById('pane').scrollTop = {24 * row}"), b.settle()
             b.click(f'#sheet td[data-r="{row}"][data-c="9"]')
             b.run(WATCH.replace("ROW", str(row)))
             rng, before = random.Random(1), spent(b)

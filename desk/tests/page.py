@@ -16,6 +16,9 @@ from hocsimbur.portfolio.compared import NOT_PARTED, margin as margin_of
 from hocsimbur.sheets import checking, layout, names
 
 
+DRAWN = 50  # lines that the page draws whole
+
+
 def stations(b):
     """Decisions, sentences and changes as the command tells them."""
     sheet = (ROOT / "examples/portfolio.csv").read_bytes()
@@ -65,7 +68,7 @@ def many(b):
     rng = random.Random(80)
     cases = [random_case(rng, number) for number in range(1, 301)]
     counts = {}
-    for part in (cases[:150], cases[150:]):
+    for part in (cases[first:first + DRAWN] for first in range(0, len(cases), DRAWN)):
         b.click("#new"), b.click(cell(0, "station"))
         b.paste("\n".join("\t".join(str(case[name]) for name in NAMES) for case in part)), b.settle()
         asked = subprocess.run([str(ROOT / "hocsimbur"), "verdict", "--csv", "-"], input=layout.text(part), stdout=subprocess.PIPE,
@@ -94,8 +97,8 @@ def refusals(b):
             spoilt.append(line)
     rng.shuffle(spoilt)
     compared = 0
-    for first in range(0, len(spoilt), 110):
-        part = spoilt[first:first + 110]
+    for first in range(0, len(spoilt), DRAWN):
+        part = spoilt[first:first + DRAWN]
         b.click("#new"), b.click(cell(0, "station"))
         b.paste("\n".join("\t".join(line) for line in part)), b.settle()
         sheet = "".join(",".join(line) + "\n" for line in [NAMES, *part]).encode()

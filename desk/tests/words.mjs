@@ -14,9 +14,10 @@ globalThis.document = { getElementById: (id) => ({ textContent: part(id) }) };
 
 const expected = JSON.parse(fs.readFileSync(process.env.EXPECTED, 'utf8'));
 const core = await import('../src/library/core.js');
+const { samples } = await import('../src/library/data.js');
 const decimals = await import('../src/words/decimals.js');
 const words = await import('../src/words/words.js');
-const { parsed, whole } = await import('../src/sheet/reading.js');
+const { cellsOf, parsed, whole } = await import('../src/sheet/reading.js');
 const { isLicence, licenceOf } = await import('../src/sheet/licence.js');
 const { sha256 } = await import('../src/sheet/digest.js');
 const { licenceText, sheetText, word } = await import('../src/sheet/writing.js');
@@ -43,6 +44,31 @@ test('a cell becomes the same whole number, or none', () => {
     made += number !== null;
   }
   assert.ok(made > 200 && made < 900, `${made} are whole numbers`);
+});
+
+test('a text becomes cells under their own names', () => {
+  const names = samples.sheet.split('\n')[0].split(','), [, first] = samples.sheet.split('\n'), values = first.split(',');
+  const turned = [names.toReversed().map((name) => name.toUpperCase()), values.toReversed()].map((line) => line.join('\t')).join('\r\n');
+  assert.deepEqual(cellsOf(turned), { rows: [values], header: true, notes: [] });
+  assert.deepEqual(cellsOf(`${values.join(';')}\n\n`), { rows: [values], header: false, notes: [] });
+  assert.deepEqual(cellsOf(`${names}\n`), { rows: [], header: true, notes: ['the sheet has names but no line of values'] });
+  assert.deepEqual(cellsOf(' \n'), { rows: [], header: false, notes: ['the sheet has names but no line of values'] });
+  const { rows, notes } = cellsOf(`${names.with(2, 'sol')}\n${values}\n`);
+  assert.deepEqual([rows[0][2], rows[0][3], notes.length], ['', values[3], 2]);
+  assert.match(notes[0], /^'sol'/);
+  const former = fs.readFileSync(new URL('../../examples/refused-2-ms.csv', import.meta.url), 'utf8');
+  assert.deepEqual(cellsOf(former).notes, ['a sheet of the former 18 names: the library made today’s of it']);
+  assert.equal(cellsOf(former).rows[0].length, names.length);
+  const [spoilt] = cellsOf(former.replace(/\d+\n$/, 'x\n')).notes;
+  assert.equal(spoilt, 'a sheet of the former 18 names, and refused: number 3, line 3, column 18');
+});
+
+test('a cell that may be two numbers is refused in the same words', () => {
+  assert.ok(expected.ambiguous.length > 20);
+  for (const [text, said] of expected.ambiguous) {
+    const { lines } = judge([['7', '1', text, ...expected.refused[0][0][0].slice(3)]]);
+    assert.equal(words.refusal(lines[0], lines), said);
+  }
 });
 
 test('every refusal has the same words, at the same line and column', () => {

@@ -10,7 +10,7 @@ import { sizeOfLine } from '../judging/stations.js';
 import { margin, meaning, refusal, refusedPlace, verdict } from '../words/words.js';
 
 const SPARE = 4, LEAST = 14;
-const ALL = 300, AROUND = 24; // a sheet up to so many rows is drawn whole, else only the rows in sight and so many on both sides
+const ALL = 60, AROUND = 24; // a sheet up to so many rows is drawn whole, else only the rows in sight and so many on both sides
 const RESULTS = [['verdict', 'Verdict', ''], ['near', 'Nearest limit', ''], ['need', 'Wire', 'kcmil'], ['upto', 'Safe up to', 'A']];
 const WIDTHS = { // rem: so that a cell that is typed moves no other
   ln: 2.3, station: 3.55, season: 3.25, soil: 2.8, layer: 2.95, thick: 2.75, shock: 2.95, clear: 2.65, wire: 2.7, body: 2.6, fault: 3.35,
