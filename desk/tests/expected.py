@@ -143,18 +143,25 @@ def portfolios(rng: random.Random):
             if rng.random() < 0.7:
                 wire = rng.choice(("", "", "#4", "4/0", "95 mm2", "211 kcmil", "1000 kcmil"))
                 licensed.append(licence.Licensed(station, rng.choice(("", "Ashgrove", "Elm, west")), tuple(sorted(asked)), wire=wire))
-        text = licence.text(licence.Licence(tuple(licensed))) if licensed else ""
-        granted = licence.read(text.encode()) if licensed else None
-        areas = {one.station: one.area for one in granted.stations} if granted else {}
-        sheet = layout.text(cases)
-        stations = [one for one in decision.portfolio(sheet, granted).stations if one.lines]
-        yield {
-            "rows": [[str(case[name]) for name in NAMES] for case in cases],
-            "licence": text,
-            "lines": [[one.row.verdict.name.lower(), margin(one.nearest), one.nearest.limit, one.row.kcmil, one.headroom,
-                       one.small_wire] for one in lines.gather(sheet, areas=areas)],
-            "stations": [station_words(one) for one in stations],
-        }
+        yield told(cases, licensed)
+    yield told(layout.cases((ROOT / "examples" / "undecided.csv").read_bytes()), [])
+
+
+def told(cases: List[Dict[str, int]], licensed: List[licence.Licensed]) -> Dict:
+    """A sheet and a licence, with what the command says of every line and station."""
+    text = licence.text(licence.Licence(tuple(licensed))) if licensed else ""
+    granted = licence.read(text.encode()) if licensed else None
+    areas = {one.station: one.area for one in granted.stations} if granted else {}
+    sheet = layout.text(cases)
+    stations = decision.portfolio(sheet, granted).stations
+    return {
+        "rows": [[str(case[name]) for name in NAMES] for case in cases],
+        "licence": text,
+        "lines": [[one.row.verdict.name.lower(), margin(one.nearest), one.nearest.limit, one.row.kcmil, one.headroom,
+                   one.small_wire] for one in lines.gather(sheet, areas=areas)],
+        "stations": [station_words(one) for one in stations if one.lines],
+        "absent": [[one.station, list(reasons.decision(one))] for one in stations if not one.lines],
+    }
 
 
 def quoted(cell: str) -> str:

@@ -17,7 +17,7 @@ const core = await import('../src/library/core.js');
 const { samples } = await import('../src/library/data.js');
 const decimals = await import('../src/words/decimals.js');
 const words = await import('../src/words/words.js');
-const { cellsOf, parsed, whole } = await import('../src/sheet/reading.js');
+const { cellsOf, parsed, tooMany, whole } = await import('../src/sheet/reading.js');
 const { isLicence, licenceOf } = await import('../src/sheet/licence.js');
 const { sha256 } = await import('../src/sheet/digest.js');
 const { licenceText, sheetText, word } = await import('../src/sheet/writing.js');
@@ -44,6 +44,11 @@ test('a cell becomes the same whole number, or none', () => {
     made += number !== null;
   }
   assert.ok(made > 200 && made < 900, `${made} are whole numbers`);
+});
+
+test('more lines than the page takes are refused in words', () => {
+  assert.equal(tooMany(10000), '');
+  assert.equal(tooMany(10001), '10,001 lines of values, at most 10,000 are taken; split it into several');
 });
 
 test('a text becomes cells under their own names', () => {
@@ -106,12 +111,13 @@ const saidOf = (asked, number) => {
 
 test('lines and stations are told alike: verdicts, margins, decisions, asides, cautions and what to change', () => {
   let released = 0, held = 0, changed = 0, thin = 0;
-  for (const { rows, licence, lines, stations } of expected.portfolios) {
+  for (const { rows, licence, lines, stations, absent } of expected.portfolios) {
     judge(rows); // what is known of a line without the licence's wires is not taken for what it is with them
     const granted = licenceMap(licence), judged = judge(rows, granted);
     assert.deepEqual(judged.lines.map((line) => [words.verdict(line), words.margin(line.nearest), line.nearest.limit, line.row.kcmil,
       line.headroom, line.small]), lines);
     const asked = portfolio(judged, granted);
+    for (const [station, decision] of absent) assert.deepEqual(sentences.decision(asked.at.get(station), asked.unread), decision);
     for (const wanted of stations) {
       const one = asked.at.get(wanted.station), found = saidOf(asked, wanted.station);
       assert.deepEqual(found, { ...wanted, changes: wanted.changes.map(plain) });
