@@ -158,6 +158,26 @@ test('a station with more lines than a sheet takes keeps its first of each seaso
   assert.equal(said, 'station 7, season 2 stands already in line 4; a station has one line for a season');
 });
 
+test('a station is not released while one of its lines is refused, nor any while the station of a refused line cannot be read', () => {
+  // 500 stations whose lines stand far apart: all season 1, then all season 2 and so on; station 1 has one season
+  const rest = '100,2500,102,500,500,1000,70,500,420,14,12,12,6000,600,134,24,3000,1,2,60'.split(','), rows = [];
+  for (const season of '1234') {
+    for (let station = season === '1' ? 1 : 2; station <= 500; station++) rows.push([String(station), season, ...rest]);
+  }
+  const licence = new Map([[1, { name: '', seasons: [1], wire: '', area: 0, byLicence: true }]]);
+  const held = (all) => {
+    const asked = portfolio(judge(all, licence), licence);
+    for (const one of asked.stations) assert.equal(sentences.decision(one, asked.unread)[0] === 'Released:', Boolean(one.released));
+    return asked.stations.filter((one) => !one.released).map((one) => one.station);
+  };
+  assert.deepEqual(held(rows), []);
+  const spoilt = rows.map((row) => (row[1] === '4' && Number(row[0]) % 100 === 0 ? row.with(2, 'x') : row));
+  assert.deepEqual(held(spoilt), [100, 200, 300, 400, 500]);
+  assert.deepEqual(held([...rows, rows[6]]), [7]);
+  for (const station of ['', '7.0', '07', 'x']) assert.equal(held([...rows, [station, '1', ...rest]]).length, 500);
+  assert.deepEqual(held(rows.with(-1, rows.at(-1).with(14, '7000'))), [500]); // another yard in its last line
+});
+
 test('a text has the SHA-256 that others find', () => {
   for (let length = 0; length < 300; length++) {
     const text = 'aé€\n'.repeat(length).slice(0, length);
