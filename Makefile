@@ -2,6 +2,8 @@
 # and a release for a customer without the Rattle kit. For people: the command hocsimbur, a package in Python.
 #
 #   make                              the libraries and the example; ./hocsimbur then runs from here
+#   make demo                         builds what is missing, prints the sample's verdicts, writes the desk page and a report
+#   make test                         the gate, .ci/run
 #   make install PREFIX=/usr/local    also LIBDIR, INCLUDEDIR, MANDIR, BINDIR, PYTHONDIR, DESTDIR; uninstall takes the same
 #   make targets                      the library for Windows, Linux on aarch64 and WebAssembly (host/targets.mk)
 #   make desk                         target/desk/hocsimbur.html: the desk page, one file
@@ -45,11 +47,20 @@ PROGRAMS = verdict rows margins summary fewest carry carry_back
 PLATFORMS = linux-x86_64 linux-aarch64 windows-x86_64 wasm32
 
 .NOTPARALLEL:
-.PHONY: all libraries desk install uninstall clean dist wheel panel harness sanitized wrong wrong-names check check-python check-desk
+.PHONY: all libraries demo test desk install uninstall clean dist wheel panel harness sanitized wrong wrong-names check check-python check-desk
 
 all: libraries panel
 
 libraries: $(STATIC_LIBRARY) $(SHARED_LIBRARY)
+
+# status 2 is an answer: a season is unsafe, a station is held
+demo: libraries desk
+	@HOCSIMBUR_LIBRARY= ./hocsimbur verdict tests/sample.csv || [ $$? -eq 2 ]
+	@HOCSIMBUR_LIBRARY= ./hocsimbur report examples/portfolio.csv --licence examples/licence.csv -o target/portfolio.html || [ $$? -eq 2 ]
+	@echo 'open in a browser: target/desk/hocsimbur.html (the desk page) and target/portfolio.html (the report)'
+
+test:
+	bash .ci/run
 
 # all three proved together, on every processor; the archives themselves are made one after the other
 target/proved: crates.txt $(shell find crates -name '*.rt' -o -name '*.antt')

@@ -10,7 +10,7 @@ soname=libhocsimbur.so.${version%%.*}
 # what every release has
 mkdir -p "$folder"/{include,lib,docs,examples/panel,examples/site}
 install -m 644 include/hocsimbur.h "$folder/include/"
-install -m 644 docs/{manual,commands,api,programs,proofs,specification}.md "$folder/docs/"
+install -m 644 docs/{manual,commands,api,proofs,specification}.md "$folder/docs/"
 install -m 644 CHANGELOG.md LICENSE target/desk/hocsimbur.html "$folder/"
 install -m 644 examples/*.csv examples/panel.c examples/panel.mjs tests/sample.csv "$folder/examples/"
 install -m 644 examples/site/*.csv "$folder/examples/site/"
