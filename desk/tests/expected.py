@@ -14,10 +14,13 @@ from typing import Dict, List
 ROOT = Path(__file__).resolve().parents[2]
 sys.path.insert(0, str(ROOT / "python"))
 
-from hocsimbur.core import Pair  # noqa: E402
-from hocsimbur.portfolio import advice, decision, licence, lines, reasons  # noqa: E402
+from hocsimbur import core  # noqa: E402
+from hocsimbur.command import measured, yards  # noqa: E402
+from hocsimbur.core import Pair, Refused  # noqa: E402
+from hocsimbur.portfolio import advice, candidates, decision, licence, lines, reasons  # noqa: E402
 from hocsimbur.portfolio.compared import margin, share  # noqa: E402
-from hocsimbur.sheets import checking, decimals, layout, names, spreadsheet  # noqa: E402
+from hocsimbur.sheets import amounts, checking, decimals, layout, names, site, spreadsheet, words  # noqa: E402
+from hocsimbur.sheets.forms import Unclear  # noqa: E402
 
 NAMES = [name.name for name in names.NAMES]
 COUNT = 1000
@@ -200,8 +203,99 @@ def licences(rng: random.Random):
         yield [text, found]
 
 
+def amount(rng: random.Random, most: int) -> str:
+    """A decimal up to a greatest one, mostly in whole thousandths; now and then with a sign, or no number."""
+    places = rng.choice((0, 1, 2, 3, 3, 3, 4))
+    whole, behind = divmod(rng.randint(0, most * 10 ** places), 10 ** places)
+    text = f"{whole}.{behind:0{places}d}" if places else f"{whole}"
+    odd = (f"+{text}", f"-{text}", f"\u2212{text}", f"{whole}.", f".{behind}", "1.2.3", "--", "9" * 12)
+    return rng.choice((text,) * 20 + odd)
+
+
+def lines_of(pairs, rng: random.Random) -> str:
+    return "".join(f"{one}{rng.choice((' ', ',', ';', chr(9), ', '))}{other}\n" for one, other in pairs)
+
+
+def shown_lines(text: str) -> List[str]:
+    """The lines of a table without its head, a space between the cells."""
+    return [" ".join(line.split()) for line in text.splitlines()[1:]]
+
+
+def soils(rng: random.Random):
+    """Four-pin readings, and what `wenner` says of them."""
+    for _ in range(COUNT):
+        cells = [(amount(rng, 55), amount(rng, 1005)) for _ in range(rng.choice((0, 1, 2, 2, 3, 4)))]
+        if rng.random() < 0.02:
+            cells = [("5", "7")] * 65
+        yield [lines_of(cells, rng), soil_words(cells)]
+
+
+def soil_words(cells):
+    found = []
+    for place, (distance, ohms) in enumerate(cells, 1):
+        try:
+            found.append(site.reading(distance, ohms))
+        except Unclear as error:
+            return f"reading {place}: {error}"
+    lower, upper = site.ends(found)
+    answers = []
+    for handed in (lower, upper):
+        try:
+            answers.append(core.soil(handed))
+        except Refused as refused_:
+            return words.refusal(refused_, words.Asked(readings=handed))
+    soil = measured.between(*answers)
+    notes = measured.soil_notes(soil) + measured.rounding_notes(lower, upper)
+    return [shown_lines(measured.soil_text(lower, upper, soil)), notes, soil.soil]
+
+
+def splits(rng: random.Random):
+    """Staged tests, and what `staged` says of them."""
+    for _ in range(COUNT):
+        cells = [(amount(rng, 1001), amount(rng, 500)) for _ in range(rng.choice((0, 1, 2, 2, 3, 4, 18)))]
+        if cells and rng.random() < 0.05:
+            cells[0] = ("0", "0.000")
+        yield [lines_of(cells, rng), split_words(cells)]
+
+
+def split_words(cells):
+    handed = []
+    for place, pair in enumerate(cells):
+        try:
+            one = site.rectangular(*pair)
+        except Unclear as error:
+            return f"{f'branch {place}' if place else 'injected'}: {error}"
+        handed.append((one.in_phase.lower, one.quadrature.lower))
+    try:
+        split = core.split(handed)
+    except Refused as refused_:
+        return words.refusal(refused_, words.Asked(parts=handed))
+    return [shown_lines(measured.split_text(handed, split)), measured.split_notes(split, 0), split.split]
+
+
+def squares(rng: random.Random):
+    """Cases with a side, and what `fewest` says of them."""
+    for _ in range(COUNT // 5):
+        case = random_case(rng, 7, 1)
+        text = rng.choice((str(rng.randint(1, 100)), str(rng.randint(1, 800)), f"{rng.randint(5, 90)}.{rng.randint(0, 99)}"))
+        text = rng.choice((text,) * 8 + ("60.0005", "6,5", "x"))
+        yield [case, text, square_words({**case, "rodlen": case["rodlen"] or candidates.ROD_LENGTH}, text)]
+
+
+def square_words(case, text):
+    try:
+        side = amounts.whole(text, 1000, "m", "mm")
+    except Unclear as error:
+        return [f"side: {error}", None]
+    try:
+        found = core.fewest(layout.text([case]), side)
+    except Refused as refused_:
+        return [words.refusal(refused_, words.Asked(side=side)), None]
+    return [yards.said(found, side), [found.lines, found.rods] if found.found else None]
+
+
 KINDS = {"shown": shown, "shares": shares, "mended": mended, "ambiguous": ambiguous, "refused": refused, "portfolios": portfolios,
-         "licences": licences}
+         "licences": licences, "soils": soils, "splits": splits, "squares": squares}
 
 if __name__ == "__main__":
     json.dump({kind: list(make(random.Random(number))) for number, (kind, make) in enumerate(KINDS.items())}, sys.stdout)

@@ -158,6 +158,33 @@ def hostile(b):
     b.click("#new"), b.settle()
 
 
+def site(b):
+    """What is measured at a site goes into the chosen line, and a yard into every line of its station."""
+    def taken(button, *cells):
+        b.click(button), b.click("#view-lines"), b.settle()
+        found = [b.run(f"document.querySelector('{cell(row, name)}').textContent") for row, name in cells]
+        b.click("#view-site"), b.settle()
+        return found
+
+    def typed(place, *lines):
+        b.click(place), b.call("Input.insertText", text="\n".join(lines)), b.settle()
+    b.click("#sample"), b.click(cell(1, "soil")), b.click("#view-site"), b.settle()
+    typed("#readings", "1 10.4", "2 4.55", "5 1.62", "10 0.71")
+    same("soil", plain(b.run("document.querySelector('#readings-said b').textContent")), "column soil: 55 Ω·m")
+    same("heard", plain(b.run("document.getElementById('live').textContent")), "column soil: 55 Ω·m")
+    same("soil in the line", taken("#readings-said button", (0, "soil"), (1, "soil")), ["130", "55"])
+    typed("#currents", "1000 0", "400 0")
+    same("split in the line", taken("#currents-said button", (1, "split")), ["600"])
+    typed("#side", "60")
+    words = plain(b.run("document.querySelector('#side-said b').textContent"))
+    same("fewest", " conductors each way, " in words, True)
+    across = words.split()[0]
+    same("in every season", taken("#side-said button", *((row, "across") for row in range(4))), [across] * 4)
+    typed("#side", "x")
+    same("refused", plain(b.run("document.querySelector('#side-said .red').textContent")), "side: '60x' is no number")
+    b.click("#view-lines"), b.click("#new"), b.settle()
+
+
 MANY = 2000
 
 

@@ -38,7 +38,12 @@ def main():
             b.size(1280, 900, SMALLER), b.shot(sys.argv[1]), b.size(1280, 900)
         b.mouse("mouseMoved", 5, 5), b.click(cell(15, 15)), shot("what-if-undecided")
         b.click("#view-stations"), b.click('#stations [data-key="152"]'), shot("stations")
-        b.dark(True), shot("dark-stations")
+        b.dark(True), shot("dark-stations"), b.dark(False)
+        b.click("#view-lines"), b.click(cell(5, 2)), b.click("#view-site"), b.settle()
+        for place, text in (("#readings", "1 10.4\n2 4.55\n5 1.62\n10 0.71"), ("#currents", "1000 0\n400 0"), ("#side", "60")):
+            b.click(place), b.call("Input.insertText", text=text), b.settle()
+        shot("site"), b.dark(True), shot("dark-site")
+        b.size(375, 812, 2), b.settle(), shot("narrow-375-site"), b.size(1280, 900), b.settle()
         b.click("#view-lines"), b.click(cell(5, 2)), shot("dark"), b.dark(False)
         b.click(cell(5, 15)), b.type("60"), shot("typing"), b.key("Enter"), b.key("ArrowUp"), b.settle(), shot("refused")
         b.dark(True), shot("dark-refused"), b.dark(False)

@@ -25,6 +25,7 @@ const { judge } = await import('../src/judging/judging.js');
 const { portfolio } = await import('../src/judging/stations.js');
 const sentences = await import('../src/judging/sentences.js');
 const { changes } = await import('../src/judging/advice.js');
+const site = await import('../src/judging/site.js');
 await core.start();
 
 test('decimals are rounded outward alike', () => {
@@ -209,4 +210,44 @@ test('a licence is read or refused in the same words', () => {
     refused += Boolean(found.refused);
   }
   assert.ok(refused > 200 && refused < expected.licences.length - 200, `${refused} refused`);
+});
+
+// What is measured: the lines of the table with the value for the column, the notes and that value; or why there is none.
+const measuredAlike = (asked, wanted, least) => {
+  let answered = 0;
+  const refused = new Set();
+  for (const [text, said] of wanted) {
+    const { wrong, rows, column, notes, value, fits } = asked(text);
+    assert.deepEqual(wrong ?? [[...rows.map((row) => row.filter(Boolean).join(' ')), column], notes, value], said, text);
+    if (wrong) refused.add(wrong.replace(/'.*'|[\d.,\u2212+-]+/g, ''));
+    else assert.equal(fits, !notes.some((note) => note.endsWith('a sheet refuses it')));
+    answered += !wrong;
+  }
+  assert.ok(answered > least && refused.size > 4, `${answered} answered, ${refused.size} kinds of refusal`);
+};
+
+test('four-pin readings are answered as by wenner', () => {
+  measuredAlike(site.soilOf, expected.soils, 200);
+  assert.deepEqual(site.soilOf('Metres,Ohms\n2.5,7.3\n'), site.soilOf('2.5 7.3'));
+  assert.equal(site.soilOf('1 2\nfeet,ohms').wrong, "reading 2: distance: 'feet' is no number");
+  assert.equal(site.soilOf('1 2\n3').wrong, 'reading 2: 1 numbers, not two; write metres and ohms, as 2.5 7.3');
+});
+
+test('staged tests are answered as by staged', () => {
+  measuredAlike(site.splitOf, expected.splits, 100);
+  assert.match(site.splitOf('1 0\n1 0 0').wrong, /^branch 1: 3 numbers, not two/);
+});
+
+test('the fewest conductors for a side are those of fewest, and the yard that is put into the sheet is safe', () => {
+  let safe = 0;
+  for (const [one, text, [said, counts]] of expected.squares) {
+    const { wrong, words: found, cells } = site.fewestOf(one, text);
+    assert.equal(wrong ?? found, said);
+    assert.deepEqual(cells ? [cells.across, cells.rods] : null, counts);
+    if (!cells) continue;
+    const [row] = core.rows(core.textOf([core.lineOf({ ...one, ...cells })]));
+    assert.deepEqual([row.verdict, cells.space * (cells.across - 1), cells.along], [1, Math.round(Number(text) * 1000), cells.across]);
+    safe++;
+  }
+  assert.ok(safe > 30, `${safe} yards`);
 });

@@ -15,6 +15,9 @@ export const working = (text) => library.working(text);
 export const headroom = (text) => library.headroom(text);
 export const release = (text, entries) => library.release(text, entries);
 export const carry = (text) => library.carry(text);
+export const soil = (readings) => library.soil(readings);
+export const split = (parts) => library.split(parts);
+export const fewest = (text, side) => library.fewest(text, side);
 
 // a sheet of lines, and a line of a case
 const header = NAMES.join(',');

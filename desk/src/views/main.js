@@ -12,11 +12,13 @@ import * as listing from './listing.js';
 import { at, choose, onMove, paint, range } from './select.js';
 import { portfolio as asked } from '../judging/stations.js';
 import { sha256 } from '../sheet/digest.js';
+import * as site from './siteview.js';
 import * as store from '../sheet/store.js';
 import { sheetText, word } from '../sheet/writing.js';
 import * as whatif from './whatifview.js';
 import { margin, meaning, refusal, refusedPlace, verdict } from '../words/words.js';
 
+const VIEWS = ['lines', 'stations', 'site'];
 let judged, portfolio, top, queued = 0, view = 'lines', quiet = 0;
 
 // A word on what was done; what was refused or left out stays until the next one.
@@ -48,9 +50,15 @@ function lower() {
   show(byId('totals'), listing.totals(portfolio, judged));
   document.body.classList.toggle('empty', !judged.lines.length);
   if (view === 'stations' || matchMedia('print').matches) listing.draw(portfolio, top, pick, chosen()?.row?.station);
+  if (view === 'site') drawSite();
   detail.draw(chosen(), judged, portfolio, top, () => grid.cellAt(at.row, at.column));
   grid.callout(chosen(), judged.lines);
   byId('hint').textContent = hint();
+}
+
+function drawSite() {
+  const line = chosen();
+  site.draw(line, portfolio.at.get(line?.row?.station));
 }
 
 // What the chosen column means, and the metal that a number stands for.
@@ -86,11 +94,12 @@ const pick = (line) => choose(line.place, at.column, false, false);
 
 function setView(next) {
   view = next;
-  document.body.classList.toggle('in-stations', view === 'stations');
-  for (const one of ['lines', 'stations']) {
+  for (const one of VIEWS) {
+    document.body.classList.toggle(`in-${one}`, one === view);
     byId(`view-${one}`).setAttribute('aria-selected', String(one === view));
     byId(`panel-${one}`).hidden = one !== view;
   }
+  if (view === 'lines') { upper(); paint(); } // which rows are in sight is not known of a sheet that is hidden
   later();
 }
 
@@ -121,13 +130,13 @@ function wire() {
     browse: () => byId('file').click(),
     undo: step(store.undo, 'undone'), redo: step(store.redo, 'done again'), print: () => print(), season: addSeason, remove: removeLines,
     licence: files.saveLicence,
-    'view-lines': () => setView('lines'), 'view-stations': () => setView('stations'), type: () => choose(0, 0),
+    ...Object.fromEntries(VIEWS.map((one) => [`view-${one}`, () => setView(one)])), type: () => choose(0, 0),
   };
   for (const [id, act] of Object.entries(acts)) byId(id).addEventListener('click', act);
   addEventListener('keydown', (event) => {
     if (!(event.ctrlKey || event.metaKey) || event.altKey) return;
     const act = { s: 'save', o: 'open', p: '', z: event.shiftKey ? 'redo' : 'undo', y: 'redo' }[event.key.toLowerCase()];
-    if (!act || (keys.editing() && act !== 'save')) return;
+    if (!act || (keys.editing() && act !== 'save') || (act.endsWith('do') && event.target.closest('#site'))) return;
     event.preventDefault();
     keys.finish(true); // what is typed is saved too
     byId(act).click();
@@ -157,6 +166,8 @@ async function begin() {
   detail.guide();
   for (const one of [keys, files]) { one.onSay(say); one.wire(); }
   whatif.onTaken(say);
+  site.onTaken(say);
+  site.wire(drawSite);
   files.onOpened(() => { byId('pane').scrollTo(0, 0); choose(0, 0, false, view === 'lines'); });
   store.listen((kind) => {
     upper();

@@ -61,7 +61,12 @@ def soil_text(lower: Sequence[Tuple[int, int]], upper: Sequence[Tuple[int, int]]
     head = ("reading", "distance", "resistance", "lower Ω·m", "upper Ω·m")
     lines += [(called, "", "", *_ohm_metres(ends)) for called, ends in
               (("least", soil.least), ("greatest", soil.greatest), ("mean", soil.mean))]
-    return aligned(head, lines, left=(0,)) + f"column soil: {grouped(soil.soil)} Ω·m\n"
+    return aligned(head, lines, left=(0,)) + soil_column(soil) + "\n"
+
+
+def soil_column(soil: Soil) -> str:
+    """The value for the column soil."""
+    return f"column soil: {grouped(soil.soil)} Ω·m"
 
 
 def _ohm_metres(ends: Pair) -> Tuple[str, str]:
@@ -90,7 +95,12 @@ def split_text(handed: Sequence[Tuple[int, int]], split: Split) -> str:
     names = ["injected"] + [f"branch {place}" for place in range(1, len(handed))]
     lines = [(name, down(one[0], 3, 3), down(one[1], 3, 3)) for name, one in zip(names, handed)]
     lines.append(("grid", down(split.in_phase, 3, 3), down(split.quadrature, 3, 3)))
-    return aligned(("", "in-phase A", "quadrature A"), lines, left=(0,)) + f"column split: {grouped(split.split)} per mille\n"
+    return aligned(("", "in-phase A", "quadrature A"), lines, left=(0,)) + split_column(split) + "\n"
+
+
+def split_column(split: Split) -> str:
+    """The value for the column split."""
+    return f"column split: {grouped(split.split)} per mille"
 
 
 def split_csv(split: Split) -> str:

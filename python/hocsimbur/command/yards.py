@@ -45,6 +45,17 @@ def _chosen(station: Optional[int], season: Optional[int]) -> str:
     return ", ".join(said)
 
 
+def said(found: core.Fewest, side: int) -> str:
+    """The answer for a side in mm, in words."""
+    if found.found:
+        spacing = f"{exact(side // (found.lines - 1), 3)} m"
+        rods = f"{found.rods} rods at the perimeter" if found.rods else "no rods"
+        return f"{found.lines} conductors each way, {spacing} apart, and {rods}; {found.tried} yard{'s' if found.tried > 1 else ''} tried"
+    if found.tried:
+        return f"none of the {found.tried} yards tried is safe"
+    return f"no yard was tried: no count of conductors from 2 to 25 parts {exact(side, 3)} m into whole mm from 2.5 to 30 m"
+
+
 def fewest(arguments: argparse.Namespace) -> int:
     side = clear("side", length, arguments.side)
     if not 0 <= side < 2 ** 32:
@@ -53,12 +64,6 @@ def fewest(arguments: argparse.Namespace) -> int:
     found = ask(lambda: core.fewest(sheet, side), Asked(sheet, most_lines=1, side=side), arguments.file)
     if arguments.csv:
         show(f"found,{found.lines},{found.rods},{found.tried}\n" if found.found else f"none,{found.tried}\n")
-    elif found.found:
-        spacing = f"{exact(side // (found.lines - 1), 3)} m"
-        rods = f"{found.rods} rods at the perimeter" if found.rods else "no rods"
-        show(f"{found.lines} conductors each way, {spacing} apart, and {rods}; {found.tried} yard{'s' if found.tried > 1 else ''} tried\n")
-    elif found.tried:
-        show(f"none of the {found.tried} yards tried is safe\n")
     else:
-        show(f"no yard was tried: no count of conductors from 2 to 25 parts {exact(side, 3)} m into whole mm from 2.5 to 30 m\n")
+        show(said(found, side) + "\n")
     return WELL if found.found else HELD

@@ -1,0 +1,83 @@
+// The site: soil from four-pin readings, split from a staged test, the fewest conductors for a side; each answer goes into the sheet by a
+// button.
+import { COLUMN } from '../library/data.js';
+import { fewestOf, rodLength, soilOf, splitOf } from '../judging/site.js';
+import { exact, up } from '../words/decimals.js';
+import { change, withCells } from '../sheet/store.js';
+import { byId, h, redraw, show } from './dom.js';
+
+const WIDTH = 320, FLOOR = 104, TOP = 20, LEFT = 8, RIGHT = 312;
+const READINGS = ['reading', 'distance', 'resistance', 'lower Ω·m', 'upper Ω·m'], CURRENTS = ['current', 'in-phase A', 'quadrature A'];
+let say = () => {};
+export const onTaken = (call) => { say = call; };
+
+// Apparent resistivity over the distance of the pins, from 0 up.
+function plot(points) {
+  if (points.length < 2) return '';
+  const far = Math.max(...points.map((one) => one.at)), most = Math.max(...points.map((one) => one.mean.upper));
+  const x = ({ at }) => LEFT + ((RIGHT - LEFT) * at) / far, y = ({ mean }) => FLOOR - ((FLOOR - TOP) * mean.upper) / most;
+  const sorted = points.toSorted((one, other) => one.at - other.at);
+  const words = `up to ${up(most, 6, 3)} Ω·m`;
+  const title = `apparent resistivity over distance, ${words}`;
+  return h('svg', { class: 'plot readings', viewBox: `0 0 ${WIDTH} 122`, role: 'img', 'aria-label': title },
+    h('path', { class: 'axis', d: `M${LEFT} ${TOP}V${FLOOR}H${RIGHT}` }),
+    h('path', { class: 'curve', d: sorted.map((one, i) => `${i ? 'L' : 'M'}${x(one).toFixed(1)} ${y(one).toFixed(1)}`).join('') }),
+    sorted.map((one) => h('circle', { class: 'dot', cx: x(one).toFixed(1), cy: y(one).toFixed(1), r: 3 })),
+    h('text', { x: LEFT, y: TOP - 8 }, words), h('text', { x: RIGHT, y: FLOOR + 15, 'text-anchor': 'end' }, `${exact(far, 3)} m`));
+}
+
+const table = (heads, rows) => h('table', { class: 'data' },
+  h('thead', {}, h('tr', {}, heads.map((word, i) => h('th', { scope: 'col', class: i ? 'num' : '' }, word)))),
+  h('tbody', {}, rows.map(([name, ...cells]) => h('tr', {}, h('th', { scope: 'row' }, name),
+    cells.map((cell) => h('td', { class: 'num' }, cell))))));
+
+const notes = (list) => list.map((one) => h('p', { class: 'sub' }, one));
+const wrong = (words) => h('p', { class: 'red' }, words);
+
+// The button that puts cells into lines; without a line it says what is missing.
+function taking(places, cells, words, key) {
+  if (!places.length) return h('p', { class: 'sub' }, 'Choose a line to put it into.');
+  const set = places.flatMap((place) => Object.entries(cells).map(([name, value]) => [place, COLUMN[name], String(value)]));
+  const act = () => { change(words, { rows: withCells(set) }); say(words); };
+  return h('button', { type: 'button', 'data-key': key, onclick: act }, words);
+}
+
+function measured(id, found, heads, name, line) {
+  const text = byId(id).value.trim();
+  if (!text) return '';
+  if (found.wrong) return wrong(found.wrong);
+  const into = line ? `Put ${found.value} into ${name} of line ${line.number}` : '';
+  return [h('p', {}, h('b', {}, found.column)), found.fits ? taking(line ? [line.place] : [], { [name]: found.value }, into, name) : '',
+    notes(found.notes), table(heads, found.rows), name === 'soil' ? plot(found.points) : ''];
+}
+
+function yards(line, station) {
+  const text = byId('side').value.trim();
+  if (!text) return '';
+  if (!line?.case) return h('p', { class: 'sub' }, 'Choose a line that is accepted: all but the yard is taken from it.');
+  const found = fewestOf(line.case, text), length = rodLength(line.case);
+  if (found.wrong) return wrong(found.wrong);
+  const lines = station.lines, where = lines.length > 1 ? `the ${lines.length} lines of station ${station.station}` : `line ${line.number}`;
+  return [h('p', {}, h('b', {}, found.words), ` for season ${line.row.season} of station ${station.station}`),
+    length ? h('p', { class: 'sub' }, `The line has no rods: rods of ${length} were tried.`) : '',
+    found.cells ? taking(lines.map((one) => one.place), found.cells, `Put this yard into ${where}`, 'yard') : ''];
+}
+
+// The three answers, for the chosen line and its station.
+export function draw(line, station) {
+  redraw(byId('site'), () => {
+    show(byId('readings-said'), measured('readings', soilOf(byId('readings').value), READINGS, 'soil', line));
+    show(byId('currents-said'), measured('currents', splitOf(byId('currents').value), CURRENTS, 'split', line));
+    show(byId('side-said'), yards(line, station));
+  });
+}
+
+// What is typed is answered at once; those who listen hear the answer and not the whole table.
+export function wire(again) {
+  for (const id of ['readings', 'currents', 'side']) {
+    byId(id).addEventListener('input', () => {
+      again();
+      byId('live').textContent = byId(`${id}-said`).querySelector('b, .red')?.textContent ?? '';
+    });
+  }
+}
