@@ -1,10 +1,10 @@
 -- What holds of a sheet that breaks no rule, in document 01's words; its sample sheet breaks none.
 use Prim.Native.Nat.{ℕ, _<_}
-use mathlib.Core.{Path.{_≡_, refl, _∙_}, Bool.{Bool, true, false, _&&_}, List.{List, []}}
+use mathlib.Core.{Path.{_≡_, _∙_}, Bool.{Bool, true, false}, List.{List, []}}
 use native.Mathlib.Omega.{arith}
-use lib.{ListN.{length, getD}, Dec.{eqb}}
-use borrow.Author.Tests.{eq-eqb, eqb-true}
-use Rattle.text.{specs.Text.{same}, proofs.Clash.{clash}}
+use lib.ListN.{length, getD}
+use borrow.Author.Tests.{eq-eqb}
+use Rattle.text.specs.Text.{same}
 use Rattle.case.specs.{Columns.{columns, name-count, nameIndex, named}, Bounds.{Bounds}}
 use Rattle.header.proofs.NamesStand.{names-stand, stands-once, name-known-at}
 use Rattle.line.specs.Line.{lineCase}
@@ -19,18 +19,7 @@ use Rattle.claims.proofs.OwnLines.{columnsIn, valuesAt, right-fields, c
 
 -- ---- keys
 
-both-equal : (a b c d : ℕ) → (eqb a b && eqb c d) ≡ true → (a ≡ b) × (c ≡ d)
-both-equal a b c d = go (eqb a b) refl
-  where
-    go : (p : Bool) → eqb a b ≡ p → (p && eqb c d) ≡ true → (a ≡ b) × (c ≡ d)
-    go true q e = (eqb-true a b q, eqb-true c d e)
-    go false q e = clash cc
-
 module _ (s : List ℕ) (i j : ℕ) (h : i < length (valueLines s)) (l : j < length (valueLines s)) where
-  pub same-key : sameKey columns (valuesAt s i) (valuesAt s j) ≡ true → SameKey (caseAt s i) (caseAt s j)
-  unfolding sameKey named nameIndex columns same
-  same-key e = let q = both-equal _ _ _ _ e in rw (case-is s i h, case-is s j l) (record { station = q .0; season = q .1 })
-
   other-key : sameKey columns (valuesAt s i) (valuesAt s j) ≡ false → SameKey (caseAt s i) (caseAt s j) → ⊥
   unfolding sameKey named nameIndex columns same
   other-key e k =
