@@ -182,6 +182,24 @@ class Statuses(unittest.TestCase):
         self.assertEqual(done, (1, "", "tests/sample.csv: station 8 has no line in the sheet, and the licence does not name it\n"))
 
 
+class WrongCells(unittest.TestCase):
+    def test_every_command_refuses_in_words(self):
+        """A cell that is no whole number is refused by the library and reported with its place, whatever is asked of the sheet."""
+        names, *lines = (ROOT / "examples" / "portfolio.csv").read_text(encoding="ascii").splitlines()
+        for cell in ("x", "", "62.5", "-5", "1e3"):
+            spoilt = lines[2].split(",")
+            spoilt[names.split(",").index("soil")] = cell
+            with tempfile.TemporaryDirectory() as folder:
+                sheet = pathlib.Path(folder) / "sheet.csv"
+                sheet.write_text("\n".join([names, *lines[:2], ",".join(spoilt), *lines[3:], ""]), encoding="ascii")
+                for name in ("check", "verdict", "rows", "margins", "summary", "release", "next", "report"):
+                    with self.subTest(name, cell=cell):
+                        done = run(name, str(sheet), *(("-o", os.path.join(folder, "report.html")) if name == "report" else ()))
+                        self.assertEqual(done.status, 1)
+                        self.assertIn("line 4, soil (column 3)", done.out + done.err)
+                        self.assertEqual(os.listdir(folder), ["sheet.csv"])
+
+
 class Rises(unittest.TestCase):
     """The option --gpr-limit marks and counts, and decides nothing."""
 

@@ -23,12 +23,16 @@ class Answers:
     def __init__(self, sheet: bytes, areas: Optional[Dict[int, int]] = None) -> None:
         """`areas` has of stations their conductor's own cross-section in whole kcmil; of the others it is a solid round."""
         self.sheet = sheet
-        self.cases = layout.cases(sheet)
         self.areas = areas or {}
 
     @cached_property
     def rows(self) -> List[core.Row]:
         return core.rows(self.sheet)
+
+    @cached_property
+    def cases(self) -> List[Dict[str, int]]:
+        """The values of each line, read once the library has accepted the sheet: what is no number is refused by it, in words."""
+        return layout.cases(self.sheet) if self.rows else []
 
     @cached_property
     def margins(self) -> List[core.Margins]:
