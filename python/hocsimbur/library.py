@@ -14,7 +14,7 @@ from . import core
 from .core import Verdict
 from .portfolio import decision, reasons
 from .portfolio.licence import ALL_SEASONS, MOST_AREA, Licence, Licensed
-from .sheets import checking, layout, rounding
+from .sheets import checking, layout, rounding, units
 from .sheets.amounts import shown
 from .sheets.files import Batch, File, Lines, each
 from .sheets.forms import printable, whole_number
@@ -174,8 +174,10 @@ def _whole(value: object, name: str, line: int) -> int:
     if number is None:
         raise Refused(f"{printable(repr(value))} is no number; it must be {whole_number(unit)}", 0, line, name)
     if number.denominator != 1:
-        advice = rounding.advice(name)
-        raise Refused(f"{shown(number)} is not {whole_number(unit)}" + (f"; {advice}" if advice else ""), 0, line, name)
+        outside, advice = units.outside(name, number), rounding.advice(name)
+        more = f", and {outside}" if outside else f"; {advice}" if advice else ""
+        given = repr(value) if isinstance(value, float) else shown(number)
+        raise Refused(f"{given} is not {whole_number(unit)}{more}", 0, line, name)
     return int(number)
 
 

@@ -73,6 +73,12 @@ class Help(unittest.TestCase):
         self.assertIn("--gpr-limit VOLTAGE", run("margins", "--help").out)
         self.assertIn("--round {cautious}", run("import", "--help").out)
 
+    def test_a_value_without_its_option(self):
+        for command, text, option in (("wenner", "2,3.18", "--reading"), ("staged", "20∠0", "--injected")):
+            done = run(command, text)
+            self.assertEqual((done.status, done.out, done.err), (3, "", f"hocsimbur: {text}: there is no such file; to give a value here, write {option} {text}\n"))
+        self.assertIn("readings.csv: No such file", run("wenner", "readings.csv").err)
+
     def test_values_with_a_minus_sign(self):
         done = run("staged", "--csv", "--injected", "-1000,0", "--branch", "-400,0", "--branch", "-1@-90")
         self.assertEqual((done.status, done.out.split("\n")[1]), (0, "-600000,-1000,601"))

@@ -130,6 +130,15 @@ class Rounded(unittest.TestCase):
             "line 2, soil (column 3): 187.5 is not a whole number of Ω·m; the cautious side is up: write 188, or give --round cautious",
             "line 2, xr (column 12): 16.2 is not a whole number; the cautious side is up: write 17, or give --round cautious"])
 
+    def test_a_value_outside_its_range_has_no_cautious_side(self):
+        for cautious in (False, True):
+            self.assertEqual(refused(changed(split="0.6", dia="10.5", xr="40.2"), cautious), [
+                "line 2, split (column 11): 0.6 is not a whole number per mille, and it is not in 1..1000; is it in another unit? split may have ‰ or %",
+                "line 2, xr (column 12): 40.2 is not a whole number, and it is not in 1..40",
+                "line 2, dia (column 17): 10.5 is not a whole number of tenths of a mm, and it is not in 50..300; is it in another unit? "
+                "dia may have mm, cm or in, or a wire's size as 4/0"])
+        self.assertEqual([value("split", text, cautious=True) for text in ("1.5", "999.5")], ["2", "1000"])
+
     def test_check_names_the_side(self):
         self.assertEqual(run("check", "-", stdin=changed(soil="187.5", depth="457.2", rods="1.5")).out.split("\n")[:3], [
             "line 2, soil (column 3): 187.5 is not a whole number of Ω·m, 10..5000; the cautious side is up",

@@ -116,6 +116,7 @@ class Refusals(unittest.TestCase):
     def test_of_yards(self):
         self.hold(raised(hocsimbur.rows, [CASES[0], dict(CASES[1], depth=60)]), "[1], depth: 60 mm is not in 250..2500", 5, 1, "depth")
         self.hold(raised(hocsimbur.rows, [dict(CASES[0], soil=187.5)]), "[0], soil: 187.5 is not a whole number of Ω·m; the cautious side is up", 0, 0, "soil")
+        self.hold(raised(hocsimbur.rows, [dict(CASES[0], split=0.6)]), "[0], split: 0.6 is not a whole number per mille, and it is not in 1..1000", 0, 0, "split")
         self.hold(raised(hocsimbur.rows, [dict(CASES[0], rods=1.5)]), "[0], rods: 1.5 is not a whole number", 0, 0, "rods")
         for value in ("x", None, True, float("nan"), float("inf"), "4/0", 1j):
             self.hold(raised(hocsimbur.rows, [dict(CASES[0], fault=value)]), f"[0], fault: {value!r} is no number; it must be a whole number of A", 0, 0, "fault")

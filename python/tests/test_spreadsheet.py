@@ -49,7 +49,7 @@ WRITTEN = {
 # cells that are refused, and why
 REFUSED = {
     "3180.5": "3180.5 is not a whole number of A; the cautious side is up: write 3181, or give --round cautious",
-    "0.3180": "0.3180 is not a whole number of A; the cautious side is up: write 1, or give --round cautious",
+    "0.3180": "0.3180 is not a whole number of A, and it is not in 100..80000; is it in another unit? fault may have A or kA",
     '"3,180"': "'3,180' may be 3180 or 3.180 with decimals; write it in digits alone",
     '"3,000"': "'3,000' may be 3000 or 3.000 with decimals; write it in digits alone",
     "3180 V": "'3180 V' has the unit 'V'; fault may have A or kA",

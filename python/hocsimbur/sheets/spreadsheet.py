@@ -369,6 +369,10 @@ class _Line:
     def _round(self, text: str, name: str, number: Fraction, bare: bool) -> int:
         unit = BY_NAME[name].unit if name in BY_NAME else "ms" if name == "ms" else ""
         amount = f"{text} is not {whole_number(unit)}" if bare else f"{text} is {shown(number)} {unit}, not {whole_number(unit)}"
+        outside = units.outside(name, number)
+        if outside:
+            allowed = units.allowed(name)
+            raise ValueError(f"{amount}, and {outside}" + (f"; is it in another unit? {name} may have {allowed}" if allowed else ""))
         side = rounding.side(name, self.whole.get("layer", 0), self.whole.get("soil", 0))
         whole, advice = _rounded(name, number, side), rounding.advice(name)
         if side == rounding.NEITHER:

@@ -5,6 +5,8 @@ import re
 from fractions import Fraction
 from typing import Dict, Optional
 
+from .names import BY_NAME
+
 _LENGTH = {"mm": Fraction(1), "cm": Fraction(10), "m": Fraction(1000), "in": Fraction(254, 10), "inch": Fraction(254, 10),
            "inches": Fraction(254, 10), '"': Fraction(254, 10), "ft": Fraction(3048, 10), "foot": Fraction(3048, 10),
            "feet": Fraction(3048, 10), "'": Fraction(3048, 10)}
@@ -51,3 +53,11 @@ def known(name: str, unit: str) -> bool:
 def allowed(name: str) -> str:
     """The units that a column may have, in words; '' where it has none."""
     return SHOWN.get(name, "")
+
+
+def outside(name: str, number: Fraction) -> str:
+    """What is said of a value that is no whole number and out of its column's range, '' of one in the range.
+
+    It is mostly in another unit (a split of 0.6, a diameter of 10.5 mm), so no side of it is cautious: 0.6 is not 1 per mille."""
+    column = BY_NAME.get(name)
+    return "" if column is None or column.low <= number <= column.high else f"it is not in {column.allowed}"
