@@ -75,7 +75,7 @@ def _order(head: Tuple[int, List[str]]) -> List[int]:
         bare.pop()
     columns = (*COLUMNS, WIRE) if WIRE in bare else COLUMNS
     if sorted(bare) != sorted(columns):
-        raise _refuse(line, f": the names are {','.join(names)}, not station,name,seasons, with wire where it is known")
+        raise _refuse(line, f": the names are {','.join(names)}; a licence has station,name,seasons and, if it is known, wire")
     return [bare.index(column) for column in columns]
 
 
