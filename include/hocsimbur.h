@@ -1,6 +1,6 @@
 /* Hocsimbur: substation ground grids after IEEE Std 80, for programs in C (C99 and later) and C++ (C++98 and later).
  *
- * The sheet. Text: a line of the 22 names below, once each and in any order, parted by commas; then 1 to 256 lines of values in
+ * The sheet. Text: a line of the 22 names below, once each and in any order, separated by commas; then 1 to 256 lines of values in
  * that order. A line ends with one byte 10; there are no spaces. A value is one to six decimal digits, and only 0 starts with 0. At
  * most 65,536 bytes.
  *
@@ -29,7 +29,7 @@
  *
  * layer and thick are both 0 (bare soil) or both not 0; rods, rodlen and place are all 0 or all not 0.
  *
- * One manner. Every entry answers a count of 0 or more, or a refusal's number made negative (enum hocsimbur_refusal). A refusal
+ * One convention. Every entry answers a count of 0 or more, or a refusal's number made negative (enum hocsimbur_refusal). A refusal
  * leaves every buffer and array as it was. Numbers and bytes past the last that is written keep what they held. Where a refusal
  * points stands in the first two numbers of `place`: the line of the text, the first being 1, and the column, which counts the
  * fields of the line from 1 and not its bytes; 0 where there is none. An answer of 0 or more leaves the place as it was, and so
