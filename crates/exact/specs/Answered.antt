@@ -1,4 +1,4 @@
--- The answer to a question for two ends, and what holds of it.
+-- §5.7, §5.8: the answer to a question for two ends, and what holds of it.
 use Rattle.interval.specs.declared.Pair.{Pair, the-variants.{Ends as Told, Refused}}
 use Rattle.exact.specs.{Fraction.{Fraction}, Ends.{Ends}, Exact.{Exact}, Reported.{Scale, Reports}}
 

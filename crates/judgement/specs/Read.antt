@@ -1,4 +1,4 @@
--- What reading a sheet promises: its judgement, and where it counts value lines, their values in a store.
+-- What reading a sheet promises: its judgement (§2.2), and where it counts value lines, their values in a store.
 use Prim.Native.Nat.{ℕ, _*_, _≤_, _<_}
 use mathlib.Core.{Path.{_≡_}, List.{List, []}}
 use lib.ListN.{length, getD}

@@ -1,4 +1,4 @@
--- What is promised of the answer to every list of numbers.
+-- §9.1: what is promised of the answer to every list of readings.
 use Prim.Native.Nat.{ℕ}
 use mathlib.Core.{Path.{_≡_}, List.{List}}
 use Rattle.readings.specs.{declared.Sounding.{Sounding, the-variants.{Soil, Refused}}, Reading.{Reading, pairsOf}, Refusal.{answerOf}}

@@ -1,5 +1,5 @@
--- What a report is. Document 02 (g): "The report gives the ends of the least, the greatest and the mean over all pairs in micro-ohm metres,
--- at most 1/1,000,000 of the lower end plus 2 apart, and the upper mean rounded up to whole ohm metres for the soil column."
+-- What a report is. §9.1: "The report gives the ends of the least, the greatest and the mean over all pairs in micro-ohm metres, at most
+-- 1/1,000,000 of the lower end plus 2 apart, and the upper mean rounded up to whole ohm metres for the soil column."
 use Prim.Native.Nat.{ℕ}
 use mathlib.Core.{Path.{_≡_}, List.{List}}
 use lib.IntN.{natAbs}

@@ -1,4 +1,4 @@
--- Answers of a search and sides, worked by hand.
+-- Answers of a search (§6.7) and sides, computed by hand.
 use mathlib.Core.{Path.{_≡_, refl}, List.{[], _∷_}}
 use Rattle.text.specs.{Text.{bytes}, Value.{digit, digits, plain, isValue, numberFrom, valueOf, fieldValue}}
 use Rattle.writing.specs.{Decimal.{digitsIn, digitCount, lastDigits, decimal}, Text.{moreFields, parted, ended}}

@@ -1,6 +1,6 @@
--- What the fewest program prints of its input: a line with a square side in mm, then a sheet of one value line. Document 02 (k): "Given one
--- case and a square side in mm"; "The answer gives that yard's line and rod counts. None is answered only if no yard tried is safe. The
--- number of yards tried is reported".
+-- What the fewest program prints of its input: a line with a square side in mm, then a sheet of one value line. §6.7: "Given one case and a
+-- square side in mm"; "The answer gives that yard's line and rod counts. None is answered only if no yard tried is safe. The number of
+-- yards tried is reported".
 use Prim.Native.Nat.{ℕ, suc, _+_}
 use mathlib.Core.{Bool.{cond}, List.{List, [], _∷_}}
 use lib.{Dec.{ltb}, ListN.{length, take, drop}}

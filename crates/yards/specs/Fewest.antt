@@ -1,4 +1,4 @@
--- The first safe yard. Document 02 (k).
+-- The first safe yard. §6.7.
 use Prim.Native.Nat.{ℕ, suc, _≤_, _<_}
 use mathlib.Core.{Path.{_≡_}, Bool.{cond, _&&_}, List.{List, [], _∷_}}
 use lib.{Dec.{leb, eqb}, ListN.{length, getD}}
