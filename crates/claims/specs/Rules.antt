@@ -24,7 +24,7 @@ pub record Under (s : List ℕ) (i : ℕ) (name : String) (value : ℕ) : Type 0
   pub named : StandsAt (names s) (bytes name) column
   pub number : value ≡ valueOf (fieldAt (fieldsAt s i) column)
 
--- a case has of each name the number that value line i has under it
+-- a case has for each name the number that value line i has under it
 pub record OwnLine (s : List ℕ) (i : ℕ) (c : Case) : Type 0 where
   pub within : i < length (valueLines s)
   -- "A value is one to six decimal digits; 0 is the only value that may start with 0.": 22 of them

@@ -55,7 +55,7 @@ a ·f b =
       positive = mul-pos (a .positive) (b .positive);
     }
 
--- one over a positive fraction; of any other it means nothing
+-- one over a positive fraction; of any other it has no meaning
 unfoldable pub inv : Fraction → Fraction
 inv a =
     record { plus = a .den; minus = 0; den = max 1 (a .plus - a .minus); positive = le-max-left 1 (a .plus - a .minus) }

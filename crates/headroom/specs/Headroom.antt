@@ -41,7 +41,7 @@ unfoldable pub roomOf : ℕ → Room
 roomOf zero = None
 roomOf (suc k) = UpTo (suc k)
 
--- of a refusal nothing is asked here
+-- nothing is required of a refusal here
 unfoldable pub RightRoom : Case → Room → Type 0
 RightRoom c (UpTo F) = Headroom c F
 RightRoom c None = NoHeadroom c

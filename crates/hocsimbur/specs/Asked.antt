@@ -100,7 +100,7 @@ pub record TolerableAnswered (c : Case) (r : Tolerable) : Type 0 where
 unfoldable pub rowAnswer : Case → RowAnswer
 rowAnswer c = recordAnswer row.Refused (row.Is (rowOf c)) (recordJudged c)
 
--- a row is right; of a refusal nothing is asked here
+-- a row is right; nothing is required of a refusal here
 unfoldable pub RightAnswer : Case → RowAnswer → Type 0
 RightAnswer c (row.Is r) = RightRow c r
 RightAnswer c (row.Refused number line column) = Unit {0}

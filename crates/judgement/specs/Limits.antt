@@ -1,7 +1,7 @@
 -- §1.5: the limits of a sheet: its bytes and its value lines.
 use Prim.Native.Nat.{ℕ}
 
--- the most bytes and the most value lines of a sheet
+-- the greatest number of bytes and of value lines of a sheet
 pub record Limits : Type 0 where
   pub bytes : ℕ
   pub lines : ℕ

@@ -15,7 +15,7 @@ use Rattle.judgement.specs.Sheet.{names, valueLines, linesJudgement, val
 abbrev pub Stored : Form → List ℕ → List (List ℕ) → List ℕ → Type 0
 Stored form at lines store = (i : ℕ) → i < length lines → partAt (length form) store i ≡ lineValues at (fieldsOf (getD lines i []))
 
--- a store has room for the values of some lines, or of the most that a sheet may have
+-- a store has room for the values of some lines, or of as many as a sheet may have
 pub record Room (form : Form) (lines : List (List ℕ)) (store : List ℕ) : Type 0 where
   pub enough : {n : ℕ} → n ≤ length lines → n ≤ mostLines → length form * n ≤ length store
 

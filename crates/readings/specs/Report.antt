@@ -21,7 +21,7 @@ width A = decimal 1 6 ·f A .lower +f decimal 2 6
 unfoldable pub soilOf : Interval → ℕ
 soilOf mean = ceilDiv (natAbs (mean .upper)) (μΩm .count)
 
--- "A mean outside that column's range is still reported": nothing is asked of the soil but this
+-- "A mean outside that column's range is still reported": nothing else is required of the soil
 pub record RightReport (ps : List Reading) (r : Report) : Type 0 where
   pub least : Reports (Resistivity.least ps) μΩm width (r .least)
   pub greatest : Reports (Resistivity.greatest ps) μΩm width (r .greatest)

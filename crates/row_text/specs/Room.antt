@@ -11,6 +11,6 @@ fieldBytes = 22
 abbrev pub nameBytes : ℕ
 nameBytes = 352
 
--- a line of names, and twenty fields for each of the most value lines
+-- a line of names, and twenty fields for each of as many value lines as a sheet may have
 abbrev pub textRoom : ℕ
 textRoom = nameBytes + mostLines * (fieldBytes * rowLength)

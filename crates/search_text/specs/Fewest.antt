@@ -12,7 +12,7 @@ use Rattle.fields.specs.Refusal.{numbered, refusedText}
 
 -- ---- the input
 
--- a line that is no value is 0, which is out of the range of a side
+-- a line that is not a value counts as 0, which is out of the range of a side
 unfoldable pub sideOf : Field → ℕ
 sideOf (Value side) = side
 sideOf Wrong = 0

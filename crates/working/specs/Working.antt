@@ -54,7 +54,7 @@ pub record RightWorking (c : Case) (w : Quantities) : Type 0 where
 unfoldable pub workingAnswer : Case → Worked
 workingAnswer c = recordAnswer Refused (Is (workingOf c)) (recordJudged c)
 
--- a working is right; of a refusal nothing is asked here
+-- a working is right; nothing is required of a refusal here
 unfoldable pub RightWorked : Case → Worked → Type 0
 RightWorked c (Is w) = RightWorking c w
 RightWorked c (Refused number line column) = Unit {0}
