@@ -1,4 +1,4 @@
--- Fractions with sign: (plus − minus) / den. One value has many fractions: compare them by ≤f and <f.
+-- §5.1: fractions with a sign, (plus − minus) / den. One value has many fractions: compare them by ≤f and <f.
 use Prim.Native.Nat.{ℕ, zero, suc, _+_, _-_, _*_, _^_, max, _≤_, _<_}
 use native.Mathlib.{Nat.{mul-pos, le-max-left, zero-lt-suc, one-le-pow}, Decide.{decLe}}
 

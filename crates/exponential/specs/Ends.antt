@@ -22,7 +22,7 @@ most = 8000000000000
 abbrev pub large : ℕ
 large = 22000000000
 
--- terms after the first: twelve in all, as many as the depth at which code works
+-- terms after the first: twelve in all, as many as the depth at which the code computes
 abbrev pub levels : ℕ
 levels = 11
 
