@@ -1,4 +1,4 @@
--- The stations of a table of rows, and the place of each row's station among them.
+-- §7.1, "stations by first appearance": the stations of a table of rows, and the place of each row's station among them.
 use Prim.Native.Nat.{ℕ, zero, suc, _*_, _%_, _≤_, _<_}
 use mathlib.Core.{Path.{_≡_}, List.{List, [], _∷_}}
 use lib.{IntN.{ℤ, pos, negsuc}, ListN.{getD, take, length}}
@@ -6,7 +6,7 @@ use Rattle.judgement.specs.Limits.{mostLines}
 use Rattle.row.specs.Row.{rowLength}
 use Rattle.station_sums.specs.Summary.{byAppearance}
 
--- the low sixteen bits of a station, by which it is soon told from most others
+-- the low sixteen bits of a station, which distinguish it from most others
 unfoldable pub markOf : ℤ → ℕ
 markOf (pos n) = n % 65536
 markOf (negsuc n) = 0

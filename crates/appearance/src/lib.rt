@@ -48,7 +48,7 @@ fn is_marked(marks: &[u16], count: usize, mark: u16) -> bool
     found
 }
 
-// The place of a station among the first count, or count where it is not among them; the marks tell soon that it is not.
+// The place of a station among the first count, or count where it is not among them; the marks show quickly that it is not.
 fn place_of<'a>(known: &'a [i64], marks: &'a [u16], count: usize, station: i64) -> usize
     requires { ⌜ count ≤ length (now known) ⌝ }
     requires { ⌜ Marked (now known) (now marks) count ⌝ }

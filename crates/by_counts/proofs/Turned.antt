@@ -1,4 +1,4 @@
--- The counts may be turned round.
+-- The two counts may be exchanged.
 use Prim.Native.Nat.{ℕ, _-_, _<_}
 use mathlib.Core.Path.{_≡_}
 use native.Mathlib.{Omega.{arith}, Nat.{mul-comm}}

@@ -1,4 +1,4 @@
--- The ends of what depends on the two counts alone.
+-- The ends of what depends on the two counts alone (§4.2, §4.6, §4.7).
 use Prim.Native.Nat.{ℕ}
 use Rattle.case.specs.declared.Case.{Case}
 use Rattle.effective_number.specs.Number.{nEnds}

@@ -1,4 +1,4 @@
--- Numbers as bytes. Document 02 (i): "rows come back as eight-byte little-endian signed numbers".
+-- Numbers as bytes. §11.2: "rows come back as eight-byte little-endian signed numbers".
 use Prim.Native.Nat.{ℕ, zero, suc, _+_, _-_, _*_, _/_, _%_, _^_}
 use mathlib.Core.{Bool.{cond}, List.{List, [], _∷_, _++_}}
 use lib.{Dec.{ltb}, IntN.{ℤ, pos, negsuc}, ListN.{take, drop}}

@@ -1,4 +1,4 @@
--- Bytes computed on numbers, at the ends of 64 bits and around 0.
+-- §11.2: bytes computed on numbers, at the ends of 64 bits and around 0.
 use Prim.Native.Nat.{_-_, _^_}
 use mathlib.Core.{Path.{_≡_, refl}, List.{List, [], _∷_, map}}
 use lib.IntN.{ℤ, pos, negsuc}

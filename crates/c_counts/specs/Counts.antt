@@ -1,4 +1,4 @@
--- The answers of operations as a count or a refusal, with number, line and column.
+-- §11.1: the answers of operations as a count or a refusal, with number, line and column.
 use Rattle.sheet.specs.declared.Answer.{Answer, the-variants.{Rows, Refused}}
 use Rattle.stations.specs.declared.Summed.{Summed}
 use Rattle.stations.specs.declared.Summed.the-variants as summed

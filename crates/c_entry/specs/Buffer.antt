@@ -1,5 +1,5 @@
--- The buffer after a sheet: one claim over every sheet, every buffer and every row. Document 02 (i): "The host hands over the sheet's bytes
--- and a byte buffer; rows come back as eight-byte little-endian signed numbers. The answer is a signed number, the count of rows, or the
+-- The buffer after a sheet: one claim over every sheet, every buffer and every row. §11.2: "The host hands over the sheet's bytes and a
+-- byte buffer; rows come back as eight-byte little-endian signed numbers. The answer is a signed number, the count of rows, or the
 -- refusal's number made negative with the buffer untouched; bytes past the last row keep what they held. A buffer short of 160 bytes a line
 -- is refused with 8."
 use Prim.Native.Nat.{ℕ, _/_}
@@ -30,8 +30,8 @@ pub record Answered (s before after : List ℕ) (r : ℤ) : Type 0 where
   pub answer-is : r ≡ signedAnswer (answerFor s before)
   pub buffer-is : BufferAfter s before after (answerFor s before)
 
--- line and column of a refusal in a place beside it, answer and buffer as without. Two wrong programs: one that writes column and line
--- breaks `place-is`, and so does one that writes 0 and 0 with rows.
+-- §11.1: line and column of a refusal in a separate place; answer and buffer as without it. Two wrong programs: one that writes column and
+-- line breaks `place-is`, and so does one that writes 0 and 0 with rows.
 pub record AnsweredAt (s before after place told : List ℕ) (r : ℤ) : Type 0 where
   pub answered : Answered s before after r
   pub place-is : told ≡ placeAfter (answerFor s before) place

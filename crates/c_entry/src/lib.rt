@@ -1,5 +1,5 @@
-// The sheet asked by a program in C, and the manner of all that C asks: the answer is a count of 0 or more, or a refusal's number made
-// negative, with line and column in a lent place of two numbers and every other buffer as it was.
+// The sheet asked by a program in C, and the convention (§11.1) of all that C asks: the answer is a count of 0 or more, or a refusal's
+// number made negative, with line and column in a lent place of two numbers and every other buffer as it was.
 ghost use Prim.Native.Nat.{_≤_};
 ghost use mathlib.Core.Path.{_≡_};
 ghost use mathlib.Core.Bool.{true};
@@ -23,8 +23,8 @@ use sheet::Answer;
 use sheet::TABLE_SHORT;
 use text::count_lines;
 
-// A sheet of at most so many bytes and lines, that of the names among them, is short: to clear a store for the most lines would take longer
-// than all else that is done for it.
+// A sheet of at most so many bytes and lines, that of the names among them, is short: to clear a store for as many lines as a sheet may
+// have would take longer than all else that is done for it.
 const SHORT_BYTES: usize = 1024;
 
 const SHORT_LINES: usize = 8;
@@ -38,7 +38,7 @@ fn is_short(s: &[u8]) -> bool
     count_lines(s) <= SHORT_LINES
 }
 
-// The answer to a sheet, and its rows as bytes in the buffer, by way of a store with room for its lines.
+// The answer to a sheet, and its rows as bytes in the buffer, through a store with room for its lines.
 fn fill_buffer(s: &[u8], values: &mut [u32], buffer: &mut [u8]) -> Answer
     requires { ⌜ Room (formOf Present) (linesOf (now s)) (now values) ⌝ }
     ensures { λ r. ⌜ InBytes (now (s .entry)) (now (buffer .entry)) (now (buffer .exit)) r ⌝ }

@@ -1,4 +1,4 @@
--- The numbers of one value line, by what is asked: margins, working, headroom.
+-- §11.3: the numbers of one value line, by what is asked: margins, working, headroom.
 use Prim.Native.Nat.{ℕ}
 use mathlib.Core.{Path.{_≡_}, List.{List, [], _∷_}}
 use lib.IntN.{ℤ, pos}

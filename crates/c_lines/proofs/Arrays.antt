@@ -35,7 +35,7 @@ module _ (question : Question) {wide : ℕ} (is : wide ≡ widthOf question) whe
   line-filled cs {i} {before} {t} part f h l =
       filled-step f (put-written-as wide i t part is h (line-length question (getD cs i (caseOf [])) part l)) l
 
-  -- the numbers of the most lines are few
+  -- the numbers of as many lines as a sheet may have are few
   pub numbers-few : {n : ℕ} → n ≤ mostLines → wide * n < 2 ^ 64
   numbers-few h = rw is (omega (arith, mul-le-mul (width-most question) h))
 

@@ -1,4 +1,5 @@
--- The numbers of every value line of a sheet in an array that the caller lends: one claim over every question, every sheet and every array.
+-- §11.3: the numbers of every value line of a sheet in an array that the caller lends: one claim over every question, every sheet and every
+-- array.
 use Prim.Native.Nat.{ℕ, _*_}
 use mathlib.Core.{Path.{_≡_}, Bool.{cond}, List.{List, []}}
 use lib.{Dec.{ltb}, IntN.{ℤ}, ListN.{length, getD}}
@@ -33,8 +34,8 @@ pub record LinesAnswered (question : Question) (s : List ℕ) (before after : Li
   pub answer-is : a ≡ linesAnswer question s (length before)
   pub array-is : ArrayAfter question s before after a
 
--- the same told to a program in C. Two wrong programs: one that puts the numbers of the first line in every part breaks `asked`; one that
--- answers how many numbers it wrote breaks `told`.
+-- §11.1: the same as reported to a program in C. Two wrong programs: one that puts the numbers of the first line in every part breaks
+-- `asked`; one that answers how many numbers it wrote breaks `told`.
 pub record LinesTold (question : Question) (s : List ℕ) (before after : List ℤ) (place pointed : List ℕ) (r : ℤ) : Type 0 where
   pub answer : Answer
   pub asked : LinesAnswered question s before after answer

@@ -1,6 +1,6 @@
-// Numbers of every value line of a sheet, asked by a program in C: margins, working and headroom. One manner for the three: the answer
-// is the count of value lines, or a refusal's number made negative, with line and column in a lent place of two numbers and the array as
-// it was.
+// Numbers of every value line of a sheet, asked by a program in C: margins, working and headroom. All three follow one convention (§11.1):
+// the answer is the count of value lines, or a refusal's number made negative, with line and column in a lent place of two numbers and the
+// array as it was.
 mod lines;
 
 use c_line::Question;
@@ -9,7 +9,7 @@ ghost use Rattle.c_line.specs.declared.Question.the-variants.{Margins, Working,
 ghost use Rattle.c_lines.specs.Lines.{LinesTold};
 use lines::answer_lines;
 
-// The answer of a question, told.
+// The answer of a question as reported to C.
 fn tell_lines(question: Question, s: &[u8], numbers: &mut [i64], place: &mut [usize]) -> i64
     ensures { λ r. ⌜ LinesTold question (now (s .entry)) (now (numbers .entry)) (now (numbers .exit)) (now (place .entry))
         (now (place .exit)) r ⌝ }

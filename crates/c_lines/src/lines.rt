@@ -36,7 +36,8 @@ fn write_lines(question: Question, values: &[u32], n: usize, numbers: &mut [i64]
     }
 }
 
-// The answer to a sheet, and the numbers of its lines in the array, by way of a store for the values of the most lines.
+// The answer to a sheet, and the numbers of its lines in the array, through a store with room for the values of as many lines as a sheet
+// may have.
 fn fill_lines(question: Question, s: &[u8], values: &mut [u32], numbers: &mut [i64]) -> Answer
     requires { ⌜ length (now values) ≡ nameCount * mostLines ⌝ }
     ensures { λ r. ⌜ LinesAnswered question (now (s .entry)) (now (numbers .entry)) (now (numbers .exit)) r ⌝ }

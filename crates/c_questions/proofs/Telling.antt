@@ -1,4 +1,4 @@
--- An answer that is told, under another name of it.
+-- An answer reported to C, under another name for it.
 use Prim.Native.Nat.{ℕ}
 use mathlib.Core.{Path.{_≡_, ap, _∙_}, List.{List}}
 use lib.IntN.{ℤ}

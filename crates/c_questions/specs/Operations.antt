@@ -1,5 +1,5 @@
--- The operations that take arrays of the caller's, asked by a program in C. What each leaves in the arrays is the operation's own
--- promise, in the words of its crate; its answer is told as one number with a place.
+-- §11.1, §11.3: the operations that fill the caller's arrays, asked by a program in C. What each leaves in the arrays is the operation's
+-- own promise, in the words of its crate; its answer is reported as one number with a place.
 use Prim.Native.Nat.{ℕ}
 use mathlib.Core.List.{List}
 use lib.IntN.{ℤ}

@@ -1,5 +1,5 @@
--- The operations that report numbers of their own, asked by a program in C: the numbers in an array that the caller lends, the count told
--- as one number with a place.
+-- §11.1, §11.3: the operations that report numbers of their own, asked by a program in C: the numbers in an array that the caller lends,
+-- the count as one number with a place.
 use Prim.Native.Nat.{ℕ}
 use mathlib.Core.List.{List}
 use lib.IntN.{ℤ}

@@ -1,5 +1,5 @@
-// The questions beside a sheet's rows, asked by a program in C. One manner for all: the answer is a count of 0 or more, or a
-// refusal's number made negative, with line and column in a lent place of two numbers and every other buffer as it was.
+// §11.1, §11.3: the questions other than a sheet's rows, asked by a program in C. All follow one convention: the answer is a count of 0 or
+// more, or a refusal's number made negative, with line and column in a lent place of two numbers and every other buffer as it was.
 use c_tell::tell;
 ghost use mathlib.Core.Path.{_≡_};
 ghost use Rattle.case.specs.declared.Form.the-variants.{Present, Former};
@@ -47,7 +47,7 @@ pub extern "C" fn hocsimbur_release<'a>(
     tell(answer, place)
 }
 
-// The count of bytes of a sheet of document 01's own names that is carried over to today's.
+// The count of bytes of a sheet of the former names that is carried over to today's.
 #[no_mangle]
 pub extern "C" fn hocsimbur_carry(s: &[u8], buffer: &mut [u8], place: &mut [usize]) -> i64
     ensures { λ r. ⌜ CarryTold Present (now (s .entry)) (now (buffer .entry)) (now (buffer .exit)) (now (place .entry))
@@ -57,7 +57,7 @@ pub extern "C" fn hocsimbur_carry(s: &[u8], buffer: &mut [u8], place: &mut [usiz
     tell(answer, place)
 }
 
-// The count of bytes of a sheet of today's names that is carried back to document 01's own.
+// The count of bytes of a sheet of today's names that is carried back to the former ones.
 #[no_mangle]
 pub extern "C" fn hocsimbur_carry_back(s: &[u8], buffer: &mut [u8], place: &mut [usize]) -> i64
     ensures { λ r. ⌜ CarryTold Former (now (s .entry)) (now (buffer .entry)) (now (buffer .exit)) (now (place .entry)) (now (place .exit))

@@ -1,4 +1,4 @@
--- The answers of operations that report numbers of their own, as numbers in an array that the caller lends.
+-- §11.1, §11.3: the answers of operations that report numbers of their own, as numbers in an array that the caller lends.
 use Prim.Native.Nat.{ℕ, _<_, _^_}
 use mathlib.Core.{Path.{_≡_}, Bool.{cond}, List.{List, [], _∷_, _++_}}
 use lib.{Dec.{ltb}, IntN.{ℤ, pos}, ListN.{length, drop}}

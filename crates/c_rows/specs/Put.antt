@@ -1,4 +1,4 @@
--- Numbers put as bytes, and a row put into the buffer.
+-- §11.2: numbers written as bytes, and a row written into the buffer.
 use Prim.Native.Nat.{ℕ}
 use mathlib.Core.{Path.{_≡_}, List.{List}}
 use lib.{IntN.{ℤ}, ListN.{length}}

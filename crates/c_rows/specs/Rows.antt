@@ -1,5 +1,5 @@
--- Rows as bytes. Document 02 (i): "rows come back as eight-byte little-endian signed numbers .. bytes past the last row keep what they
--- held. A buffer short of 160 bytes a line is refused with 8."
+-- Rows as bytes. §11.2: "rows come back as eight-byte little-endian signed numbers .. bytes past the last row keep what they held. A buffer
+-- short of 160 bytes a line is refused with 8."
 use Prim.Native.Nat.{ℕ}
 use mathlib.Core.{Path.{_≡_}, List.{List, []}}
 use lib.ListN.{length, getD}

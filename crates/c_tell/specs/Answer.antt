@@ -1,5 +1,4 @@
--- The answer as one signed number. Document 02 (i): "The answer is a signed number, the count of rows, or the refusal's number made
--- negative".
+-- The answer as one signed number. §11.1, §11.2: "The answer is a signed number, the count of rows, or the refusal's number made negative".
 use lib.IntN.{ℤ, pos, negℤ}
 use Rattle.sheet.specs.declared.Answer.{Answer, the-variants.{Rows, Refused}}
 

@@ -1,4 +1,4 @@
--- The answer as one number, and where a refusal points.
+-- §11.1: the answer as one number, and where a refusal points.
 use mathlib.Core.{Path.{_≡_, refl}, List.{[], _∷_, map}}
 use lib.IntN.{pos, negsuc}
 use Rattle.sheet.specs.declared.Answer.the-variants.{Rows, Refused}

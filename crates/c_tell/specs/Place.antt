@@ -1,4 +1,4 @@
--- Where a refusal points: its line and column, for the side panel to show the cell.
+-- §11.1: where a refusal points: its line and column, for the side panel to show the cell.
 use Prim.Native.Nat.{ℕ}
 use mathlib.Core.List.{List, [], _∷_}
 use Rattle.sheet.specs.declared.Answer.{Answer, the-variants.{Rows, Refused}}

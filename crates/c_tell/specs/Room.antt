@@ -1,4 +1,4 @@
--- The room of a signed number of 64 bits, for a count.
+-- §11.1: the room of a signed number of 64 bits, for a count.
 use Prim.Native.Nat.{_<_, _^_}
 use Rattle.sheet.specs.declared.Answer.{Answer, the-variants.{Rows, Refused}}
 

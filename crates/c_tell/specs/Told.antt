@@ -1,4 +1,4 @@
--- An answer told to a program in C: one signed number, and a place of two numbers.
+-- §11.1: an answer as reported to a program in C: one signed number, and a place of two numbers.
 use Prim.Native.Nat.{ℕ}
 use mathlib.Core.{Path.{_≡_}, List.{List}}
 use lib.IntN.{ℤ}

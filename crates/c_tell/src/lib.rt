@@ -1,4 +1,4 @@
-// An answer told to a program in C: one signed number, and where a refusal points.
+// §11.1: an answer as reported to a program in C: one signed number, and where a refusal points.
 ghost use mathlib.Core.Path.{_≡_};
 ghost use Rattle.c_tell.specs.Answer.{signedAnswer};
 ghost use Rattle.c_tell.specs.Place.{placeAfter};

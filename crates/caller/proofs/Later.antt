@@ -1,4 +1,4 @@
--- Less fault current cannot upset a released yard.
+-- §10.1: less fault current cannot upset a released yard.
 use Prim.Native.Nat.{ℕ, _≤_}
 use mathlib.Core.{Path.{refl, sym}, Bool.{Bool, false}}
 use Rattle.text.proofs.Clash.{clash}

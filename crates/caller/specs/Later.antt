@@ -1,5 +1,4 @@
--- A released yard with the fault current of a later study. Request (n) of document 02: "Planners ask whether a later fault study can upset
--- a released design."
+-- A released yard with the fault current of a later study. §10.1: "Planners ask whether a later fault study can upset a released design."
 use Prim.Native.Nat.{ℕ, _≤_}
 use mathlib.Core.{Path.{_≡_}, Bool.{Bool, true}}
 use Rattle.case.specs.{declared.Case.{Case}, Fault.{withFault}}

@@ -1,4 +1,4 @@
--- The margins of a case asked alone.
+-- §6.5: the margins of a case asked alone.
 use Prim.Native.Nat.{ℕ}
 use mathlib.Core.Path.{_≡_}
 use Rattle.case.specs.declared.Case.{Case}

@@ -1,4 +1,4 @@
--- A yard that may be released is answered safe and safe of its exact voltages, and no yard answered safe is held back.
+-- §3.2: a yard that may be released is answered safe, its exact voltages are safe, and no yard answered safe is held back.
 use mathlib.Core.{Path.{_≡_}, Bool.{Bool, true}}
 use Rattle.exact.specs.Exact.{AtOrBelow}
 use Rattle.case.specs.declared.Case.{Case}

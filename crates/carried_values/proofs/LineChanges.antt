@@ -1,4 +1,4 @@
--- What document 01's own form cannot say, line by line: the search for the first such line.
+-- §8.3: what the former form cannot say, line by line: the search for the first such line.
 use Prim.Native.Nat.{ℕ, suc, _+_, _≤_, _<_}
 use mathlib.Core.{Path.{_≡_, refl, sym, _∙_}, Bool.{Bool, true, false, cond, _&&_, and-false}, List.{List, []}}
 use native.Mathlib.{Numerals.{add-one}, Omega.{arith}}

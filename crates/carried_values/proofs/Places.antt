@@ -1,4 +1,4 @@
--- Each value of a case in a form stands at its place among those in the other, or is the frequency of document 01's own form.
+-- Each value of a case in a form has a place among those in the other, except the frequency, which the former form does not have.
 use Prim.Native.Nat.{ℕ, zero, suc, _<_}
 use mathlib.Core.{Path.{_≡_, refl, ap, _∙_}, Bool.{cond}, List.{List, [], _∷_, map}}
 use native.Mathlib.Omega.{arith}

@@ -1,4 +1,4 @@
--- There and back restores every value. Document 02 (e): "there and back restores every value".
+-- §8.3: "there and back restores every value".
 use Prim.Native.Nat.{ℕ, suc}
 use mathlib.Core.{Path.{_≡_, refl, sym, ap, _∙_}, Bool.{Bool, true, false, cond, _&&_}, List.{List, [], _∷_, map}}
 use native.Mathlib.Omega.{arith}
@@ -11,7 +11,7 @@ use Rattle.judgement.specs.declared.Judgement.{Judgement, the-variants.{Lines, 
 use Rattle.carried_values.specs.{Values.{other, presentValues, formerValues, carried}, Changes.{lineChange, changesFrom, changes}}
 use Rattle.carried_values.proofs.SoundCases.{SoundCases}
 
--- ---- what document 01's own form can say of a case
+-- ---- what the former form can say of a case
 
 record Same (v : List ℕ) : Type 0 where
   clear : getD v 6 0 ≡ getD v 5 0

@@ -1,4 +1,4 @@
--- What document 01's own form cannot say. Document 02 (e): "On the way back a line is then refused, with its line and column 0".
+-- What the former form cannot say. §8.3: "On the way back a line is then refused, with its line and column 0".
 use Prim.Native.Nat.{ℕ, suc}
 use mathlib.Core.{Bool.{cond, _&&_}, List.{List, [], _∷_}}
 use lib.Dec.{eqb}

@@ -1,4 +1,4 @@
--- Lines that cannot go back. Document 02 (e).
+-- Lines that cannot be carried back (§8.3).
 use mathlib.Core.{Path.{_≡_, refl}, List.{[], _∷_, map}}
 use Rattle.text.specs.Text.{same}
 use Rattle.case.specs.Columns.{columns, nameIndex, named}

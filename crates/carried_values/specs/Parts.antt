@@ -1,4 +1,4 @@
--- What the parts of carrying a sheet over promise.
+-- §8.2, §8.3: what the parts of carrying a sheet over promise.
 use Prim.Native.Nat.{ℕ}
 use mathlib.Core.{Path.{_≡_}, List.{List, [], _∷_, map}}
 use lib.ListN.{length}
@@ -6,7 +6,8 @@ use Rattle.tables.specs.Parts.{partsOf}
 use Rattle.case.specs.{declared.Form.{Form, the-variants.{Present, Former}}, Parts.{formOf}}
 use Rattle.carried_values.specs.Values.{other, carried}
 
--- where the values of a form stand among those of the other; the frequency stands nowhere among document 01's own, past the last of them
+-- where the values of a form stand among those of the other; the frequency is not among the former values, so its place is past the last of
+-- them
 unfoldable pub placesIn : Form → List ℕ
 placesIn Present = 0 ∷ 1 ∷ 2 ∷ 3 ∷ 4 ∷ 5 ∷ 5 ∷ 5 ∷ 6 ∷ 7 ∷ 8 ∷ 9 ∷ 10 ∷ 10 ∷ 11 ∷ 12 ∷ 13 ∷ 14 ∷ 15 ∷ 16 ∷ 17 ∷ 18 ∷ []
 placesIn Former = 0 ∷ 1 ∷ 2 ∷ 3 ∷ 4 ∷ 5 ∷ 8 ∷ 9 ∷ 10 ∷ 11 ∷ 12 ∷ 14 ∷ 15 ∷ 16 ∷ 17 ∷ 18 ∷ 19 ∷ 20 ∷ []

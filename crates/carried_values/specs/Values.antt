@@ -1,5 +1,5 @@
--- The values of a case in either form. Document 02 (e): "with ms copied to the three times, lines to both counts, and hz 60, columns in
--- document 01's order with new ones in place of the old and hz last. It must also go back, to document 01's own names and order".
+-- The values of a case in either form. §8.2, §8.3: "with ms copied to the three times, lines to both counts, and hz 60, columns in document
+-- 01's order with new ones in place of the old and hz last. It must also go back, to document 01's own names and order".
 use Prim.Native.{Nat.{ℕ}, String.{String}}
 use mathlib.Core.List.{List, [], _∷_, map}
 use Rattle.text.specs.Text.{fieldsOf}
@@ -14,7 +14,7 @@ unfoldable pub other : Form → Form
 other Present = Former
 other Former = Present
 
--- today's values of a case, from document 01's own
+-- today's values of a case, from the former ones
 unfoldable pub presentValues : List ℕ → List ℕ
 presentValues v =
     let the : String → ℕ = named formerColumns v in
@@ -22,7 +22,7 @@ presentValues v =
     "split" ∷ the "xr"
     ∷ the "lines" ∷ the "lines" ∷ the "space" ∷ the "depth" ∷ the "dia" ∷ the "rods" ∷ the "rodlen" ∷ the "place" ∷ the "metal" ∷ 60 ∷ []
 
--- document 01's own values of a case, from today's
+-- the former values of a case, from today's
 unfoldable pub formerValues : List ℕ → List ℕ
 formerValues v =
     let the : String → ℕ = named columns v in

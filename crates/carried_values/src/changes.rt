@@ -1,4 +1,4 @@
-// What document 01's own form cannot say: three times, two counts, another frequency than 60 Hz.
+// §8.3: what the former form cannot say: three times, two counts, a frequency other than 60 Hz.
 ghost use mathlib.Core.Path.{_≡_};
 ghost use Prim.Native.Nat.{_*_, _≤_};
 ghost use lib.ListN.{length};

@@ -20,8 +20,8 @@ pub fn other_form(form: Form) -> Form
     }
 }
 
-// Where today's values stand among document 01's own: one time for the three, one count for both. The frequency stands nowhere, past the
-// last of them.
+// The places of today's values among the former ones: one time for the three, one count for both. The frequency is not among them: its
+// place is past the last.
 const AMONG_FORMER: [usize; NAMES] = [
     0,
     1,
@@ -47,7 +47,7 @@ const AMONG_FORMER: [usize; NAMES] = [
     18,
 ];
 
-// Where document 01's own values stand among today's.
+// The places of the former values among today's.
 const AMONG_PRESENT: [usize; FORMER_NAMES] = [
     0,
     1,

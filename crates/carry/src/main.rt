@@ -1,4 +1,4 @@
-// Reads a sheet of document 01's own names from standard input and prints it with today's, or the refusal.
+// Reads a sheet of the former names (§8.1) from standard input and prints it with today's, or the refusal.
 use listing::Program;
 
 fn main() {

@@ -1,4 +1,4 @@
--- What the checks leave of a sound case: consequences of the table of names, proved in proofs/Bounds.antt.
+-- What the checks of §1.2 and §1.4 imply for a sound case: proved in proofs/Bounds.antt.
 use Prim.Native.Nat.{ℕ, _≤_, _<_}
 use mathlib.Core.{Path.{_≡_}, Logic.{_⊎_}, List.{List}}
 use lib.ListN.{length, getD}

@@ -1,4 +1,4 @@
--- A case and its values in the order of the table of names.
+-- A case and its values in the order of the table of names (§1.2).
 use Prim.Native.Nat.{ℕ}
 use mathlib.Core.List.{List, [], _∷_}
 use lib.ListN.{getD}

@@ -1,4 +1,4 @@
--- A case with some values in the place of its own, all else equal: a column that is added stands here once.
+-- A case with some of its values replaced, all else equal: a new column is added here once.
 use Prim.Native.Nat.{ℕ}
 use Rattle.case.specs.declared.Case.{Case}
 

@@ -1,4 +1,4 @@
--- The checks of the values of a form, and of one case: refusals 5 and 6. Document 01, 'The sheet' and 'The result table'.
+-- The checks of the values of a form, and of one case: refusals 5 and 6. §1.2, §1.4, §2.1, §6.1.
 use Prim.Native.Nat.{ℕ, zero, suc}
 use mathlib.Core.{Bool.{Bool, cond, not, _&&_}, List.{List, [], _∷_}}
 use lib.{ListN.{length}, Dec.{leb, eqb}}
@@ -39,7 +39,7 @@ module _ (form : Form) (at v : List ℕ) where
 unfoldable pub caseFinding : List ℕ → Case → Finding
 caseFinding at c = finding columns at (values c)
 
--- ---- one case asked as a record: "whose line is 0 and whose column is the place in the table of names"
+-- ---- §6.1, one case asked as a record: "whose line is 0 and whose column is the place in the table of names"
 
 unfoldable pub countFrom : ℕ → ℕ → List ℕ
 countFrom first zero = []

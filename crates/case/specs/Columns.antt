@@ -1,4 +1,4 @@
--- The table of names. Document 01, 'The sheet'.
+-- The table of names, with their ranges: §1.2, and the former names: §8.1.
 use Prim.Native.{Nat.{ℕ, zero, suc, _+_}, String.{String}}
 use mathlib.Core.{Bool.{Bool, cond, _&&_, _||_}, Path.{_≡_, refl}, List.{List, [], _∷_, _++_}}
 use lib.{ListN.{length, getD}, Dec.{leb, eqb}}
@@ -26,8 +26,7 @@ Form = List Column
 abbrev column : String → Range → Column
 column name range = record { name = bytes name; range = range }
 
--- the columns, each with its range: document 01's, and those that requests (a), (c) and (d) of document 02 put in the place of ms and lines
--- or added
+-- the columns, each with its range: the former ones, and those that have replaced ms and lines or were added
 abbrev station : Column
 station = column "station" (from 1 65535)
 
@@ -88,15 +87,15 @@ metal = column "metal" (from 1 11)
 abbrev hz : Column
 hz = column "hz" (either 50 60)
 
--- document 01's own names, in its order: the former form
+-- §8.1: the former names, in their order
 unfoldable pub formerColumns : Form
 formerColumns =
     station ∷ season ∷ soil ∷ layer ∷ thick ∷ time "ms" ∷ body ∷ fault ∷ split ∷ xr ∷ conductors "lines" ∷ space ∷ depth ∷ dia ∷ rods ∷
     rodlen ∷ place
     ∷ metal ∷ []
 
--- the names of today; request (a) of document 02: "ms gives place to shock, clear and wire in that order"; request (c): "The column lines
--- becomes across and along in that order"; request (d): "A column hz, 50 or 60, is added last"
+-- §1.2: today's names: "ms gives place to shock, clear and wire in that order"; "The column lines becomes across and along in that order";
+-- "A column hz, 50 or 60, is added last"
 unfoldable pub columns : Form
 columns =
     station ∷ season ∷ soil ∷ layer ∷ thick ∷ time "shock" ∷ time "clear" ∷ time "wire" ∷ body ∷ fault ∷ split ∷ xr ∷ conductors "across"

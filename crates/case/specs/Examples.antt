@@ -11,7 +11,7 @@ found : List ℕ → Finding
 unfolding same columns inRange nameIndex named leftOf outOfRange agree disagreement finding caseFinding countFrom ownPlaces recordFinding
 found v = recordFinding (caseOf v)
 
--- document 01's sample, and the ends of every range with a layer and rods
+-- the sample (§3.3), and the ends of every range with a layer and rods
 sound : map found (
     (7 ∷ 1 ∷ 400 ∷ 2500 ∷ 102 ∷ 500 ∷ 500 ∷ 500 ∷ 70 ∷ 3180 ∷ 600 ∷ 10 ∷ 11 ∷ 11 ∷ 7000 ∷ 500 ∷ 100 ∷ 0 ∷ 0 ∷ 0 ∷ 1 ∷ 60 ∷ [])
     ∷ (1 ∷ 1 ∷ 10 ∷ 100 ∷ 20 ∷ 9 ∷ 9 ∷ 9 ∷ 50 ∷ 100 ∷ 1 ∷ 1 ∷ 2 ∷ 2 ∷ 2500 ∷ 250 ∷ 50 ∷ 1 ∷ 1000 ∷ 1 ∷ 1 ∷ 50 ∷ [])

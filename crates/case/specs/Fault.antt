@@ -1,4 +1,4 @@
--- A case with another fault current, all else equal.
+-- §10.1: a case with another fault current, all else equal.
 use Prim.Native.Nat.{ℕ}
 use Rattle.case.specs.{declared.Case.{Case}, Eased.{eased}}
 

@@ -1,4 +1,4 @@
--- A case under another station and season, all else equal.
+-- §10.1: a case under another station and season, all else equal.
 use Prim.Native.Nat.{ℕ}
 use Rattle.case.specs.{declared.Case.{Case}, Changed.{changed}}
 

@@ -1,4 +1,4 @@
--- The names of the columns of a header, by their indices: the other way round from the columns of the names.
+-- §1.2: the names of the columns of a header, by their indices: the inverse of the columns of the names.
 use Prim.Native.Nat.{ℕ, _+_, _-_, _<_}
 use mathlib.Core.{Path.{_≡_}, List.{List}}
 use lib.ListN.{length, getD}

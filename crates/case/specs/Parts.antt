@@ -1,4 +1,4 @@
--- What the parts of the checks promise, by the table of names.
+-- §1.2, §1.4: what the parts of the checks promise, by the table of names.
 use Prim.Native.Nat.{ℕ, _+_, _≤_, _<_}
 use mathlib.Core.{Path.{_≡_}, Bool.{Bool, true, _&&_, _||_}, List.{List, []}}
 use lib.{Dec.{leb, eqb}, ListN.{length, getD}}

@@ -1,4 +1,4 @@
--- A case with another soil resistivity, all else equal.
+-- §10.3: a case with another soil resistivity, all else equal.
 use Prim.Native.Nat.{ℕ}
 use Rattle.case.specs.{declared.Case.{Case}, Changed.{changed}}
 

@@ -13,7 +13,7 @@ use parts::out_of_range;
 use range::all_in_range;
 pub use range::place;
 
-// The forms of a sheet: that of today, and document 01's own.
+// The forms of a sheet: today's (§1.2), and the former one (§8.1).
 pub enum Form {
     Present,
     Former,

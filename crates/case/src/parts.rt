@@ -50,7 +50,7 @@ fn worse(low: u32, high: u32, other: u32, v: u32, a: usize, c: usize) -> usize
     left_of(a, c)
 }
 
-// The leftmost column whose value is out of its range, or 0. The tables are locals: a constant would be made anew for each name.
+// The leftmost column whose value is out of its range, or 0. The tables are locals: a constant would be rebuilt for each name.
 pub fn out_of_range<'a>(form: Form, at: &'a [usize], v: &'a [u32]) -> usize
     requires { ⌜ length (now at) ≡ length (formOf form) ⌝ }
     requires { ⌜ length (now v) ≡ length (formOf form) ⌝ }

@@ -1,4 +1,4 @@
--- Request (e): every answer to a sheet that is to be carried over, and back.
+-- §8.1–§8.3: every answer to a sheet that is to be carried over, and back.
 use Prim.Native.{Nat.{ℕ, zero, suc, _+_, _≤_, _<_}, String.{String}}
 use mathlib.Core.{Path.{_≡_, refl, sym, ap, _∙_}, Bool.{Bool, true, false, cond, _&&_}, List.{List, [], _∷_, _++_, map}}
 use native.Mathlib.Omega.{arith}
@@ -268,7 +268,7 @@ module _ {form : Form} {s before after : List ℕ} {k : ℕ} (h : Answered form 
               (rw (ap (take (length (carriedText (other form) text))) e ∙ take-at (carriedText (other form) text) _ _ refl)
               (sheet-restored form s (source .0) (source .1) (changed-none .1)))
 
--- ---- request (a): a sheet of document 01's names is none of today's
+-- ---- §8.1: a sheet of the former names is none of today's
 
 pub ms-refused : (s : List ℕ) (n : ℕ) → AcceptedIn Former s n → (column : ℕ) × Breaks s 2 1 column
 unfolding judgement judgementWithin namesJudgement nameRefused formOf

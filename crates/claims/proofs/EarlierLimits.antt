@@ -1,4 +1,4 @@
--- Request (h) of document 02: what programs sold earlier for the same columns answer.
+-- §1.5: what programs sold earlier for the same columns answer.
 use Prim.Native.Nat.{ℕ, _*_, _≤_, _<_}
 use mathlib.Core.{Path.{_≡_, sym, _∙_}, List.{List}}
 use native.Mathlib.Omega.{arith}

@@ -1,4 +1,4 @@
--- What the entries for programs in C tell: one manner, and the operations that fill arrays of the caller's.
+-- §11.1, §11.3: what the entries for programs in C report: one convention, and the operations that fill the caller's arrays.
 use Prim.Native.Nat.{ℕ, _≤_, _<_}
 use mathlib.Core.{Path.{_≡_, refl, _∙_}, List.{List, [], _∷_}}
 use native.Mathlib.Omega.{arith}
@@ -27,7 +27,7 @@ use Rattle.claims.proofs.SummaryAnswers as summaries
 use Rattle.claims.proofs.Releases as licences
 use Rattle.claims.proofs.Carrying.{carry-outcome}
 
--- ---- one manner
+-- ---- §11.1: one convention
 
 points-at : (number line column : ℕ) (place told : List ℕ) → told ≡ placeAfter (answer.Refused number line column) place
     → PointsAt line column place told

@@ -1,4 +1,4 @@
--- Margins, working and headroom of every value line told to a program in C.
+-- §11.3: margins, working and headroom of every value line reported to a program in C.
 use Prim.Native.Nat.{ℕ, zero, suc, _*_, _≤_}
 use mathlib.Core.{Path.{_≡_, refl, sym, _∙_}, Bool.{Bool, true, false, cond}, List.{List, [], _∷_}}
 use native.Mathlib.Omega.{arith}
@@ -89,7 +89,7 @@ margins-say c part b l =
       λ p. record { row = rowOf c; is = bounds-answered b h; verdict = right .both-safe (p .0) (p .1) },
     )))
 
--- a case within its bounds is worked
+-- a case within its bounds has a working
 is-worked : {c : Case} → Bounds c → workingAnswer c ≡ worked.Is (workingOf c)
 unfolding workingAnswer recordAnswer
 is-worked b = rw (bounds-sound b)

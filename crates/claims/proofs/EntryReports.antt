@@ -1,4 +1,4 @@
--- Soil, split and fewest lines told to a program in C: the numbers of a report in an array.
+-- §11.3: soil, split and fewest lines reported to a program in C: the numbers of a report in an array.
 use Prim.Native.Nat.{ℕ, _≤_, _<_}
 use mathlib.Core.{Path.{_≡_, refl}, Bool.{Bool, true, false, cond}, List.{List, [], _∷_, _++_}}
 use native.Mathlib.Omega.{arith}

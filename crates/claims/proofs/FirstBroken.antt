@@ -1,4 +1,4 @@
--- What a judgement says of a sheet, in document 01's words: the first rule that it breaks, or that it breaks none.
+-- §2.1–§2.3: what a judgement says of a sheet, in the specification's words: the first rule that it breaks, or that it breaks none.
 use Prim.Native.{Nat.{ℕ, _+_, _-_, _≤_, _<_}, String.{String}}
 use mathlib.Core.{Path.{_≡_, refl, sym, ap, _∙_}, Bool.{Bool, true, false, _&&_}, Logic.{_⊎_, inl, inr}, List.{List, []}}
 use native.Mathlib.Omega.{arith}

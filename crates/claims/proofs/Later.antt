@@ -1,4 +1,4 @@
--- Headroom, and what cannot turn a yard red, of the answers of `row` and of the lines of sheets.
+-- Headroom (§6.6), and what cannot make a safe yard unsafe (§10.2, §10.3), for the answers of `row` and the lines of sheets.
 use Prim.Native.Nat.{ℕ, _<_}
 use mathlib.Core.{Path.{_≡_, refl, sym, _∙_}, List.{List}}
 use native.Mathlib.Omega.{arith}

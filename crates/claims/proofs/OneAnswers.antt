@@ -1,4 +1,4 @@
--- The refusals of each question exclude one another and its other answers: by their conditions alone.
+-- §2.3: the refusals of each question exclude one another and its other answers: by their conditions alone.
 use Prim.Native.Nat.{ℕ, suc, _+_}
 use mathlib.Core.{Path.{_≡_, refl, sym, ap, _∙_}, Logic.{_⊎_, inl, inr}, List.{List}}
 use native.Mathlib.Omega.{arith}

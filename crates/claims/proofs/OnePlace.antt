@@ -1,4 +1,4 @@
--- A sheet has one first broken rule at the most, and none where it breaks none: by the conditions alone.
+-- §2.2: a sheet has at most one first broken rule, and none where it breaks none: by the conditions alone.
 use Prim.Native.{Nat.{ℕ, _+_, _<_}, String.{String}}
 use mathlib.Core.{Path.{_≡_, refl, sym, _∙_}, Bool.{Bool, true, false}, List.{List}}
 use native.Mathlib.Omega.{arith}

@@ -1,4 +1,4 @@
--- The case of a value line has of each name the number under it.
+-- §1.1: the case of a value line has for each name the number under it.
 use Prim.Native.{Nat.{ℕ, zero, suc, _-_, _<_}, String.{String}}
 use mathlib.Core.{Path.{_≡_, refl, sym, _∙_}, List.{List, [], _∷_, map}}
 use native.Mathlib.Omega.{arith}

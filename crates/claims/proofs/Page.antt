@@ -1,4 +1,4 @@
--- Every field of the page of claims, by laws of this crate and theorems of those below.
+-- Every field of the page of claims, from laws of this crate and of the crates below.
 use Rattle.formulas.proofs.{Yards.{starred}, MeshArgument.{G-forms}}
 use Rattle.hocsimbur.proofs.{LessFault.{row-stays-safe}, LessSoil.{drier-row-decides}}
 use Rattle.claims.specs.Claims.{Claims}

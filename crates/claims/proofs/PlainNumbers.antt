@@ -1,4 +1,4 @@
--- The logarithm asked alone, and the margins of a row's numbers.
+-- The logarithm asked alone (§6.3), and the margins of a row's numbers (§6.5).
 use Prim.Native.Nat.{ℕ}
 use mathlib.Core.{Path.{_≡_, refl, sym, _∙_}, Bool.{Bool, true, false, cond, _&&_, false≢true}, List.{List}}
 use lib.{Dec.{eqb}, IntN.{ℤ, pos, natAbs}, ListN.{length, getD}}

@@ -1,4 +1,4 @@
--- What `verdict` prints, from what its text is promised to be.
+-- §3.3: what `verdict` prints, from the promise about its text.
 use Prim.Native.Nat.{ℕ, _≤_, _<_}
 use mathlib.Core.{Path.{_≡_, refl, sym, ap, _∙_}, Bool.{Bool, true, false, cond}, List.{List, [], _∷_, _++_, map, append-nil}}
 use native.Mathlib.Omega.{arith}

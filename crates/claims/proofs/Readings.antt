@@ -1,4 +1,4 @@
--- Request (g): every answer to a list of readings.
+-- §9.1: every answer to a list of readings.
 use Prim.Native.Nat.{ℕ, zero, suc, _+_, _*_, _/_, _%_, _≤_, _<_}
 use mathlib.Core.{Path.{_≡_, refl, sym, ap, _∙_}, Bool.{Bool, true, false, cond, _&&_}, Logic.{inl, inr}, List.{List, [], _∷_, List·Memᴰ}}
 use native.Mathlib.{Omega.{arith}, Decide.{decLe}}

@@ -1,4 +1,4 @@
--- The checks of one case as a record, in the words of document 01.
+-- §6.1: the checks of one case as a record, in the specification's words.
 use Prim.Native.Nat.{ℕ, zero, suc, _+_, _≤_, _<_}
 use mathlib.Core.{Path.{_≡_, refl, sym, _∙_}, Bool.{Bool, true, false, cond, _&&_}, Logic.{_⊎_, inl, inr}, List.{List, [], _∷_}}
 use native.Mathlib.Omega.{arith}

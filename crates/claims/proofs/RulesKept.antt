@@ -1,4 +1,4 @@
--- What holds of a sheet that breaks no rule, in document 01's words; its sample sheet breaks none.
+-- §1.1–§1.6: what holds of a sheet that breaks no rule, in the specification's words; the sample sheet (§3.3) breaks none.
 use Prim.Native.Nat.{ℕ, _<_}
 use mathlib.Core.{Path.{_≡_, _∙_}, Bool.{Bool, true, false}, List.{List, []}}
 use native.Mathlib.Omega.{arith}
@@ -65,7 +65,7 @@ rules-kept {s} {n} e =
         let q = line.sound-says columns (columnsIn columns s) _ (fieldsAt s j) f in
         other-key s j i m (omega arith) (none-before columns (columnsIn columns s) (valuesAt s j) [] (valueLines s) j m (q .1) .1 i h)
 
--- ---- document 01's sample sheet
+-- ---- §3.3: the sample sheet
 
 pub sample-sheet : SampleSheet
 sample-sheet = record { breaks-none = sample-judged; dry = rw sample-cases; wet = rw sample-cases }

@@ -1,6 +1,5 @@
--- The verdicts of document 01's sample sheet: "7,1,unsafe,16" and "7,2,safe,16". The formulas of its two lines are known at numbers, a
--- reported pair holds the same number and is narrow, and the voltages lie further apart than the widths: so every right row has these
--- verdicts.
+-- The verdicts of the sample sheet, §3.3: "7,1,unsafe,16" and "7,2,safe,16". The formulas of its two lines are known at numbers, a reported
+-- pair holds the same number and is narrow, and the voltages lie further apart than the widths: so every right row has these verdicts.
 use lib.{ListN.{length}, Dec.{T}, IntN.{ℤ, pos}, Signed.{_≤ℤ_, _<ℤ_}}
 use Rattle.case.specs.{declared.Case.{Case}, Bounds.{Bounds}}
 use Rattle.decision.specs.{Verdict.{verdictNumber}, declared.Verdict.{Verdict, the-variants.{Safe, Unsafe, Undecided}}}

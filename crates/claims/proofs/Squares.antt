@@ -1,4 +1,4 @@
--- Requests (b) and (c): what a square keeps.
+-- §4.1, §4.2, §4.7: what a square keeps.
 use mathlib.Core.Path.{_≡_}
 use Rattle.case.specs.{declared.Case.{Case}, Bounds.{Bounds}}
 use Rattle.formulas.proofs.Square as kept

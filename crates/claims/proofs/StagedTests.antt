@@ -1,4 +1,4 @@
--- Request (l): every answer to the numbers of a staged test.
+-- §9.2: every answer to the numbers of a staged test.
 use Prim.Native.Nat.{ℕ, zero, suc, _%_, _<_}
 use mathlib.Core.{Path.{_≡_, refl, ap}, Bool.{Bool, true, false, cond, not, _||_}, Logic.{inl, inr}, List.{List, [], _∷_}}
 use native.Mathlib.Omega.{arith}

@@ -1,5 +1,5 @@
--- Document 01: "A refusal .. is returned only on its condition." Of each question: its refusals exclude one another, so it refuses with one
--- number and place, and none of them holds where the question is answered. So a program that refuses everything fits no outcome.
+-- §2.3: "A refusal .. is returned only on its condition." The refusals of each question exclude one another, so it refuses with one number
+-- and place, and none of them holds where the question is answered. So a program that refuses everything fits no outcome.
 use Prim.Native.Nat.{ℕ}
 use mathlib.Core.{Path.{_≡_}, Logic.{_⊎_}, List.{List}}
 use lib.IntN.{ℤ}

@@ -1,4 +1,4 @@
--- Request (e) of document 02: a sheet of one form carried over to the other, `form` being the one that it is carried to.
+-- §8.1, §8.2, §8.3: a sheet of one form carried over to the other, `form` being the one that it is carried to.
 use Prim.Native.{Nat.{ℕ, _+_, _≤_, _<_}, String.{String}}
 use mathlib.Core.{Path.{_≡_}, List.{List, [], _∷_, map}}
 use lib.ListN.{length, getD, take, drop}
@@ -23,7 +23,7 @@ pub record Taken (s : List ℕ) (from : String) (text : List ℕ) (to : String) 
   pub source : Under s i from number
   pub here : Under text i to number
 
--- ---- what becomes of each column
+-- ---- §8.2: what becomes of each column
 
 -- the names that both forms have
 abbrev pub otherNames : List String
@@ -48,7 +48,7 @@ pub record IntoPresent (s text : List ℕ) (i : ℕ) : Type 0 where
   -- "their other values are unchanged by either way"
   pub others : Every (λ name. Taken s name text name i) otherNames
 
--- a line that may go back: not "9 when its three times are not equal; 10 when across and along differ; 11 when hz is not 60"
+-- §8.3: a line that may be carried back: not "9 when its three times are not equal; 10 when across and along differ; 11 when hz is not 60"
 abbrev pub TimesEqual : List ℕ → ℕ → Type 0
 TimesEqual s i = Taken s "shock" s "clear" i × Taken s "clear" s "wire" i
 
@@ -67,7 +67,7 @@ pub data Held (s : List ℕ) (i : ℕ) : ℕ → Type 0 where
   counts : TimesEqual s i → ¬ CountsEqual s i → Held s i 10
   hertz : TimesEqual s i → CountsEqual s i → ¬ SixtyHertz s i → Held s i 11
 
--- "It must also go back, to document 01's own names and order": ms is the one time, lines the one count
+-- §8.3: "It must also go back, to document 01's own names and order": ms is the one time, lines the one count
 pub record IntoFormer (s text : List ℕ) (i : ℕ) : Type 0 where
   pub ms : Taken s "shock" text "ms" i
   pub lines : Taken s "across" text "lines" i
@@ -77,14 +77,14 @@ abbrev pub Into : Form → List ℕ → List ℕ → ℕ → Type 0
 Into Present s text i = IntoPresent s text i
 Into Former s text i = IntoFormer s text i
 
--- ---- a sheet that may be carried over, and the one that it becomes
+-- ---- §8.2: a sheet that may be carried over, and the one that it becomes
 
--- "The source sheet passes all checks of its own form first", and on the way back every line may go
+-- "The source sheet passes all checks of its own form first", and on the way back every line may be carried
 pub record Goes (form : Form) (s : List ℕ) (lines : ℕ) : Type 0 where
   pub accepted : AcceptedIn (other form) s lines
   pub returns : form ≡ Former → (i : ℕ) → i < lines → Returns s i
 
--- the first line that may not go back
+-- the first line that may not be carried back
 pub record FirstHeld (form : Form) (s : List ℕ) (i : ℕ) : Type 0 where
   pub back : form ≡ Former
   pub lines : ℕ
@@ -109,7 +109,7 @@ pub record Written (text before after : List ℕ) (count : ℕ) : Type 0 where
   pub rest-kept : drop count after ≡ drop count before
   pub same-length : length after ≡ length before
 
--- ---- every answer, each with its condition; the conditions exclude one another (Answers.antt)
+-- ---- §8.2, §8.3: every answer, each with its condition; the conditions exclude one another (Answers.antt)
 
 pub data CarryOutcome (form : Form) (s before after : List ℕ) : Carried → Type 0 where
   -- "The source sheet passes all checks of its own form first, save 8."
@@ -124,7 +124,7 @@ pub data CarryOutcome (form : Form) (s before after : List ℕ) : Carried → Ty
   carried : {lines count : ℕ} → Goes form s lines → NewSheet form s (carriedText form s) lines
       → Written (carriedText form s) before after count → CarryOutcome form s before after (Bytes count)
 
--- "there and back restores every value": of each name of its form each line has the number that it had
+-- §8.3: "there and back restores every value": of each name of its form each line has the number that it had
 pub record Restored (form : Form) (s text : List ℕ) (lines : ℕ) : Type 0 where
   pub source : AcceptedIn form s lines
   pub accepted : AcceptedIn form text lines

@@ -1,5 +1,5 @@
--- The entries for programs in C beside the rows, of no document: what a caller has is the signed number r, the arrays, and a lent place in
--- which a refusal points. The outcomes are those of the operations' own questions.
+-- §11.1, §11.3: the entries for programs in C other than the rows. The caller has the signed number r, the arrays, and a lent place for the
+-- line and column of a refusal. The outcomes are those of the operations' own questions.
 use Prim.Native.Nat.{ℕ, _*_, _≤_, _<_}
 use mathlib.Core.{Path.{_≡_}, Logic.{_↔_}, List.{List, [], _∷_, _++_}}
 use lib.{IntN.{ℤ, pos, negℤ}, ListN.{length, drop}, Signed.{_≤ℤ_}}
@@ -30,7 +30,7 @@ use Rattle.claims.specs.{Words.{BreaksNone, Breaks, TooShort, caseAt}, M
 use Rattle.claims.specs.{Workings.{WorkingOutcome}, Later.{HeadroomOutcome}, Summary.{SummaryOutcome}, Releases.{ReleaseOutcome}}
 use Rattle.claims.specs.{Rules.{fieldsAt, OwnLine}, Order.{WrongText}, Carried.{CarryOutcome}}
 
--- ---- one manner
+-- ---- §11.1: one convention
 
 -- line and column of a refusal in the first two numbers of a place; one of fewer numbers is as it was
 pub record PointsAt (line column : ℕ) (place told : List ℕ) : Type 0 where
@@ -43,7 +43,7 @@ pub data InC (Counted : ℕ → Type 0) (Refused : ℕ → ℕ → ℕ → Type 
   refusal : {number line column : ℕ} → 1 ≤ number → Refused number line column → PointsAt line column place told
       → InC Counted Refused place told (negℤ (pos number))
 
--- ---- an operation on arrays of the caller's: the outcome of its own question
+-- ---- §11.3: an operation on the caller's arrays: the outcome of its own question
 
 abbrev pub SummaryInC : List ℕ → List ℤ → List ℤ → List ℤ → List ℤ → List ℕ → List ℕ → ℤ → Type 0
 SummaryInC s rowsBefore rows before after =
@@ -60,7 +60,7 @@ CarryInC form s before after =
     InC (λ n. CarryOutcome form s before after (carried.Bytes n))
     (λ number line column. CarryOutcome form s before after (carried.Refused number line column))
 
--- ---- a report as numbers in an array
+-- ---- §11.3: a report as numbers in an array
 
 module _ (Numbers : ℕ → List ℤ → Type 0) (before after : List ℤ) where
   -- the numbers, which have room, and past the last what the array held
@@ -90,7 +90,8 @@ pub data SplitNumbers (s : List ℤ) : ℕ → List ℤ → Type 0 where
 abbrev pub SplitInC : List ℤ → List ℤ → List ℤ → List ℕ → List ℕ → ℤ → Type 0
 SplitInC s = ReportInC (SplitNumbers s) (λ number line column. SplitOutcome s (split.Refused number line column))
 
--- ---- fewest lines: of the checks of the sheet 1, 2, 4 and 3, in this order, then those of the search, which does not read the whole case
+-- ---- §6.7, §11.3: fewest lines: the sheet's checks 1, 2, 4 and 3, in this order, then those of the search, which does not read the whole
+-- case
 
 -- 4: "no value line (line 2)", or a second one
 pub data NotOneLine (s : List ℕ) : ℕ → Type 0 where
@@ -124,7 +125,7 @@ pub data FewestRefused (s : List ℕ) (side : ℕ) : ℕ → ℕ → ℕ → Typ
 abbrev pub FewestInC : List ℕ → ℕ → List ℤ → List ℤ → List ℕ → List ℕ → ℤ → Type 0
 FewestInC s side = ReportInC (FewestNumbers s side) (FewestRefused s side)
 
--- ---- some numbers of every value line
+-- ---- §11.3: some numbers of every value line
 
 module _ (width : ℕ) (Line : Case → List ℤ → Type 0) (s : List ℕ) (before after : List ℤ) where
   -- each line has its own numbers, in the sheet's order, and numbers past the last keep what they held

@@ -1,4 +1,4 @@
--- Beyond documents 01 and 02: how far the fault current of a case may grow, and which changes never make a safe yard unsafe.
+-- §6.6: how far the fault current of a case may grow; and §10.2: which changes never make a safe yard unsafe.
 use Prim.Native.Nat.{ℕ, _≤_}
 use mathlib.Core.{Path.{_≡_}, Logic.{_⊎_, _↔_}}
 use Rattle.case.specs.{declared.Case.{Case}, Bounds.{Between}, Fault.{withFault}}
@@ -11,8 +11,8 @@ use Rattle.claims.specs.Record.{RecordRefused, RecordSound}
 abbrev pub FaultInside : ℕ → Type 0
 FaultInside f = Between 100 f 80000
 
--- "after the checks of one case (5, 6), the greatest fault current in 100..80000 at which the case, all else equal, is answered safe, or
--- none": every answer, each with its condition; the checks exclude the others (Answers.antt)
+-- §6.6: "after the checks of one case (5, 6), the greatest fault current in 100..80000 at which the case, all else equal, is answered safe,
+-- or none": every answer, each with its condition; the checks exclude the others (Answers.antt)
 pub data HeadroomOutcome (c : Case) : Room → Type 0 where
   refused : {number line column : ℕ} → RecordRefused c number line column → HeadroomOutcome c (Refused number line column)
   -- "with F, every fault current in range is answered safe if and only if it is at most F"
@@ -22,7 +22,7 @@ pub data HeadroomOutcome (c : Case) : Room → Type 0 where
   none : RecordSound c → ((f : ℕ) (a : RowAnswer) → FaultInside f → RowAnswered (withFault f c) a → ¬ AnsweredWith Safe a)
       → HeadroomOutcome c None
 
--- the values of a case that may be eased are in their ranges
+-- §10.2: the values of a case that may be eased are in their ranges
 pub record EasedInside (d : Case) : Type 0 where
   pub station : Between 1 (d .station) 65535
   pub season : Between 1 (d .season) 4

@@ -1,5 +1,6 @@
--- What is asked of plain numbers: the logarithm, readings (g), a staged test (l), the margins of a row. Of each question every answer that
--- it can give, with its condition; the conditions exclude one another (Answers.antt), so each answer is given exactly on its own.
+-- What is asked of plain numbers: the logarithm (§6.3), readings (§9.1), a staged test (§9.2), the margins of a row (§6.5). For each
+-- question every answer that it can give, with its condition; the conditions exclude one another (Answers.antt), so each answer is given
+-- exactly on its own.
 use Prim.Native.Nat.{ℕ, suc, _+_, _*_, _/_, _%_, _^_, _≤_, _<_}
 use mathlib.Core.{Path.{_≡_}, Logic.{_⊎_, _↔_}, List.{List, List·Memᴰ}}
 use lib.{IntN.{ℤ, pos, negℤ, natAbs, _+ℤ_}, ListN.{length, getD}, Signed.{_≤ℤ_, _<ℤ_}}
@@ -20,13 +21,13 @@ use Rattle.margin.specs.{declared.Compared.{Compared}, Meaning.{IsMargin, share
 use Rattle.margin.specs.declared.Compared.the-variants as compared
 use Rattle.claims.specs.Words.{verdictAt}
 
--- ---- the logarithm
+-- ---- §6.3: the logarithm
 
 -- "a fraction of two whole numbers from 1 to 10^15"
 abbrev pub NumberInside : ℕ → Type 0
 NumberInside n = Between 1 n (10 ^ 15)
 
--- (j) "The logarithm's ends must be at most 200 billionths apart"
+-- "The logarithm's ends must be at most 200 billionths apart"
 abbrev pub twoHundred : Ends → Fraction
 twoHundred ends = decimal 200 9
 
@@ -38,7 +39,7 @@ pub data LogarithmOutcome (p q : ℕ) : Pair → Type 0 where
   ends : {i : Interval} → NumberInside p → NumberInside q → Number (lnOf (whole p ÷f whole q))
       → Reports (lnOf (whole p ÷f whole q)) (ten 9) twoHundred i → LogarithmOutcome p q (pair.Ends i)
 
--- ---- (g) soil from four-pin readings
+-- ---- §9.1: soil from four-pin readings
 
 -- "the count of numbers is 0, odd or above 128"
 abbrev pub WrongCount : ℕ → Type 0
@@ -99,7 +100,7 @@ module _ (numbers : List ℕ) where
     soil : {report : Report} → ¬ WrongCount (length numbers) → AllPairs DistanceInside → AllPairs ResistanceInside → SoilReport report
         → SoilOutcome (sounding.Soil report)
 
--- ---- (l) split from a staged test
+-- ---- §9.2: split from a staged test
 
 -- "the count of numbers is odd, below 4 or above 34"
 abbrev pub WrongParts : ℕ → Type 0
@@ -138,7 +139,7 @@ module _ (s : List ℤ) where
     none : ¬ WrongParts (length s) → AllParts → NoneInjected → SplitOutcome (split.Refused 19 0 0)
     grid : {a b : ℤ} {n : ℕ} → ¬ WrongParts (length s) → AllParts → ¬ NoneInjected → Staged a b n → SplitOutcome (split.Grid a b n)
 
--- ---- the margins of a row's numbers, which no document asks for
+-- ---- §6.5: the margins of a row's numbers
 
 -- a voltage from 0 and a tolerable voltage from 1 mV, neither above 10^15 mV
 abbrev pub Comparable : ℤ → ℤ → Type 0

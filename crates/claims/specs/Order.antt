@@ -1,7 +1,7 @@
--- The first rule that a sheet breaks, in document 01's words, of its text: "The order is 1, 2, 4; then line by line 3, 5, 6, 7; then 8.
--- Within one number the leftmost column comes first, and for 6 layer comes before rods." The form is the table of the sheet's names:
--- today's 22, or document 01's own 18, whose sheets request (e) of document 02 carries over. Columns count from 1; value lines count from
--- 0, so that value line i is line i + 2 of the sheet.
+-- §2.1, §2.2, §2.3: the first rule that a sheet breaks, in the specification's words, of its text: "The order is 1, 2, 4; then line by line
+-- 3, 5, 6, 7; then 8. Within one number the leftmost column comes first, and for 6 layer comes before rods." The form is the table of the
+-- sheet's names: today's 22 (§1.2), or the former 18 (§8.1). Columns count from 1; value lines count from 0, so that value line i is line i
+-- + 2 of the sheet.
 use Prim.Native.Nat.{ℕ, _+_, _-_, _<_}
 use mathlib.Core.{Path.{_≡_}, Bool.{false}, Logic.{_⊎_}, List.{List}}
 use lib.ListN.{length, getD}
@@ -13,11 +13,11 @@ use Rattle.claims.specs.Rules.{fieldsAt, Under}
 
 -- ---- the conditions
 
--- 1: "sheet empty, over 16,384 bytes, or last byte not 10"; request (h): "the sheet to 65,536 bytes"
+-- 1: "sheet empty, over 16,384 bytes, or last byte not 10"; §1.5: "the sheet to 65,536 bytes"
 abbrev pub WrongText : List ℕ → Type 0
 WrongText s = (length s ≡ 0) ⊎ ((65536 < length s) ⊎ ¬ (getD s (length s - 1) 0 ≡ 10))
 
--- 4: "no value line (line 2), or more than 64 (line 66)"; request (h): "Refusal 4 for too many lines now names line 258"
+-- 4: "no value line (line 2), or more than 64 (line 66)"; §1.5: "Refusal 4 for too many lines now names line 258"
 pub data WrongCount (s : List ℕ) : ℕ → Type 0 where
   none : length (valueLines s) ≡ 0 → WrongCount s 2
   many : 256 < length (valueLines s) → WrongCount s 258

@@ -1,6 +1,5 @@
--- What the program `verdict` prints. Document 01, 'Yards worked by hand': "prints the header shown, then each row's station, season,
--- verdict (safe, unsafe or undecided) and kcmil. A refused sheet prints only `refused,` then number, line and column with commas. Each
--- printed line ends with one byte 10."
+-- What the program `verdict` prints. §3.3: "prints the header shown, then each row's station, season, verdict (safe, unsafe or undecided)
+-- and kcmil. A refused sheet prints only `refused,` then number, line and column with commas. Each printed line ends with one byte 10."
 use Prim.Native.Nat.{ℕ, _≤_, _<_}
 use mathlib.Core.{Path.{_≡_}, List.{List, [], _∷_}}
 use lib.ListN.{length, getD, take, drop}

@@ -1,5 +1,5 @@
--- One case asked as a record: its checks, and every answer that the question for its row can give, each with its condition. The conditions
--- exclude one another (Answers.antt), so each answer is given exactly on its own. Document 01, 'The sheet' and 'The result table'.
+-- §6.1, §6.2: one case asked as a record: its checks, and every answer that the question for its row can give, each with its condition. The
+-- conditions exclude one another (Answers.antt), so each answer is given exactly on its own.
 use Prim.Native.Nat.{ℕ, suc, _<_}
 use mathlib.Core.{Path.{_≡_}, Bool.{Bool, true, false}}
 use lib.{IntN.{natAbs}, ListN.{getD}}
@@ -23,13 +23,13 @@ insideAt c i = inRange (rangeAt columns i) (getD (values c) i 0)
 abbrev pub AllInside : Case → Type 0
 AllInside c = InRanges columns (values c)
 
--- "Within one number the leftmost column comes first"
+-- §2.2: "Within one number the leftmost column comes first"
 pub record FirstOutside (c : Case) (i : ℕ) : Type 0 where
   pub within : i < 22
   pub outside : insideAt c i ≡ false
   pub before : (j : ℕ) → j < i → insideAt c j ≡ true
 
--- "a refusal 5 or 6, whose line is 0 and whose column is the place in the table of names above"
+-- §6.1: "a refusal 5 or 6, whose line is 0 and whose column is the place in the table of names above"
 pub data RecordRefused (c : Case) : ℕ → ℕ → ℕ → Type 0 where
   -- "value out of its range"
   out-of-range : {i : ℕ} → FirstOutside c i → RecordRefused c 5 0 (suc i)
@@ -47,13 +47,13 @@ pub record RecordSound (c : Case) : Type 0 where
 
 -- ---- the answers
 
--- "One case may also be asked as a record of 18 numbers; the answer is its row or a refusal 5 or 6, whose line is 0 and whose column is the
--- place in the table of names above."; the row has all of demand 3
+-- §6.1: "One case may also be asked as a record of 18 numbers; the answer is its row or a refusal 5 or 6, whose line is 0 and whose column
+-- is the place in the table of names above."; the row has all of demand 3
 pub data RowOutcome (c : Case) : RowAnswer → Type 0 where
   refused : {number line column : ℕ} → RecordRefused c number line column → RowOutcome c (Refused number line column)
   row : {r : Row} → RecordSound c → OwnRow c (numbers r) 0 → RowOutcome c (Is r)
 
--- "Decrement factor (in thousandths), conductor size, tolerable touch, tolerable step and resistance may each be asked alone, from a
+-- §6.2: "Decrement factor (in thousandths), conductor size, tolerable touch, tolerable step and resistance may each be asked alone, from a
 -- record, with the same checks."
 
 -- two ends for an exact value, which is one number: the factor, or the resistance
@@ -61,13 +61,13 @@ pub data PairOutcome (c : Case) (x : Exact) (unit : Scale) (width : Ends → Fra
   refused : {number line column : ℕ} → RecordRefused c number line column → PairOutcome c x unit width (pair.Refused number line column)
   ends : {i : Interval} → RecordSound c → Number x → Reports x unit width i → PairOutcome c x unit width (pair.Ends i)
 
--- (f) "The two separate questions are merged into one that gives both pairs of ends from one root."
+-- §6.2: "The two separate questions are merged into one that gives both pairs of ends from one root."
 pub data TolerableOutcome (c : Case) : Tolerable → Type 0 where
   refused : {number line column : ℕ} → RecordRefused c number line column → TolerableOutcome c (tolerable.Refused number line column)
   ends : {touch step : Interval} → RecordSound c → CaseNumbers c → Reports (tolerableTouch c) mV tolerableWidth touch
       → Reports (tolerableStep c) mV tolerableWidth step → TolerableOutcome c (tolerable.Ends touch step)
 
--- (d) "Conductor size is the smallest whole kcmil not below the product with the factor's upper end": of a pair of ends that reports the
+-- §4.9: "Conductor size is the smallest whole kcmil not below the product with the factor's upper end": for a pair of ends that reports the
 -- factor
 pub data SizeOutcome (c : Case) : SizeAnswer → Type 0 where
   refused : {number line column : ℕ} → RecordRefused c number line column → SizeOutcome c (sized.Refused number line column)

@@ -1,4 +1,4 @@
--- Release, of no document: a sheet and a licence, asked with a table that was `before`, were answered with r.
+-- §7.2: a sheet and a licence, asked with a table that was `before`, were answered with r.
 use Prim.Native.Nat.{ℕ, _+_, _*_, _≤_, _<_}
 use mathlib.Core.{Path.{_≡_}, Bool.{true}, List.{List}, Logic.{_⊎_, _↔_}}
 use lib.{IntN.{ℤ, pos, natAbs}, ListN.{length, drop}}

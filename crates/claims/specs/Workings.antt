@@ -1,4 +1,4 @@
--- The working of one case asked as a record: every answer that the question can give, each with its condition.
+-- §6.4: the working of one case asked as a record: every answer that the question can give, each with its condition.
 use Prim.Native.Nat.{ℕ}
 use mathlib.Core.Path.{_≡_}
 use Rattle.interval.specs.Operations.{productOf}

@@ -1,4 +1,4 @@
--- Request (k) of document 02: the fewest lines for a given side, over sides, counts and spacings.
+-- §6.7: the fewest lines for a given side, over sides, counts and spacings.
 use Prim.Native.Nat.{ℕ, suc, _+_, _*_, _-_, _≤_, _<_}
 use mathlib.Core.{Path.{_≡_}, Logic.{_⊎_}}
 use Rattle.case.specs.{declared.Case.{Case}, Bounds.{Between}}
@@ -102,7 +102,7 @@ pub record NoYard (c : Case) (side tried : ℕ) : Type 0 where
 abbrev pub OtherYard : Case → Case → Type 0
 OtherYard c y = y ≡ withYard (y .across) (y .along) (y .space) (y .rods) (c .rodlen) (y .place) c
 
--- "The case's own counts, spacing, rods and place are not read, nor compared with rodlen": y has others in their stead, which no check
+-- "The case's own counts, spacing, rods and place are not read, nor compared with rodlen": y has others in their place, which no check
 -- refuses
 pub record StandsIn (c y : Case) : Type 0 where
   pub is : OtherYard c y

@@ -1,4 +1,4 @@
-// A program's run: standard input read to its end, its text in one write, and a write that fails told on standard error.
+// A program's run: standard input read to its end, its text in one write, and a write that fails reported on standard error.
 mod input;
 
 pub use input::read;

@@ -1,5 +1,5 @@
--- The ends of what depends on n alone: ln(8/(π(2n−1))), (2n) to the power −2/n, 0.5^(n−2). n is a pair in 10^−7. Names for the free part:
--- callers use their laws.
+-- §4.6, §4.7: the ends of what depends on n alone: ln(8/(π(2n−1))), (2n) to the power −2/n, 0.5^(n−2). n is a pair in 10^−7. These name the
+-- free part of the answers: callers use only their laws.
 use Prim.Native.Nat.{ℕ, _+_, _-_}
 use mathlib.Core.{Bool.{cond}, List.{List, [], _∷_}}
 use lib.{Dec.{eqb}, ListN.{getD}, IntN.{pos}}

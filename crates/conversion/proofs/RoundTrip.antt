@@ -1,5 +1,5 @@
 -- Every accepted sheet carried over: the carried sheet is accepted by its form with a line for each case, its cases are the carried ones in
--- their order, and carried back it has the cases of the source. Document 02 (e).
+-- their order, and carried back it has the cases of the source. §8.3.
 use Prim.Native.Nat.{ℕ, _≤_}
 use mathlib.Core.{Path.{_≡_, refl, ap, _∙_}, List.{List, [], map}}
 use native.Mathlib.Omega.{arith}

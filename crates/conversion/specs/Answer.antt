@@ -1,4 +1,4 @@
--- What a sheet carried over is, or why it is refused. Document 02 (e).
+-- What a sheet carried over is, or why it is refused. §8.2, §8.3.
 use Prim.Native.Nat.{ℕ}
 use mathlib.Core.{Path.{_≡_}, Bool.{cond}, List.{List, _++_, map}}
 use lib.{Dec.{ltb}, ListN.{length, drop}}

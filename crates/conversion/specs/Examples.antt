@@ -1,4 +1,4 @@
--- Document 01's sample sheet carried over. Document 02 (e).
+-- The sample sheet (§3.3) in its former form carried over (§8.2).
 use Prim.Native.Nat.{ℕ}
 use mathlib.Core.{Path.{_≡_, refl}, List.{List, _++_}}
 use Rattle.text.specs.{Text.{bytes, onFirst, linesOf, fieldsOf, same}, Value.{numberFrom, valueOf}}
@@ -11,7 +11,7 @@ use Rattle.judgement.specs.Sheet.{names, valueLines}
 use Rattle.carried_values.specs.Values.{other, presentValues, formerValues, carried, casesIn}
 use Rattle.conversion.specs.{Sheet.{sheetOf}, Answer.{carriedText}}
 
--- document 01's sample, its columns in another order
+-- the sample, its columns in another order
 former : List ℕ
 former =
     bytes "metal,season,station,soil,layer,thick,ms,body,fault,split,xr,lines,space,depth,dia,rods,rodlen,place\n"

@@ -1,4 +1,4 @@
-// Sheets of document 01's own names carried over to those of today, and back. Document 02 (e).
+// Sheets of the former names carried over to today's, and back. §8.2, §8.3.
 mod names;
 
 ghost use Rattle.case.specs.declared.Form.the-variants.{Present, Former};
@@ -72,14 +72,14 @@ fn carry_to(form: Form, s: &[u8], buffer: &mut [u8]) -> Carried
     }
 }
 
-// A sheet of document 01's own names becomes one of today's.
+// A sheet of the former names becomes one of today's.
 pub fn carry(s: &[u8], buffer: &mut [u8]) -> Carried
     ensures { λ r. ⌜ Answered Present (now (s .entry)) (now (buffer .entry)) (now (buffer .exit)) r ⌝ }
 {
     carry_to(Form::Present, s, buffer)
 }
 
-// A sheet of today's names becomes one of document 01's own.
+// A sheet of today's names becomes one of the former ones.
 pub fn carry_back(s: &[u8], buffer: &mut [u8]) -> Carried
     ensures { λ r. ⌜ Answered Former (now (s .entry)) (now (buffer .entry)) (now (buffer .exit)) r ⌝ }
 {

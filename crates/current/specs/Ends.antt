@@ -1,5 +1,5 @@
--- The ends of the grid current, by whole-number intervals, and the upper end of the decrement factor. Names for the free part: callers use
--- their laws.
+-- §4.4: the ends of the grid current, by whole-number intervals, and the upper end of the decrement factor. These name the free part of the
+-- answers: callers use only their laws.
 use Prim.Native.Nat.{ℕ, _*_, _^_}
 use lib.IntN.{natAbs}
 use Rattle.interval.specs.{declared.Interval.{Interval}, Operations.{outwardOf, scaledOf}}

@@ -1,4 +1,4 @@
--- What the table of metals has for a number.
+-- §4.9: what the table of metals has for a number.
 use Prim.Native.Nat.{ℕ}
 use mathlib.Core.Bool.{cond, _&&_}
 use lib.Dec.{leb}

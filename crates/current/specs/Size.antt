@@ -1,4 +1,4 @@
--- How the conductor size is worked within 64 bits: the square of I·Kf times t, in units that lose nothing by rounding up.
+-- How the conductor size (§4.9) is computed within 64 bits: the square of I·Kf times t, in units that lose nothing by rounding up.
 use Prim.Native.Nat.{ℕ, _+_, _*_, _/_, _%_, _≤_, _<_}
 use Rattle.whole.specs.Whole.{ceilDiv}
 

@@ -1,4 +1,4 @@
--- The verdict from the ends. Document 01, 'What exact means' and 'The result table'.
+-- The verdict from the ends. §3.2.
 use Prim.Native.Nat.{ℕ}
 use mathlib.Core.Bool.{Bool, cond, _&&_, _||_}
 use lib.Signed.{leZ, ltZ}

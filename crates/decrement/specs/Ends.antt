@@ -1,4 +1,5 @@
--- The ends of the decrement factor in billionths, by whole-number intervals. Names for the free part: callers use their laws.
+-- §4.3: the ends of the decrement factor in billionths, by whole-number intervals. These name the free part of the answers: callers use
+-- only their laws.
 use Prim.Native.Nat.{_+_, _*_, _^_}
 use lib.IntN.{pos, natAbs}
 use Rattle.interval.specs.declared.Interval.{Interval}

@@ -1,4 +1,4 @@
--- The ends of ρ·Ki·IG include the exact value's ends. Code works Ki·(ρ·IG).
+-- The ends of ρ·Ki·IG include the exact value's ends. The code computes Ki·(ρ·IG).
 use Prim.Native.Nat.{_^_}
 use mathlib.Core.Path.{refl}
 use lib.Dec.{lit≤}

@@ -1,4 +1,4 @@
--- What the widths of mesh and step voltage refer to, ρ·Ki·IG with Ki worked with na and the current's upper end: the lower end of ρ·Ki·IG
+-- What the widths of mesh and step voltage refer to, ρ·Ki·IG with Ki computed with na and the current's upper end: the lower end of ρ·Ki·IG
 -- is at most 1.24 of it.
 use Prim.Native.Nat.{ℕ, _+_, _*_, _^_, _≤_, _<_}
 use mathlib.Core.Path.{_≡_, ap}
@@ -87,7 +87,7 @@ module _ {c : Case} (b : Bounds c) where
     reference-over h =
         trans≤ h (trans≤ (div≤ len reference-above) (mul-assoc (decimal 124 2) (ρ c ·f referenceKi c ·f upperCurrent) (inv len) .to))
 
-    -- the width that document 02 allows, from a share of the lower end over the length and an extra
+    -- the width that §5.8 allows, from a share of the lower end over the length and an extra
     pub reference-width : {q share extra : Fraction} {A : Ends} → whole 0 ≤f share → share ·f decimal 124 2 ≤f decimal 1 5
         → extra ≤f decimal 10 3 → q ≤f over (pos (low b)) (ten 9) ÷f len → AtMost (share ·f q +f extra) A
         → AtMost (decimal 1 5 ·f (ρ c ·f referenceKi c ·f reported μA (currentEnds c) .upper ÷f len) +f decimal 10 3) A

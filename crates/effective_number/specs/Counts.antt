@@ -1,4 +1,4 @@
--- The two counts of conductors, across and along, and what they give in units of the spacing D.
+-- §4.1: the two counts of conductors, across and along, and what they give in units of the spacing D.
 use Prim.Native.Nat.{ℕ, _+_, _-_, _*_}
 use Rattle.case.specs.Bounds.{Between}
 

@@ -1,4 +1,5 @@
--- The ends of n and Ki, from the two counts alone, by whole numbers. Names for the free part: callers use their laws.
+-- §4.2: the ends of n and Ki, from the two counts alone, by whole numbers. These name the free part of the answers: callers use only their
+-- laws.
 use Prim.Native.Nat.{ℕ, _+_, _*_, _/_, _^_}
 use mathlib.Core.Bool.{cond}
 use lib.{Dec.{eqb}, IntN.{pos}}

@@ -47,7 +47,7 @@ encloses-sqrt u {v} {t} n m fits low high r e =
     (rw (square (s + 1), square (u .count)) (omega (arith, mul-le-mul-right (v .count) (r .is-root .high))))
     (rw point-natural at e))
 
--- where the division leaves no rest
+-- where the division leaves no remainder
 pub encloses-sqrt-even : {x : Exact} (u : Scale) {v : Scale} {t : ℕ} {i : Interval} (n m : ℕ) → u .count * m ≡ 10 ^ workDepth
     → t * v .count ≡ u .count * u .count * n → RootEnds t i → Encloses x v (point (pos n)) → Encloses (root 2 x) u i
 encloses-sqrt-even u {v} n m fits even r e = encloses-sqrt u n m fits (omega arith) (omega (arith, v .positive)) r e

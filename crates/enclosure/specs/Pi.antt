@@ -1,4 +1,4 @@
--- The ends of π in 10^−9.
+-- The ends of π (§5.4) in 10^−9.
 use Prim.Native.Nat.{ℕ}
 use Rattle.interval.specs.{declared.Interval.{Interval}, Operations.{natural}}
 

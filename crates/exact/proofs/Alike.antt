@@ -1,4 +1,4 @@
--- Operations on pairs with the same ends have the same ends; a quotient is a product by the inverse pair. All rests on one test: a pair
+-- Operations on pairs with the same ends have the same ends; a quotient is a product by the inverse pair. All depends on one test: a pair
 -- that has each outcome among its points includes the combination.
 use Rattle.exact.specs.{Fraction.{Fraction, _≤f_, _≈f_, _+f_, _·f_, inv, _÷f_}, Ends.{Ends, combine, _+e_, _·e_, _÷e_}}
 use Rattle.exact.specs.Depth.{Within, Proper, Positive, SameEnds}

@@ -1,5 +1,5 @@
--- The two ends of a value at one depth, and how ends combine.
--- Document 01, 'What exact means': "Sums, products and quotients combine the two ends by the least and greatest outcome".
+-- The two ends of a value at one depth, and how ends combine. §5.1, §5.2: "Sums, products and quotients combine the two ends by the least
+-- and greatest outcome".
 use Rattle.exact.specs.Fraction.{Fraction, _+f_, neg, _−f_, _·f_, _÷f_, minf, maxf}
 
 pub record Ends : Type 0 where

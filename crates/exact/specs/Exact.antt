@@ -1,4 +1,4 @@
--- Exact values. Document 01, 'What exact means': "At each depth k from 3 up, every formula has two ends that are fractions."
+-- Exact values. §5.1, §5.7: "At each depth k from 3 up, every formula has two ends that are fractions."
 use Prim.Native.Nat.{ℕ, _≤_}
 use Rattle.exact.specs.{Fraction.{Fraction, _≤f_, _<f_}, Ends.{Ends, _+e_, _−e_, _·e_, _÷e_, minusEnds}}
 

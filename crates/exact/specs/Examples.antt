@@ -1,4 +1,4 @@
--- Values at depths 3 and 12, computed: tests of the definitions of π, logarithm and exponential.
+-- Values at depths 3 and 12, computed: tests of the definitions of π (§5.4), logarithm (§5.5) and exponential (§5.6).
 use Prim.Native.Nat.{ℕ}
 use native.Mathlib.Decide.{decLe}
 use lib.{Dec.{lit≤}, IntN.{pos, negsuc}}

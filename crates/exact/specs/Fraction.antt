@@ -1,4 +1,4 @@
--- Fractions with sign: (plus − minus) / den. One value has many fractions: compare them by ≤f and <f.
+-- §5.1: fractions with a sign, (plus − minus) / den. One value has many fractions: compare them by ≤f and <f.
 use Prim.Native.Nat.{ℕ, zero, suc, _+_, _-_, _*_, _^_, max, _≤_, _<_}
 use native.Mathlib.{Nat.{mul-pos, le-max-left, zero-lt-suc, one-le-pow}, Decide.{decLe}}
 
@@ -55,7 +55,7 @@ a ·f b =
       positive = mul-pos (a .positive) (b .positive);
     }
 
--- one over a positive fraction; of any other it means nothing
+-- one over a positive fraction; of any other it has no meaning
 unfoldable pub inv : Fraction → Fraction
 inv a =
     record { plus = a .den; minus = 0; den = max 1 (a .plus - a .minus); positive = le-max-left 1 (a .plus - a .minus) }

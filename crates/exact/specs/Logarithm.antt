@@ -1,4 +1,4 @@
--- The natural logarithm. Document 01, 'What exact means'.
+-- The natural logarithm. §5.5.
 use Prim.Native.Nat.{ℕ, zero, suc, _+_, _*_, _^_}
 use Rattle.exact.specs.Fraction.{Fraction, whole, _+f_, _−f_, _·f_, inv, _÷f_, top, powf, decLef, choose}
 use Rattle.exact.specs.{Exact.{Exact, exactly, _+x_, _·x_, minus}, Root.{greatestBelow}}

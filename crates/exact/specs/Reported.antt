@@ -1,4 +1,4 @@
--- Pairs of whole numbers in a unit, as the program reports them.
+-- §5.7, §5.8: pairs of whole numbers in a unit, as the program reports them.
 use Prim.Native.Nat.{ℕ, _^_, _<_}
 use native.Mathlib.Nat.{zero-lt-suc, one-le-pow}
 use lib.{IntN.{ℤ}, Signed.{_≤ℤ_}}

@@ -1,4 +1,4 @@
--- Roots. Document 01, 'What exact means': "A root lies between the greatest multiple of 10^−k not above it and the next one".
+-- Roots. §5.3: "A root lies between the greatest multiple of 10^−k not above it and the next one".
 use Prim.Native.Nat.{ℕ, zero, suc, _*_, _^_}
 use native.Mathlib.Decide.{decLe}
 use Rattle.exact.specs.{Fraction.{Fraction, decimal, top, choose}, Exact.{Exact}}

@@ -1,4 +1,4 @@
--- The ends of e^−q enclose the exact ones at the depth at which code works.
+-- The ends of e^−q enclose the exact ones at the depth at which the code computes.
 use Prim.Native.Nat.{ℕ, _+_, _*_, _/_, _^_, _≤_, _<_, min}
 use mathlib.Core.Path.{refl}
 use native.Mathlib.{Omega.{arith}, Nat.{add-zero, le-refl, le-trans, min-eq-left, min-eq-right}, Decide.{decLe}}

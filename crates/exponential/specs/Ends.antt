@@ -1,6 +1,6 @@
--- The ends of e^−q in billionths, for q in billionths, by whole numbers alone: one over twelve terms of e^(q/2^j), squared j times, all in
--- quarters of a billionth. The lower end is so found, and the upper one is as far above it as the calculation can err.
--- `up` is 0 where a step is rounded down, and 1 where it is rounded up: by the steps the other way the upper end is shown.
+-- The ends of e^−q (§5.6) in billionths, for q in billionths, by whole numbers alone: one over twelve terms of e^(q/2^j), squared j times,
+-- all in quarters of a billionth. This gives the lower end, and the upper one is as far above it as the calculation can err. `up` is 0
+-- where a step is rounded down, and 1 where it is rounded up: the steps rounded the other way justify the upper end.
 use Prim.Native.Nat.{ℕ, zero, suc, _+_, _-_, _*_, _/_, _^_, min}
 use mathlib.Core.Bool.{cond}
 use lib.{Dec.{ltb}, IntN.{pos, natAbs}}
@@ -22,7 +22,7 @@ most = 8000000000000
 abbrev pub large : ℕ
 large = 22000000000
 
--- terms after the first: twelve in all, as many as the depth at which code works
+-- terms after the first: twelve in all, as many as the depth at which the code computes
 abbrev pub levels : ℕ
 levels = 11
 

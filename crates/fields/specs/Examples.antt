@@ -1,4 +1,4 @@
--- The line of a refusal, worked by hand.
+-- The line of a refusal (§3.3), computed by hand.
 use mathlib.Core.Path.{_≡_, refl}
 use Rattle.text.specs.Text.{bytes}
 use Rattle.writing.specs.{Decimal.{digitsIn, digitCount, lastDigits, decimal}, Text.{moreFields, parted, ended}}

@@ -1,4 +1,4 @@
--- The fields of a line: a number with its sign, or the word of a verdict's number.
+-- §3.3: the fields of a printed line: a number with its sign, or the word of a verdict's number.
 use Prim.Native.Nat.{ℕ, suc}
 use mathlib.Core.{Bool.{cond}, List.{List, [], _∷_}}
 use lib.{Dec.{eqb}, IntN.{ℤ, pos, negsuc}}

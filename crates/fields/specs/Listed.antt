@@ -1,4 +1,4 @@
--- A text of lines: "prints the header shown, then each row's" fields. Document 01, 'Yards worked by hand'.
+-- A text of lines. §3.3: "prints the header shown, then each row's" fields.
 use Prim.Native.Nat.{ℕ}
 use mathlib.Core.List.{List, _∷_, map}
 use Rattle.writing.specs.Text.{parted, textOf}

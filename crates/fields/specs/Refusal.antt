@@ -1,5 +1,5 @@
--- The line of a refusal. Document 01, 'Yards worked by hand': "A refused sheet prints only `refused,` then number, line and column with
--- commas. Each printed line ends with one byte 10."
+-- The line of a refusal. §3.3: "A refused sheet prints only `refused,` then number, line and column with commas. Each printed line ends
+-- with one byte 10."
 use Prim.Native.Nat.{ℕ}
 use mathlib.Core.List.{List, [], _∷_, map}
 use Rattle.text.specs.Text.{bytes}

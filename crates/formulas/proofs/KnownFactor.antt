@@ -1,4 +1,4 @@
--- The decrement factor at numbers, for the times and the X/R of the worked yards.
+-- The decrement factor at numbers, for the times and the X/R of the yards computed by hand (§4.10).
 use Prim.Native.Nat.{ℕ, _<_}
 use mathlib.Core.Bool.{_&&_}
 use lib.Dec.{T, lit<}

@@ -1,4 +1,4 @@
--- What the grids of the worked yards have in common, at numbers: they differ in season, soil, counts and rods alone.
+-- What the grids of the yards computed by hand (§4.10) have in common, at numbers: they differ in season, soil, counts and rods alone.
 use Prim.Native.Nat.{ℕ}
 use mathlib.Core.Bool.{_&&_}
 use lib.Dec.{T}

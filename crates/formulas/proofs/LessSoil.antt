@@ -1,4 +1,4 @@
--- A lower soil resistivity, all else equal, station and season aside: mesh and step voltage fall in proportion to it, the tolerable
+-- §10.3: a lower soil resistivity, all else but station and season equal: mesh and step voltage fall in proportion to it, the tolerable
 -- voltages less than that. So where a voltage is above what is tolerable with the lower resistivity, it is with the higher one, at the same
 -- depth.
 use Prim.Native.Nat.{ℕ, _≤_}

@@ -1,4 +1,4 @@
--- The two forms of G in document 01 are equal.
+-- The two forms of G in §4.6 are equal.
 use Prim.Native.Nat.{ℕ, _+_, _*_, _^_, _<_}
 use mathlib.Core.Path.{_≡_, ap}
 use native.Mathlib.{Omega.{arith}, Nat.{mul-pos}}

@@ -1,4 +1,4 @@
--- The two lines of document 01's sample sheet at numbers, each part of a formula by its line.
+-- The two lines of the sample sheet (§3.3) at numbers, each part of a formula by its line.
 use Prim.Native.Nat.{ℕ}
 use Rattle.exact.specs.Ends.{minusEnds}
 use Rattle.case.specs.declared.Case.{Case}

@@ -1,4 +1,4 @@
--- "Equal counts keep the square's definitions": with n conductors each way and the side s, as document 01 has them.
+-- §4.1, §4.2: "Equal counts keep the square's definitions": with n conductors each way and the side s.
 use Prim.Native.Nat.{ℕ, _-_, _^_}
 use mathlib.Core.{Path.{_≡_, sym, ap, subst}, Bool.{true}}
 use native.Mathlib.Omega.{arith}

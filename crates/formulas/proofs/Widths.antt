@@ -1,5 +1,5 @@
--- Every width of document 01, 'What exact means', as changed by requests (j), (c) and (d), worked by hand on its sample yard, on that yard
--- with twenty rods of 7.5 m along the perimeter, and on a rectangle: a width made wider or narrower is refused here.
+-- Every width of §5.8, computed by hand on the sample yard (§3.3), on that yard with twenty rods of 7.5 m along the perimeter, and on a
+-- rectangle: a width made wider or narrower is refused here.
 use Prim.Native.Nat.{ℕ, _+_}
 use mathlib.Core.{Bool.{Bool, true, _&&_}, List.{List, [], _∷_}}
 use lib.{IntN.{pos}, Dec.{T}}

@@ -1,4 +1,4 @@
--- Every yard of the list of worked yards is right.
+-- §4.10: every yard of the list of yards computed by hand is right.
 use Prim.Native.Nat.{ℕ, _*_, _^_, _<_}
 use mathlib.Core.{Path.{_≡_, refl, ap}, Bool.{Bool, _&&_}, List.{[], _∷_}}
 use native.Mathlib.{Omega.{arith}, Nat.{zero-lt-suc}}

@@ -1,4 +1,4 @@
--- The current that the grid passes to earth, in amperes. Document 01, 'The formulas', and request (d) of document 02.
+-- The current that the grid passes to earth, in amperes. §4.4.
 use Rattle.exact.specs.{Fraction.{whole, decimal, _·f_}, Exact.{Exact, exactly, _·x_}}
 use Rattle.case.specs.declared.Case.{Case}
 use Rattle.formulas.specs.Decrement.{Df}

@@ -1,4 +1,4 @@
--- The decrement factor. Request (d) of document 02 (IEEE Std 80-2013, equation 84).
+-- The decrement factor. §4.3 (IEEE Std 80-2013, equation 84).
 use Rattle.exact.specs.{Fraction.{Fraction, whole, decimal, _·f_}, Exact.{Exact, exactly, _+x_, _−x_, _·x_, _÷x_, minus}, Root.{root}}
 use Rattle.exact.specs.{Exponential.{exp}, Pi.{π}}
 use Rattle.case.specs.declared.Case.{Case}

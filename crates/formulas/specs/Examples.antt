@@ -1,4 +1,4 @@
--- The conductor size and the half-powers computed on examples.
+-- The conductor size (§4.9) and the half-powers (§4.7) computed on examples.
 use Prim.Native.Nat.{ℕ}
 use mathlib.Core.{Path.{_≡_, refl}, List.{[], _∷_, map}}
 use Rattle.exact.specs.{Fraction.{Fraction, whole, inv}, Exact.{exactly}}
@@ -26,7 +26,7 @@ asymmetrical : map (sizeOf 80000 9 11) (1000000000 ∷ 1576000000 ∷ 1688000000
 unfolding sizeOf
 asymmetrical = refl
 
--- the half-powers of document 01's table, one over each number: 2^(n−2) for n from 2 to 25
+-- the 24 half-powers of the former table, one over each number: 2^(n−2) for n from 2 to 25
 halfPowerAt : ℕ → Fraction
 unfolding halfPower exactly
 halfPowerAt n =

@@ -1,5 +1,4 @@
--- Resistivity in ohm metres, lengths in metres, the effective number of conductors and Ki. Document 01, 'The formulas', and request (c) of
--- document 02.
+-- Resistivity in ohm metres, lengths in metres (§4.1), the effective number of conductors and Ki (§4.2).
 use Prim.Native.Nat.{_-_}
 use mathlib.Core.Bool.{Bool, cond}
 use lib.Dec.{eqb}

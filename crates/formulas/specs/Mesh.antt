@@ -1,4 +1,4 @@
--- Mesh voltage in volts. Document 01, 'The formulas', and request (c) of document 02.
+-- Mesh voltage in volts. §4.6.
 use mathlib.Core.Bool.{cond}
 use lib.Dec.{eqb}
 use Rattle.exact.specs.{Fraction.{Fraction, whole, decimal, _+f_, _−f_, _·f_, _÷f_}, Exact.{Exact, exactly, _+x_, _−x_, _·x_, _÷x_, minus}}

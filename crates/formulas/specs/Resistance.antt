@@ -1,5 +1,4 @@
--- Resistance of the grid in ohms and ground potential rise in volts. Document 01, 'The formulas', and request (c) of
--- document 02.
+-- Resistance of the grid in ohms and ground potential rise in volts. §4.8.
 use Rattle.exact.specs.{Fraction.{whole}, Exact.{Exact, exactly, _+x_, _·x_, _÷x_}, Root.{root}}
 use Rattle.case.specs.declared.Case.{Case}
 use Rattle.formulas.specs.{Lengths.{ρ, h, s, LT}, Current.{IG}}

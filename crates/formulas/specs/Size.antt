@@ -1,4 +1,4 @@
--- Conductor size. Document 01, 'The formulas' (IEEE Std 80-2013, equations 47 and 48, Table 2), and request (d) of document 02.
+-- Conductor size. §4.9 (IEEE Std 80-2013, equations 47 and 48, Table 2).
 use Prim.Native.Nat.{ℕ, zero, suc, _*_, _^_}
 use mathlib.Core.{Bool.{Bool, cond}, List.{List, [], _∷_}}
 use lib.{ListN.{getD}, Dec.{leb}}
@@ -18,10 +18,10 @@ unfoldable pub smallest : (ℕ → Bool) → ℕ → ℕ → ℕ
 smallest test first zero = first
 smallest test first (suc tries) = let later = smallest test (suc first) tries in cond (test first) first later
 
--- f is the upper end of the decrement factor as reported, in billionths. Request (d) of document 02: "Conductor size is the smallest whole
--- kcmil not below the product with the factor's upper end"
+-- f is the upper end of the decrement factor as reported, in billionths: "Conductor size is the smallest whole kcmil not below the product
+-- with the factor's upper end"
 module _ (c : Case) (f : ℕ) where
-  -- "I·Kf·√t, I being fault·Df in kA", in kcmil; request (a): "conductor size uses wire with the factor from clear"
+  -- "I·Kf·√t, I being fault·Df in kA", in kcmil; "conductor size uses wire with the factor from clear"
   unfoldable pub required : Exact
   required = exactly (decimal (c .fault * f) 12 ·f decimal (Kf (c .metal)) 2) ·x root 2 (exactly (decimal (c .wire) 3))
 

@@ -1,4 +1,4 @@
--- Step voltage in volts. Document 01, 'The formulas', and requests (b) and (c) of document 02.
+-- Step voltage in volts. §4.7.
 use Prim.Native.Nat.{_-_, _^_}
 use mathlib.Core.Bool.{cond}
 use Rattle.exact.specs.{Fraction.{Fraction, whole, decimal, _+f_, _·f_, inv}, Exact.{Exact, exactly, _+x_, _−x_, _·x_, _÷x_, minus}}
@@ -7,8 +7,7 @@ use Rattle.case.specs.declared.Case.{Case}
 use Rattle.formulas.specs.{Lengths.{ρ, D, h, Lc, LR, equalCounts, n, Ki}, Current.{IG}}
 
 module _ (c : Case) where
-  -- 0.5^(n−2): of a square one over 2^(n−2), as (b) has it, "working the power of one half itself"; else, as (c) has it, "e to the power
-  -- −(n−2)·ln 2"
+  -- 0.5^(n−2): of a square one over 2^(n−2), "working the power of one half itself"; else "e to the power −(n−2)·ln 2"
   unfoldable pub halfPower : Exact
   halfPower =
       cond (equalCounts c) (exactly (inv (whole (2 ^ (c .across - 2)))))

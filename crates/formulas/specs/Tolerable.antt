@@ -1,4 +1,4 @@
--- Tolerable touch and step voltage in volts. Document 01, 'The formulas'.
+-- Tolerable touch and step voltage in volts. §4.5.
 use mathlib.Core.Bool.{cond}
 use lib.Dec.{eqb}
 use Rattle.exact.specs.{Fraction.{Fraction, whole, decimal, _+f_, _−f_, _·f_, _÷f_}, Exact.{Exact, exactly, _÷x_}, Root.{root}}
@@ -21,7 +21,7 @@ module _ (c : Case) where
   unfoldable pub k : Fraction
   k = cond (eqb (c .body) 50) (decimal 116 3) (decimal 157 3)
 
-  -- √t, t in seconds; request (a) of document 02: "Tolerable voltages use shock"
+  -- √t, t in seconds: "Tolerable voltages use shock"
   unfoldable pub rootTime : Exact
   rootTime = root 2 (exactly (decimal (c .shock) 3))
 

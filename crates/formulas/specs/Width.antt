@@ -1,5 +1,4 @@
--- How far apart the two ends of a reported pair may be. Document 01, 'What exact means', and requests (j), (c) and (d) of
--- document 02.
+-- How far apart the two ends of a reported pair may be. §5.8.
 use Rattle.exact.specs.{Fraction.{Fraction, decimal, _+f_, _·f_, _÷f_}, Ends.{Ends}, Reported.{Scale, ten}}
 use Rattle.case.specs.declared.Case.{Case}
 use Rattle.formulas.specs.{Lengths.{ρ, LT, na}, Step.{LS}}
@@ -17,11 +16,11 @@ unfoldable pub μA : Scale
 unfoldable pub billionths : Scale
 billionths = ten 9
 
--- request (d): "Df has two ends in billionths, at most 1,000 apart."
+-- "Df has two ends in billionths, at most 1,000 apart."
 unfoldable pub factorWidth : Ends → Fraction
 factorWidth A = decimal 1000 9
 
--- request (d): "The two currents ... are at most 1/500,000 of the lower plus 2 microamperes apart."
+-- "The two currents ... are at most 1/500,000 of the lower plus 2 microamperes apart."
 unfoldable pub currentWidth : Ends → Fraction
 currentWidth A = decimal 2 6 ·f A .lower +f decimal 2 6
 
@@ -37,14 +36,13 @@ resistanceWidth A = decimal 1 4 ·f A .lower +f decimal 2 6
 unfoldable pub riseWidth : Ends → Fraction
 riseWidth A = decimal 5 4 ·f A .lower +f decimal 10 3
 
--- Ki that the widths of the mesh and step voltages refer to, as a fraction. Request (c): "the mesh and step widths use Ki worked with na in
--- place of n"
+-- Ki that the widths of the mesh and step voltages refer to, as a fraction: "the mesh and step widths use Ki worked with na in place of n"
 unfoldable pub referenceKi : Case → Fraction
 referenceKi c = decimal 644 3 +f decimal 148 3 ·f na c
 
--- request (d): "The mesh and step widths use the upper grid current": I is the reported pair, in amperes
+-- "The mesh and step widths use the upper grid current": I is the reported pair, in amperes
 module _ (c : Case) (I : Ends) where
-  -- request (j): "mesh and step ends at most 1/100,000 of their reference voltage plus 10 mV", for mesh ρ·Ki·IG/LT
+  -- "mesh and step ends at most 1/100,000 of their reference voltage plus 10 mV", for mesh ρ·Ki·IG/LT
   unfoldable pub meshWidth : Fraction
   meshWidth = decimal 1 5 ·f (ρ c ·f referenceKi c ·f I .upper ÷f LT c) +f decimal 10 3
 

@@ -1,6 +1,6 @@
--- Yards that are worked by hand, as one list, and what is right of each: the starred yards of document 01, 'Yards worked by hand', its
--- sample yard, and the rectangle of IEEE Std 80-2013, B.3. Request (d) of document 02: "Document 01's cases of factor, current, size and
--- the verdict sheet are worked anew at hz 60, with X/R 10 where none is named." proofs/Yards.antt has the claim.
+-- §4.10: yards computed by hand, as one list, and what is right of each: the starred yards, the sample yard (§3.3), and the rectangle of
+-- IEEE Std 80-2013, B.3. "Document 01's cases of factor, current, size and the verdict sheet are worked anew at hz 60, with X/R 10 where
+-- none is named." proofs/Yards.antt has the claim.
 use Prim.Native.Nat.{ℕ}
 use mathlib.Core.{Path.{_≡_}, List.{List, [], _∷_}}
 use lib.IntN.{natAbs}
@@ -11,8 +11,7 @@ use Rattle.formulas.specs.{Lengths.{n}, Decrement.{Df}, Current.{IG}, Si
 use Rattle.formulas.specs.{Mesh.{G, mesh}, Step.{step}, Resistance.{resistance}}
 use Rattle.formulas.specs.Width.{mV, μΩ, μA, billionths, factorWidth, currentWidth}
 
--- a yard of bare soil without rods: what the document does not name is as in its
--- sample, at 60 Hz
+-- a yard of bare soil without rods: what §4.10 does not name is as in the sample, at 60 Hz
 abbrev pub yard : (soil body ms fault split xr metal : ℕ) → Case
 yard soil body ms fault split xr metal =
     record {
@@ -40,7 +39,7 @@ yard soil body ms fault split xr metal =
       hz = 60;
     }
 
--- a line of document 01's sample sheet, but for the season, the soil, the counts of conductors and the rods
+-- a line of the sample sheet, but for the season, the soil, the counts of conductors and the rods
 abbrev pub grid : (season soil across along rods rodlen place : ℕ) → Case
 grid season soil across along rods rodlen place =
     record {
@@ -118,7 +117,7 @@ yards =
     ∷ decrement (yard 400 70 500 3180 600 40 1) 1100994761 1100994763
     ∷ current (yard 400 70 500 3180 600 10 1) 1957957253 1957957256
     ∷ argument (yard 400 70 500 3180 600 10 1) (whole 5000 ÷f whole 7)
-    -- "Season 1 has mesh near 1001.6 V against 840.5 V", now 1027.8 V: Df is 1.026 where document 01 had 1.000
+    -- "Season 1 has mesh near 1001.6 V against 840.5 V", now 1027.8 V: Df is 1.026 where it was 1.000
     ∷ tolerable sample 840547 840548 2696097 2696098
     ∷ meshVoltage sample 1027839 1027841
     ∷ stepVoltage sample 625691 625692

@@ -3,12 +3,12 @@
 // The places after which what is held comes again.
 const PLACES: usize = 65536;
 
-// What place i of a table holds: -1 - i, which no place beside it holds.
+// What place i of a table holds: -1 - i, which no neighbouring place holds.
 fn number_at(i: usize) -> i64 {
     !((i % PLACES) as i64)
 }
 
-// What place i of a buffer holds: 128 or more, which no byte of a sheet is, and not what the places beside it hold.
+// What place i of a buffer holds: 128 or more, which no byte of a sheet is, and not what the neighbouring places hold.
 fn byte_at(i: usize) -> u8 {
     ((i % 128) as u8) + 128
 }

@@ -1,4 +1,4 @@
-// What the programs of the gate share: they read numbers and parts of a text, print, and lend tables and buffers that tell what they kept.
+// What the programs of the gate share: they read numbers and parts of a text, print, and lend tables and buffers that show what they kept.
 mod held;
 mod lists;
 mod numerals;

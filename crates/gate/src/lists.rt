@@ -1,4 +1,4 @@
-// The numbers of a line, parted by commas.
+// The numbers of a line, separated by commas.
 ghost use mathlib.Core.Path.{_≡_};
 ghost use Prim.Native.Nat.{_≤_};
 ghost use lib.ListN.{length};
@@ -6,10 +6,10 @@ use crate::numerals::Digits;
 use crate::numerals::numeral;
 use crate::parts::first_part;
 
-// The largest number that is read; a larger one is taken for it, for both are out of every range.
+// The largest number that is read; a larger one counts as it, because both are out of every range.
 const LARGEST: u64 = 9223372036854775807;
 
-// A field: a number, or bytes that are none.
+// A field: a number, or bytes that are not one.
 enum Field {
     Wrong,
     Value(i64),

@@ -1,6 +1,6 @@
 // A number in decimal digits, for the programs that read numbers from standard input.
 
-// A number, or bytes that are none.
+// A number, or bytes that are not one.
 pub enum Digits {
     Wrong,
     Value(u64),

@@ -1,5 +1,4 @@
--- The line of names of a form. Document 01, 'The sheet': "The 18 names stand once each, in any order"; how many they are now, the form
--- says.
+-- The line of names of a form. §1.2: "The 18 names stand once each, in any order"; today they are 22, in the former form 18 (§8.1).
 use Prim.Native.Nat.{ℕ, suc}
 use mathlib.Core.{Bool.{Bool, cond, _&&_}, List.{List, [], _∷_}}
 use lib.{ListN.{length, getD, set, replicate}, Dec.{leb, ltb, eqb}}

@@ -1,4 +1,4 @@
--- The names of a first line in words: where each stands, and what is wrong with a name. Document 01, 'The sheet' and 'The result table'.
+-- The names of a first line in words: where each stands, and what is wrong with a name. §1.2, §2.1, §2.2.
 use Prim.Native.Nat.{ℕ, _+_, _-_, _≤_, _<_}
 use mathlib.Core.{Path.{_≡_}, List.{List, []}}
 use lib.ListN.{length, getD}

@@ -1,4 +1,4 @@
--- What the parts of reading a header promise.
+-- §1.2: what the parts of reading a header promise.
 use Prim.Native.Nat.{ℕ, _-_, _≤_}
 use mathlib.Core.{Path.{_≡_}, Bool.{cond}, List.{List, _++_}}
 use lib.{ListN.{length, getD, take, replicate}, Dec.{ltb}}

@@ -13,7 +13,7 @@ use case::name_count;
 use case::place;
 use text::same;
 
-// The index of a name, or that the text is none of the names.
+// The index of a name, or the answer that the text is none of the names.
 pub enum Found {
     At(usize),
     Nothing,
@@ -50,7 +50,7 @@ const TEXTS: [Name; ALL_NAMES] = [
     Name(*b"lines  ", 5),
 ];
 
-// The names of both forms in the order of the table. A caller holds them in a local: a constant would be made anew for each name.
+// The names of both forms in the order of the table. A caller holds them in a local: a constant would be rebuilt for each name.
 pub fn all_names() -> [Name; ALL_NAMES]
     ensures { λ r. ⌜ r ≡ map inCode allColumns ⌝ }
 {

@@ -54,7 +54,7 @@ module _ {c : Case} (b : Bounds c) where
   fault-bounds f h =
       eased-bounds c (c .station) (c .season) f (c .split) (c .shock) (c .body) b (b .station) (b .season) h (b .split) (b .shock) (b .body)
 
-  -- request (n) of document 02
+  -- §10.1
   less : {f g : ℕ} → InRange g → f ≤ g → SafeWith c g → SafeWith c f
   less {f} {g} h l s =
       let lower : LessFault (withFault g c) (withFault f c) = record { all-else = refl; less = l } in

@@ -1,5 +1,5 @@
--- The headroom of a case, beyond documents 01 and 02: "after the checks of one case (5, 6), the greatest fault current in 100..80000 at
--- which the case, all else equal, is answered safe, or none".
+-- The headroom of a case. §6.6: "after the checks of one case (5, 6), the greatest fault current in 100..80000 at which the case, all else
+-- equal, is answered safe, or none".
 use Prim.Native.Nat.{ℕ, zero, suc, _≤_}
 use mathlib.Core.Path.{_≡_}
 use Rattle.case.specs.{declared.{Case.{Case}, Judged.{Judged}}, Check.{recordJudged}, Bounds.{Between}, Fault.{withFault}}
@@ -41,7 +41,7 @@ unfoldable pub roomOf : ℕ → Room
 roomOf zero = None
 roomOf (suc k) = UpTo (suc k)
 
--- of a refusal nothing is asked here
+-- nothing is required of a refusal here
 unfoldable pub RightRoom : Case → Room → Type 0
 RightRoom c (UpTo F) = Headroom c F
 RightRoom c None = NoHeadroom c

@@ -1,4 +1,4 @@
--- One turn of the search.
+-- One turn of the search for the headroom (§6.6).
 use Prim.Native.Nat.{ℕ, _+_, _-_, _/_, _<_}
 use mathlib.Core.Path.{_≡_}
 

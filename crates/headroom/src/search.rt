@@ -1,5 +1,5 @@
 // The search. Every fault current in range up to `safe` is safe and none from `over` on; one fault current between is asked a turn, first
-// the guesses, then the middle: at most 6 and 17 turns. What the fault current does not change is worked once.
+// the guesses, then the middle: at most 6 and 17 turns. What the fault current does not change is computed once.
 ghost use mathlib.Core.Path.{_≡_};
 ghost use Prim.Native.Nat.{_+_, _-_, _<_};
 ghost use Rattle.case.specs.Bounds.{Bounds};
@@ -26,7 +26,7 @@ const NONE: u32 = 0;
 // How many guesses are asked. After 80,000 A two are enough for most cases, and three for nearly all.
 const GUESSES: u32 = 6;
 
-// What a fault current tells: whether the case is answered safe with it, and a guess at the greatest such.
+// What a fault current shows: whether the case is answered safe with it, and a guess at the greatest such.
 struct Told {
     safe: bool,
     guess: u32,
@@ -41,7 +41,7 @@ fn with_fault(c: Case, fault: u32) -> Case
     d
 }
 
-// What a fault current tells, for the case's fixed parts.
+// What a fault current shows, for the case's fixed parts.
 fn ask(c: Case, fixed: Fixed, fault: u32) -> Told
     requires { ⌜ Bounds c ⌝ }
     requires { ⌜ fixed ≡ fixedOf c ⌝ }

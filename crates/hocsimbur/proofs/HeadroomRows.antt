@@ -1,4 +1,5 @@
--- The headroom of a case, of the answers of `row`: a fault current in range is answered safe if and only if it is at most the headroom.
+-- §6.6: the headroom of a case, for the answers of `row`: a fault current in range is answered safe if and only if it is at most the
+-- headroom.
 use Prim.Native.Nat.{ℕ, _≤_}
 use mathlib.Core.{Path.{_≡_}, Logic.{_↔_}}
 use Rattle.case.specs.{declared.Case.{Case}, Fault.{withFault}}

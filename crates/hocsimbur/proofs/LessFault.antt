@@ -1,5 +1,5 @@
--- Request (n) of document 02, of the answers of `row`: where a case is answered safe, the same case with a lower fault current that is
--- itself in range is answered safe, and so never unsafe.
+-- §10.1, for the answers of `row`: where a case is answered safe, the same case with a lower fault current that is itself in range is
+-- answered safe, and so never unsafe.
 use Prim.Native.Nat.{_≤_}
 use mathlib.Core.Path.{_≡_}
 use native.Mathlib.Omega.{arith}

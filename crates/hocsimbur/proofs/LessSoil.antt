@@ -1,5 +1,5 @@
--- The driest soil decides, of the answers of `row`: of two cases that differ in soil alone, station and season aside, where the one with
--- the higher resistivity is answered safe the other is never answered unsafe.
+-- §10.3, for the answers of `row`: of two cases that differ in soil alone, apart from station and season, where the one with the higher
+-- resistivity is answered safe the other is never answered unsafe.
 use mathlib.Core.Path.{_≡_}
 use Rattle.case.specs.declared.Case.{Case}
 use Rattle.decision.specs.declared.Verdict.the-variants.{Safe, Unsafe}

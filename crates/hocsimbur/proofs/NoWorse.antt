@@ -1,5 +1,5 @@
--- No worse, of the answers of `row`: where a case is answered safe, a case that is no worse, all else equal, and itself in range is
--- answered safe.
+-- §10.2, for the answers of `row`: where a case is answered safe, a case that is no worse, all else equal, and itself in range is answered
+-- safe.
 use Prim.Native.Nat.{_≤_}
 use mathlib.Core.{Path.{_≡_, sym, subst, _∙_}, Logic.{_⊎_}}
 use native.Mathlib.Omega.{arith}

@@ -1,6 +1,5 @@
--- What is asked of one case as a record. Document 01, 'The result table': "Decrement factor (in thousandths), conductor size, tolerable
--- touch, tolerable step and resistance may each be asked alone, from a record, with the same checks.", as changed by requests (f) and (d)
--- of document 02.
+-- What is asked of one case as a record. §6.1, and §6.2: "Decrement factor (in thousandths), conductor size, tolerable touch, tolerable
+-- step and resistance may each be asked alone, from a record, with the same checks."
 use Prim.Native.Nat.{ℕ, _<_}
 use mathlib.Core.Path.{_≡_}
 use lib.IntN.{natAbs}
@@ -37,7 +36,7 @@ resistanceInRow c = rowOf c .resistance
 abbrev pub ResistanceAnswered : Case → Pair → Type 0
 ResistanceAnswered c = PairAnswered (R.resistance c) μΩ resistanceWidth resistanceInRow c
 
--- ---- request (d): "for one case the factor's ends are the same in the row, in the factor asked alone and in the size asked alone"
+-- ---- §6.2: "for one case the factor's ends are the same in the row, in the factor asked alone and in the size asked alone"
 
 -- the one name of the factor's ends: those in the case's row
 unfoldable pub factorInRow : Case → Interval
@@ -74,7 +73,7 @@ pub record SizeAnswered (c : Case) (r : SizeAnswer) : Type 0 where
   pub answer : r ≡ sizeAnswer c
   pub right : RightSize c r
 
--- ---- request (f): "The two separate questions are merged into one that gives both pairs of ends from one root."
+-- ---- §6.2: "The two separate questions are merged into one that gives both pairs of ends from one root."
 
 -- two pairs, touch first, or refusal 5 or 6 with line 0
 unfoldable pub tolerableAnswer : Case → Tolerable
@@ -101,7 +100,7 @@ pub record TolerableAnswered (c : Case) (r : Tolerable) : Type 0 where
 unfoldable pub rowAnswer : Case → RowAnswer
 rowAnswer c = recordAnswer row.Refused (row.Is (rowOf c)) (recordJudged c)
 
--- a row is right; of a refusal nothing is asked here
+-- a row is right; nothing is required of a refusal here
 unfoldable pub RightAnswer : Case → RowAnswer → Type 0
 RightAnswer c (row.Is r) = RightRow c r
 RightAnswer c (row.Refused number line column) = Unit {0}

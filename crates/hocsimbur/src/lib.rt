@@ -1,5 +1,5 @@
-// The operations offered to callers, in the order of document 01, and the types that they name. None has a condition on its arguments: what
-// breaks a rule is refused.
+// The operations offered to callers, in the order of the specification, and the types that they name. None has a condition on its
+// arguments: what breaks a rule is refused.
 pub use case::Case;
 use case::Judged;
 use case::judge;

@@ -1,4 +1,4 @@
--- What the methods of an interval give: the exact ends, rounded outward.
+-- §5.2: what the methods of an interval give: the exact ends, rounded outward.
 use Prim.Native.Nat.{ℕ, _+_, _≤_, max}
 use lib.{IntN.{ℤ, pos, natAbs, negℤ, _+ℤ_, _-ℤ_, _*ℤ_}, Signed.{_≤ℤ_}}
 use Rattle.whole.specs.{Signed.{plus, minus}, Whole.{floorZ, ceilZ, minZ, maxZ}}
@@ -22,11 +22,11 @@ sumOf a b = record { lower = a .lower +ℤ b .lower; upper = a .upper +ℤ b .up
 unfoldable pub differenceOf : Interval → Interval → Interval
 differenceOf a b = record { lower = a .lower -ℤ b .upper; upper = a .upper -ℤ b .lower }
 
--- minus a: the ends are turned round
+-- minus a: the ends are exchanged
 unfoldable pub minusOf : Interval → Interval
 minusOf a = record { lower = negℤ (a .upper); upper = negℤ (a .lower) }
 
--- z · a: below 0 the ends are turned round
+-- z · a: below 0 the ends are exchanged
 unfoldable pub timesOf : ℤ → Interval → Interval
 timesOf z a = record { lower = minZ (z *ℤ a .lower) (z *ℤ a .upper); upper = maxZ (z *ℤ a .lower) (z *ℤ a .upper) }
 

@@ -1,4 +1,4 @@
--- Where the product of two pairs over a divisor is worked within 64 bits.
+-- When the product of two pairs over a divisor is computed within 64 bits.
 use Prim.Native.Nat.{ℕ, _≤_}
 use mathlib.Core.Path.{_≡_}
 use Rattle.whole.specs.Wide.{WideFits}

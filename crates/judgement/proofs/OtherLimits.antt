@@ -1,4 +1,4 @@
--- A sheet that is accepted within some limits, judged within others: request (h) of document 02.
+-- A sheet that is accepted within some limits, judged within others (§1.5).
 use Prim.Native.Nat.{ℕ, _+_, _≤_, _<_}
 use mathlib.Core.{Path.{_≡_, _∙_}, Bool.{cond, or-false}, List.{List}}
 use native.Mathlib.Omega.{arith}

@@ -87,7 +87,7 @@ pub values-are : (s : List ℕ) (e r : ℕ) → badText today s ≡ false → e 
 unfolding valueLines
 values-are s e r b ends k = rw (line-turn s e r (text-some s b) ends k)
 
--- a store for the most value lines has room for those of any sheet
+-- a store for as many value lines as a sheet may have has room for those of any sheet
 pub most-room : {form : Form} {lines : List (List ℕ)} (store : List ℕ) → length form * mostLines ≤ length store → Room form lines store
 most-room {form} store h = record { enough = λ f m. le-trans (mul-le-mul-left (length form) m) h }
 

@@ -1,4 +1,4 @@
--- What holds of a sheet that is judged to have n value lines within some limits: proved in proofs/Accepted.antt.
+-- What holds of a sheet that is judged to have n value lines within some limits (§1.1–§1.6): proved in proofs/Accepted.antt.
 use Prim.Native.Nat.{ℕ, _-_, _≤_, _<_}
 use mathlib.Core.{Path.{_≡_}, Bool.{false}, List.{List, []}}
 use lib.ListN.{length, getD}

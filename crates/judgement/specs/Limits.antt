@@ -1,17 +1,16 @@
--- The limits of a sheet: its bytes and its value lines.
+-- §1.5: the limits of a sheet: its bytes and its value lines.
 use Prim.Native.Nat.{ℕ}
 
--- the most bytes and the most value lines of a sheet
+-- the greatest number of bytes and of value lines of a sheet
 pub record Limits : Type 0 where
   pub bytes : ℕ
   pub lines : ℕ
 
--- Document 01, 'The sheet': "A sheet has 1 to 64 value lines and at most 16,384 bytes."
--- These are the limits of the "programs sold earlier for the same columns" of request (h) of document 02.
+-- "A sheet has 1 to 64 value lines and at most 16,384 bytes.": the limits of the "programs sold earlier for the same columns".
 abbrev pub earlier : Limits
 earlier = record { bytes = 16384; lines = 64 }
 
--- Request (h) of document 02: "Raise the limit to 256 value lines and the sheet to 65,536 bytes."
+-- "Raise the limit to 256 value lines and the sheet to 65,536 bytes."
 abbrev pub today : Limits
 today = record { bytes = 65536; lines = 256 }
 

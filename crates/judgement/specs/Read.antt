@@ -1,4 +1,4 @@
--- What reading a sheet promises: its judgement, and where it counts value lines, their values in a store.
+-- What reading a sheet promises: its judgement (§2.2), and where it counts value lines, their values in a store.
 use Prim.Native.Nat.{ℕ, _*_, _≤_, _<_}
 use mathlib.Core.{Path.{_≡_}, List.{List, []}}
 use lib.ListN.{length, getD}
@@ -15,7 +15,7 @@ use Rattle.judgement.specs.Sheet.{names, valueLines, linesJudgement, val
 abbrev pub Stored : Form → List ℕ → List (List ℕ) → List ℕ → Type 0
 Stored form at lines store = (i : ℕ) → i < length lines → partAt (length form) store i ≡ lineValues at (fieldsOf (getD lines i []))
 
--- a store has room for the values of some lines, or of the most that a sheet may have
+-- a store has room for the values of some lines, or of as many as a sheet may have
 pub record Room (form : Form) (lines : List (List ℕ)) (store : List ℕ) : Type 0 where
   pub enough : {n : ℕ} → n ≤ length lines → n ≤ mostLines → length form * n ≤ length store
 

@@ -1,18 +1,17 @@
--- Refusals 1 to 7: number, line and column. Document 01, 'The result table'.
+-- Refusals 1 to 7: number, line and column. §2.1.
 use Prim.Native.Nat.{ℕ, _+_}
 use Rattle.line_finding.specs.declared.LineFinding.{LineFinding, the-variants.{Sound, Form, OutOfRange, Disagreement, Repeated}}
 use Rattle.judgement.specs.{declared.Judgement.{the-variants.{Refused}, Judgement}, Limits.{Limits}}
 
--- "sheet empty, over 16,384 bytes, or last byte not 10", as changed by request (h) of document 02: over 65,536 bytes
+-- "sheet empty, over 16,384 bytes, or last byte not 10"; today over 65,536 bytes (§1.5)
 unfoldable pub textRefused : Judgement
 textRefused = Refused 1 0 0
 
--- "name unknown, or the same as one further left; or fewer than 18 names (first missing column)", 22 by requests (a),
--- (c) and (d) of document 02
+-- "name unknown, or the same as one further left; or fewer than 18 names (first missing column)"; today 22
 unfoldable pub nameRefused : ℕ → Judgement
 nameRefused column = Refused 2 1 column
 
--- "no value line (line 2), or more than 64 (line 66)", as changed by request (h) of document 02: more than 256 (line 258)
+-- "no value line (line 2), or more than 64 (line 66)"; today more than 256 (line 258)
 unfoldable pub noLineRefused : Judgement
 noLineRefused = Refused 4 2 0
 

@@ -1,5 +1,5 @@
--- The judgement of every sheet of a form within some limits: the count of its value lines, or a refusal. Document 01, 'The result table':
--- "The order is 1, 2, 4; then line by line 3, 5, 6, 7".
+-- The judgement of every sheet of a form within some limits: the count of its value lines, or a refusal. §1.1, §2.2: "The order is 1, 2, 4;
+-- then line by line 3, 5, 6, 7".
 use Prim.Native.Nat.{ℕ, suc, _-_}
 use mathlib.Core.{Bool.{Bool, cond, not, _||_}, List.{List, [], _∷_}}
 use lib.{ListN.{length, getD, drop}, Dec.{ltb, eqb}}
@@ -18,7 +18,7 @@ names s = fieldsOf (getD (linesOf s) 0 [])
 unfoldable pub valueLines : List ℕ → List (List ℕ)
 valueLines s = drop 1 (linesOf s)
 
--- "sheet empty, over 16,384 bytes, or last byte not 10", as changed by request (h) of document 02: over 65,536 bytes
+-- "sheet empty, over 16,384 bytes, or last byte not 10"; today over 65,536 bytes (§1.5)
 unfoldable pub badText : Limits → List ℕ → Bool
 badText limits s = eqb (length s) 0 || ltb (limits .bytes) (length s) || not (eqb (getD s (length s - 1) 0) 10)
 

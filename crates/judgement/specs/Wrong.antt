@@ -1,4 +1,4 @@
--- The fields of a value line in words: the right form, and what is wrong with it. Document 01, 'The sheet' and 'The result table'.
+-- The fields of a value line in words: the right form, and what is wrong with it. §1.3, §2.1.
 use Prim.Native.Nat.{ℕ, _+_, _≤_, _<_}
 use mathlib.Core.{Path.{_≡_}, Bool.{true, false}, List.{List}}
 use lib.ListN.{length}

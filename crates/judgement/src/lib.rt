@@ -26,7 +26,7 @@ pub const LINES: usize = 256;
 
 pub const BYTES: usize = 65536;
 
-// The numbers of a store for the most value lines of today's form.
+// The numbers of a store for as many value lines of today's form as a sheet may have.
 pub const VALUES: usize = LINES * NAMES;
 
 // The line named where there are too many.
@@ -129,7 +129,7 @@ pub fn read_within(form: Form, s: &[u8], values: &mut [u32]) -> Judgement
     }
 }
 
-// The same with a store for the most value lines.
+// The same with a store for as many value lines as a sheet may have.
 pub fn read(form: Form, s: &[u8], values: &mut [u32]) -> Judgement
     requires { ⌜ length (formOf form) * mostLines ≤ length (now values) ⌝ }
     ensures { λ r. ⌜ Read (formOf form) (now (s .entry)) (now (values .entry)) (now (values .exit)) r ⌝ }

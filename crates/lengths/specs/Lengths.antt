@@ -1,4 +1,4 @@
--- The lengths of document 01's 'The formulas' and of request (c) of document 02 in whole millimetres.
+-- The lengths of §4.1 in whole millimetres.
 use Prim.Native.Nat.{ℕ, _+_, _-_, _*_}
 use Rattle.case.specs.declared.Case.{Case}
 

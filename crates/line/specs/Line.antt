@@ -1,4 +1,4 @@
--- A value line: its form, its values and its case. Document 01, 'The sheet' and 'The result table'.
+-- A value line: its form, its values and its case. §1.1, §1.3, §2.1.
 use Prim.Native.Nat.{ℕ, suc, _-_}
 use mathlib.Core.{Bool.{cond, _&&_}, List.{List, [], _∷_, map}}
 use lib.{ListN.{getD}, Dec.{leb}}

@@ -1,4 +1,4 @@
--- What the parts of reading a value line promise.
+-- §1.1, §1.3: what the parts of reading a value line promise.
 use Prim.Native.Nat.{ℕ, _+_, _≤_, _<_}
 use mathlib.Core.{Path.{_≡_}, List.{List, map}}
 use lib.ListN.{length, getD}

@@ -1,4 +1,4 @@
--- What the checks of a value line find. Document 01, 'The result table'.
+-- What the checks of a value line find. §1.6, §2.1, §2.2.
 use Prim.Native.Nat.{ℕ}
 use mathlib.Core.{Bool.{Bool, false, cond, _&&_, _||_}, List.{List, [], _∷_}}
 use lib.{Dec.{eqb}, ListN.{length}}

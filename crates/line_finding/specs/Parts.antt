@@ -1,4 +1,4 @@
--- What the checks of a value line promise.
+-- §1.6, §2.2: what the checks of a value line promise.
 use Prim.Native.Nat.{ℕ, zero, suc, _+_, _*_, _/_, _%_, _^_, _≤_, _<_}
 use mathlib.Core.{Path.{_≡_}, Bool.{Bool, false, _||_}, List.{List, [], _∷_}}
 use lib.{Dec.{eqb}, ListN.{length, getD}}

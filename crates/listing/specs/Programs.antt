@@ -1,4 +1,4 @@
--- What each program prints of its standard input.
+-- What each program prints of its standard input; `verdict`: §3.3.
 use Prim.Native.Nat.{ℕ}
 use mathlib.Core.List.{List}
 use Rattle.case.specs.declared.Form.the-variants.{Present, Former}

@@ -32,7 +32,7 @@ const FIELD: usize = 22;
 // The bytes of the longest line of names, that of the rows.
 const NAMES: usize = 352;
 
-// No text of any program is longer: a line of names, and the fields of a row for each of the most value lines.
+// No text of any program is longer: a line of names, and the fields of a row for each of as many value lines as a sheet may have.
 pub const TEXT: usize = NAMES + LINES * (FIELD * ROW_LENGTH);
 
 // The text of a program in a buffer with room for the longest.

@@ -1,5 +1,5 @@
--- The logarithm asked alone. Document 01, 'What exact means': "The logarithm is answered as a pair in signed billionths that holds the
--- exact value, at most 2,000 apart. It may be asked alone, of a fraction of two whole numbers from 1 to 10^15".
+-- The logarithm asked alone. §6.3: "The logarithm is answered as a pair in signed billionths that holds the exact value, at most 2,000
+-- apart. It may be asked alone, of a fraction of two whole numbers from 1 to 10^15".
 use Prim.Native.Nat.{ℕ}
 use mathlib.Core.{Path.{_≡_}, Bool.{Bool, cond, _&&_}}
 use lib.Dec.{leb}
@@ -7,7 +7,7 @@ use Rattle.exact.specs.{Fraction.{Fraction, whole, decimal, _÷f_}, Logarithm.{
 use Rattle.interval.specs.declared.Pair.{Pair, the-variants.{Ends, Refused}}
 use Rattle.logarithm.specs.Ends.{most, lnEnds}
 
--- request (j) of document 02: "The logarithm's ends must be at most 200 billionths apart"
+-- "The logarithm's ends must be at most 200 billionths apart"
 unfoldable pub width : Fraction
 width = decimal 200 9
 

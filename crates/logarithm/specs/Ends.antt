@@ -1,4 +1,4 @@
--- The ends of ln (p/q) in billionths, by whole numbers alone.
+-- §5.5, §6.3: the ends of ln (p/q) in billionths, by whole numbers alone.
 use Prim.Native.Nat.{ℕ, _+_, _-_, _*_, _/_, _^_, _≤_}
 use mathlib.Core.Bool.{cond}
 use lib.{Dec.{ltb}, IntN.{natAbs}}

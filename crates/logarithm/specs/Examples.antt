@@ -1,4 +1,4 @@
--- The definitions at small numbers, computed.
+-- The logarithm (§6.3) at small numbers, computed.
 use Prim.Native.Nat.{ℕ}
 use mathlib.Core.Path.{_≡_, refl}
 use lib.{Dec.{lit≤}, IntN.{pos, negsuc}}

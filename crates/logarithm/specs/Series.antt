@@ -1,4 +1,5 @@
--- The logarithm's series in whole numbers of one unit, 2^−33. `up` is 0 where each step is rounded down, and 1 where it is rounded up.
+-- §5.5: the logarithm's series in whole numbers of one unit, 2^−33. `up` is 0 where each step is rounded down, and 1 where it is rounded
+-- up.
 use Prim.Native.Nat.{ℕ, zero, suc, _+_, _*_, _/_}
 
 -- how many units make one: 2^33

@@ -1,5 +1,5 @@
--- How the split is worked within 64 bits: a root by decimal digits. A root is a whole number and the rest that its square times the
--- injected square leaves.
+-- How the split (§9.2) is computed within 64 bits: a root by decimal digits. A root is a whole number and the remainder that its square
+-- times the injected square leaves.
 use Prim.Native.Nat.{ℕ, _+_, _*_, _^_, _≤_, _<_}
 use mathlib.Core.Path.{_≡_}
 use Rattle.long_root.specs.declared.Root.{Root}

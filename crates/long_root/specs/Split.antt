@@ -1,4 +1,4 @@
--- The split by the squares of grid current and injected current. Request (l) of document 02.
+-- The split by the squares of grid current and injected current. §9.2.
 use Prim.Native.Nat.{ℕ, zero, suc, _*_}
 use mathlib.Core.Bool.{Bool, cond}
 use lib.Dec.{leb}

@@ -1,11 +1,11 @@
--- Margins worked by hand.
+-- Margins (§6.5) computed by hand.
 use mathlib.Core.{Path.{_≡_, refl}, List.{List, [], _∷_}}
 use lib.IntN.{ℤ, pos, negsuc}
 use Rattle.whole.specs.Whole.{ceilDiv}
 use Rattle.margin.specs.{declared.Compared.the-variants.{Margins, None}, Margin.{margin, inRange, comparable, fourMargins, marginsOf}}
 
--- document 01's sample, seasons 1 and 2: 22.3 percent above and 68.2 below; then at the limit, one mV above it, one below, nothing, twice
--- as much
+-- the sample (§3.3), seasons 1 and 2: 22.3 percent above and 68.2 below; then at the limit, one mV above it, one below, nothing, twice as
+-- much
 pub worked : margin 1027841 840547 ∷ margin 256960 809960 ∷ margin 840547 840547 ∷ margin 840548 840547 ∷ margin 840546 840547
     ∷ margin 0 840547 ∷ margin 2000 1000 ∷ []
     ≡ pos 223 ∷ negsuc 681 ∷ pos 0 ∷ pos 1 ∷ pos 0 ∷ negsuc 999 ∷ pos 1000 ∷ []

@@ -1,5 +1,5 @@
--- How far a voltage lies above what is tolerable, in tenths of a percent of the tolerable voltage, from the ends on the cautious side: the
--- voltage's upper end and the tolerable voltage's lower end.
+-- §6.5: how far a voltage lies above what is tolerable, in tenths of a percent of the tolerable voltage, from the ends on the cautious
+-- side: the voltage's upper end and the tolerable voltage's lower end.
 use Prim.Native.Nat.{ℕ, _*_, _^_}
 use mathlib.Core.{Bool.{Bool, cond, _&&_}, List.{List}}
 use lib.{Dec.{eqb}, IntN.{ℤ, pos, natAbs, _-ℤ_}, ListN.{getD, length}, Signed.{leZ}}

@@ -1,4 +1,4 @@
--- What the margins of a case's row say of the exact values and of the verdict.
+-- §6.5: what the margins of a case's row say of the exact values and of the verdict.
 use Prim.Native.Nat.{ℕ, _+_, _*_, _≤_, _<_}
 use mathlib.Core.Path.{_≡_}
 use native.Mathlib.Nat.{zero-lt-suc}

@@ -31,7 +31,7 @@ fn in_range(low: i64, z: i64) -> bool
     (low <= z) & (z <= MOST)
 }
 
-// Whether a voltage and a tolerable one are in the range in which margins are told; those of every row are.
+// Whether a voltage and a tolerable one are in the range for which margins are reported; those of every row are.
 fn comparable(voltage: i64, tolerable: i64) -> bool
     ensures { λ r. ⌜ r ≡ comparableEnds voltage tolerable ⌝ }
 {

@@ -1,4 +1,4 @@
--- The fewest lines for the case of a sheet's one value line and a side.
+-- §6.7: the fewest lines for the case of a sheet's one value line and a side.
 use Prim.Native.Nat.{ℕ}
 use mathlib.Core.{Path.{_≡_}, List.{List}}
 use Rattle.case.specs.declared.Case.{Case}

@@ -1,4 +1,4 @@
--- Sheets of one value line, judged: a case whose unread values are out of range, and what is refused first.
+-- §6.7: sheets of one value line, judged: a case whose unread values are out of range, and what is refused first.
 use Prim.Native.Nat.{ℕ}
 use mathlib.Core.{Path.{_≡_, refl}, List.{List, [], _∷_, _++_, map}}
 use Rattle.text.specs.{Text.{bytes, onFirst, linesOf, fieldsOf, same}, Value.{digit, digits, plain, isValue}}

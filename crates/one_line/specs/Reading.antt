@@ -1,4 +1,4 @@
--- What reading a sheet of one value line promises: its judgement, and where that is sound, the values of its line.
+-- §6.7: what reading a sheet of one value line promises: its judgement, and where that is sound, the values of its line.
 use Prim.Native.Nat.{ℕ}
 use mathlib.Core.{Path.{_≡_}, List.{List, []}}
 use lib.ListN.{length, getD}

@@ -1,6 +1,6 @@
--- A sheet of one value line, from which the search for the fewest lines takes its case. Document 02 (k): "The case's own counts, spacing,
--- rods and place are not read, nor compared with rodlen; its other values follow document 01's checks for one case". So of the checks of a
--- sheet those of its text, names, count of lines and form come first, and 5 and 6 are left to the search.
+-- A sheet of one value line, from which the search for the fewest lines takes its case. §6.7: "The case's own counts, spacing, rods and
+-- place are not read, nor compared with rodlen; its other values follow document 01's checks for one case". So the sheet's checks of text,
+-- names, count of lines and form come first, and 5 and 6 are left to the search.
 use Prim.Native.Nat.{ℕ}
 use mathlib.Core.{Bool.{cond}, List.{List, []}}
 use lib.{Dec.{eqb, ltb}, ListN.{length, getD}}

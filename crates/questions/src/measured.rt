@@ -54,7 +54,7 @@ fn sound(v: &[u32], count: usize) {
     }
 }
 
-// The soil of some readings: `unknown` where the fields are no list of 32-bit numbers.
+// The soil of some readings: `unknown` where the fields are not a list of 32-bit numbers.
 pub fn ask_soil(fields: &[u8]) {
     let mut v = [0i64; READINGS];
     let mut words = [0u32; READINGS];
@@ -92,7 +92,7 @@ fn divide(v: &[i64], count: usize) {
     }
 }
 
-// The split of a staged test: `unknown` where the fields are no list of numbers.
+// The split of a staged test: `unknown` where the fields are not a list of numbers.
 pub fn ask_split(fields: &[u8]) {
     let mut v = [0i64; PARTS];
     let list = read(fields, 0 - LARGEST_PART, LARGEST_PART, &mut v);

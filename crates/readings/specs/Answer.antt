@@ -1,10 +1,10 @@
--- What is promised of the answer to every list of numbers.
+-- §9.1: what is promised of the answer to every list of readings.
 use Prim.Native.Nat.{ℕ}
 use mathlib.Core.{Path.{_≡_}, List.{List}}
 use Rattle.readings.specs.{declared.Sounding.{Sounding, the-variants.{Soil, Refused}}, Reading.{Reading, pairsOf}, Refusal.{answerOf}}
 use Rattle.readings.specs.{Report.{RightReport}, Ends.{reportOf}}
 
--- a report is right; of a refusal nothing is asked here
+-- a report is right; nothing is required of a refusal here
 unfoldable pub RightAnswer : List Reading → Sounding → Type 0
 RightAnswer ps (Soil r) = RightReport ps r
 RightAnswer ps (Refused number line column) = Unit {0}

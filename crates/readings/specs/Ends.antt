@@ -1,4 +1,4 @@
--- The ends that the code works, by whole numbers. Names for the free part: callers use what holds of them.
+-- §9.1: the ends that the code computes, by whole numbers. These name the free part of the answers: callers use only their laws.
 use Prim.Native.Nat.{ℕ, _+_, _*_, _/_, _^_, min, max}
 use mathlib.Core.List.{List, [], _∷_}
 use lib.{IntN.{pos}, ListN.{length}}

@@ -1,4 +1,4 @@
--- The definitions at small numbers, computed.
+-- Soil from readings (§9.1) at small numbers, computed.
 use Prim.Native.Nat.{ℕ}
 use mathlib.Core.{Path.{_≡_, refl}, Bool.{true, false}, List.{List, [], _∷_, map}}
 use native.Mathlib.Decide.{decLe}

@@ -1,5 +1,5 @@
--- The limits of document 02 (g): "a probe distance a in mm (500..50,000) and a resistance R in milliohms (1..1,000,000)", and "when the
--- count of numbers is 0, odd or above 128".
+-- The limits of §9.1: "a probe distance a in mm (500..50,000) and a resistance R in milliohms (1..1,000,000)", and "when the count of
+-- numbers is 0, odd or above 128".
 use Prim.Native.Nat.{ℕ}
 use mathlib.Core.Bool.{Bool, _&&_}
 use lib.Dec.{leb}

@@ -1,5 +1,5 @@
--- Four-pin readings. Document 02 (g): "They hand in pairs, a probe distance a in mm (500..50,000) and a resistance R in milliohms
--- (1..1,000,000), as 32-bit numbers."
+-- Four-pin readings. §9.1: "They hand in pairs, a probe distance a in mm (500..50,000) and a resistance R in milliohms (1..1,000,000), as
+-- 32-bit numbers."
 use Prim.Native.Nat.{ℕ}
 use mathlib.Core.List.{List, [], _∷_}
 

@@ -1,5 +1,5 @@
--- What a report is. Document 02 (g): "The report gives the ends of the least, the greatest and the mean over all pairs in micro-ohm metres,
--- at most 1/1,000,000 of the lower end plus 2 apart, and the upper mean rounded up to whole ohm metres for the soil column."
+-- What a report is. §9.1: "The report gives the ends of the least, the greatest and the mean over all pairs in micro-ohm metres, at most
+-- 1/1,000,000 of the lower end plus 2 apart, and the upper mean rounded up to whole ohm metres for the soil column."
 use Prim.Native.Nat.{ℕ}
 use mathlib.Core.{Path.{_≡_}, List.{List}}
 use lib.IntN.{natAbs}
@@ -21,7 +21,7 @@ width A = decimal 1 6 ·f A .lower +f decimal 2 6
 unfoldable pub soilOf : Interval → ℕ
 soilOf mean = ceilDiv (natAbs (mean .upper)) (μΩm .count)
 
--- "A mean outside that column's range is still reported": nothing is asked of the soil but this
+-- "A mean outside that column's range is still reported": nothing else is required of the soil
 pub record RightReport (ps : List Reading) (r : Report) : Type 0 where
   pub least : Reports (Resistivity.least ps) μΩm width (r .least)
   pub greatest : Reports (Resistivity.greatest ps) μΩm width (r .greatest)

@@ -1,5 +1,5 @@
--- The apparent resistivity of a pair, and its least, greatest and mean over a list, as exact values in ohm metres. Document 02 (g): "The
--- apparent resistivity is 2π·a·R. The report gives the ends of the least, the greatest and the mean over all pairs".
+-- The apparent resistivity of a pair, and its least, greatest and mean over a list, as exact values in ohm metres. §9.1: "The apparent
+-- resistivity is 2π·a·R. The report gives the ends of the least, the greatest and the mean over all pairs".
 use mathlib.Core.List.{List, [], _∷_}
 use lib.ListN.{length}
 use Rattle.exact.specs.{Fraction.{whole, decimal, minf, maxf}, Exact.{Exact, exactly, _+x_, _·x_, _÷x_}, Pi.{π}}
@@ -16,7 +16,7 @@ lesser x y k = record { lower = minf (x k .lower) (y k .lower); upper = minf (x 
 unfoldable pub greater : Exact → Exact → Exact
 greater x y k = record { lower = maxf (x k .lower) (y k .lower); upper = maxf (x k .upper) (y k .upper) }
 
--- the values of all pairs taken together, two by two; of no pair it means nothing
+-- the values of all pairs taken together, two by two; of no pair it has no meaning
 unfoldable pub together : (Exact → Exact → Exact) → List Reading → Exact
 together op [] = exactly (whole 0)
 together op (p ∷ []) = apparent p

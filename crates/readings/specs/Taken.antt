@@ -1,4 +1,4 @@
--- What follows from the limits for a list that is not refused.
+-- What follows from the limits (§9.1) for a list that is not refused.
 use Prim.Native.Nat.{ℕ, _*_, _/_, _≤_}
 use mathlib.Core.List.{List, [], _∷_}
 use lib.ListN.{length}

@@ -1,4 +1,4 @@
-// Soil resistivity from four-pin readings: document 02 (g). Knows nothing of sheets.
+// Soil resistivity from four-pin readings (§9.1). Knows nothing about sheets.
 mod outside;
 mod products;
 

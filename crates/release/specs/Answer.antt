@@ -1,4 +1,4 @@
--- The answer to a sheet, a licence and a table, and what it leaves in the table: one claim over every three of them.
+-- §7.2: the answer to a sheet, a licence and a table, and what it leaves in the table: one claim over every three of them.
 use Prim.Native.Nat.{ℕ, _*_}
 use mathlib.Core.{Path.{_≡_}, Bool.{cond}, List.{List, []}}
 use lib.{Dec.{ltb}, IntN.{ℤ}, ListN.{length, getD}}

@@ -1,4 +1,5 @@
--- The checks of a licence by the index of an entry: number 3k is its station, number 3k + 1 its seasons, number 3k + 2 its cross-section.
+-- §7.2: the checks of a licence by the index of an entry: number 3k is its station, number 3k + 1 its seasons, number 3k + 2 its
+-- cross-section.
 use Prim.Native.Nat.{ℕ, zero, suc, _+_, _*_}
 use mathlib.Core.{Bool.{cond}, List.{List, [], _∷_}}
 use lib.ListN.{getD}

@@ -1,4 +1,4 @@
--- The eight numbers of an entry of the licence.
+-- §7.2: the eight numbers of an entry of the licence.
 use Prim.Native.Nat.{ℕ}
 use mathlib.Core.{Bool.{cond}, List.{List, [], _∷_, map}}
 use lib.{Dec.{eqb}, IntN.{ℤ, pos}}

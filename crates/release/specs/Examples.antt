@@ -1,4 +1,4 @@
--- The licence's answer, the lines of a station and the seasons without a line computed.
+-- §7.2: the licence's answer, the lines of a station and the seasons without a line, computed.
 use Prim.Native.Nat.{ℕ}
 use mathlib.Core.{Path.{_≡_, refl}, List.{List, [], _∷_, map}}
 use Rattle.whole.specs.Count.{one}
@@ -42,7 +42,7 @@ right : map (λ e. licenceAnswer (e .licence) (e .room)) examples ≡ map (λ e.
 unfolding examples entriesOf badCount among wrongStation wrongSeasons wrongArea firstWrong roomAnswer afterEntries licenceAnswer
 right = refl
 
--- document 01's sample station in seasons 1 and 2, and another station
+-- the sample's station (§3.3) in seasons 1 and 2, and another station
 abbrev line : ℕ → ℕ → ℕ → Case
 line station season depth =
     caseOf (station ∷ season ∷ 400 ∷ 2500 ∷ 102 ∷ 500 ∷ 500 ∷ 500 ∷ 70 ∷ 3180 ∷ 600 ∷ 10 ∷ 11 ∷ 11 ∷ 7000 ∷ depth ∷ 100 ∷ 0 ∷ 0 ∷ 0 ∷ 1 ∷ 60

@@ -1,4 +1,5 @@
--- What the eight numbers say of the sheet, in words of its lines and of exact values: proofs/ReleasedStations.antt shows that it holds.
+-- §7.2: what the eight numbers say of the sheet, in words of its lines and of exact values: proofs/ReleasedStations.antt shows that it
+-- holds.
 use Prim.Native.Nat.{ℕ, _+_, _*_, _≤_, _<_}
 use mathlib.Core.{Path.{_≡_}, Bool.{true}, List.{List, []}}
 use lib.{IntN.{ℤ, pos, natAbs}, ListN.{length, getD}}

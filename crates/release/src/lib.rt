@@ -58,7 +58,7 @@ fn release_lines<'a>(values: &'a [u32], n: usize, licence: &'a [u32], table: &mu
     }
 }
 
-// The same from the sheet, by way of a store for the values of the most lines.
+// The same from the sheet, through a store with room for the values of as many lines as a sheet may have.
 fn release_by<'a>(
     s: &'a [u8],
     licence: &'a [u32],

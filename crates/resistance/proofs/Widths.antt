@@ -1,4 +1,4 @@
--- The resistance's and the potential rise's ends are no further apart than document 01 allows.
+-- The resistance's and the potential rise's ends are no further apart than §5.8 allows.
 use Prim.Native.Nat.{ℕ, _+_, _*_, _/_, _≤_, _<_}
 use native.Mathlib.{Omega.{arith}, Nat.{mul-le-mul-right}}
 use lib.Dec.{lit<}

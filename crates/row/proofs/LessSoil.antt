@@ -1,5 +1,5 @@
--- The driest soil decides, by the exact values: were the case with the lower resistivity unsafe, one of its voltages would be above what is
--- tolerable at some depth, and so with the higher resistivity.
+-- §10.3, by the exact values: were the case with the lower resistivity unsafe, one of its voltages would be above what is tolerable at some
+-- depth, and so with the higher resistivity.
 use Prim.Native.Nat.{ℕ, _≤_}
 use mathlib.Core.{Path.{_≡_, sym, ap, _∙_}, Logic.{⊎-elim}}
 use Rattle.case.specs.{declared.Case.{Case}, Bounds.{Bounds}, Key.{underKey}, Soil.{withSoil}}

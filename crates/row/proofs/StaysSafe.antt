@@ -1,4 +1,4 @@
--- Less fault current, all else equal, is no worse, so a safe yard stays safe and is never answered unsafe.
+-- §10.1: less fault current, all else equal, is no worse, so a safe yard stays safe and is never answered unsafe.
 use mathlib.Core.Path.{_≡_, ap, _∙_}
 use native.Mathlib.{Omega.{arith}, Nat.{mul-le-mul-right}}
 use Rattle.case.specs.{declared.Case.{Case}, Bounds.{Bounds}}

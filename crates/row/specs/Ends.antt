@@ -1,4 +1,4 @@
--- The row of a case by the names of its ends: the free part of a row has a name for each pair.
+-- §3.1: the row of a case by the names of its ends: the free part of a row has a name for each pair.
 use lib.IntN.{pos}
 use Rattle.case.specs.declared.Case.{Case}
 use Rattle.formulas.specs.Size as Size

@@ -1,4 +1,4 @@
--- The verdict and the numbers of a row, computed. Document 01, 'What exact means' and 'The result table'.
+-- The verdict (§3.2) and the numbers of a row (§3.1), computed.
 use Prim.Native.Nat.{ℕ}
 use mathlib.Core.{Path.{_≡_, refl}, List.{[], _∷_}}
 use lib.IntN.{pos}

@@ -1,4 +1,4 @@
--- The parts of a row that decide its verdict, by the names of their ends.
+-- §3.2: the parts of a row that decide its verdict, by the names of their ends.
 use Rattle.case.specs.declared.Case.{Case}
 use Rattle.tolerable.specs.Ends.{touchEnds, stepEnds}
 use Rattle.decrement.specs.Ends.{factorEnds}

@@ -1,4 +1,4 @@
--- Places in a row of the numbers that are read from it again, by the order of `numbers`.
+-- §3.1: places in a row of the numbers that are read from it again, by the order of `numbers`.
 use Prim.Native.Nat.{ℕ}
 
 abbrev pub stationPlace : ℕ

@@ -1,5 +1,5 @@
--- What a right row is. Document 01, 'The result table' and 'What exact means', and request (d) of document 02.
--- The eight pairs of ends are the free part of a row: the rules bind each by exactness and width. All else is an equation.
+-- What a right row is. §3.1, §3.2, §5.7, §5.8. The eight pairs of ends are the free part of a row: the rules bind each by exactness and
+-- width. All else is an equation.
 use Prim.Native.Nat.{ℕ}
 use mathlib.Core.{Path.{_≡_, refl}, Logic.{_⊎_}, List.{List, [], _∷_}}
 use lib.{IntN.{ℤ, pos, natAbs}, ListN.{length}}
@@ -40,12 +40,12 @@ pub record RightRow (c : Case) (r : Row) : Type 0 where
   pub unsafe-true : verdictOf r ≡ Unsafe
       → Above (Mesh.mesh c) (Tolerable.tolerableTouch c) ⊎ Above (Step.step c) (Tolerable.tolerableStep c)
 
--- request (d): "A row has 20 numbers"
+-- "A row has 20 numbers"
 abbrev pub rowLength : ℕ
 rowLength = 20
 
--- station, season, verdict by its number, size, then the lower and upper ends of the eight pairs; request (d): "after the grid current's
--- lower end stand its upper end and the factor's two ends"
+-- station, season, verdict by its number, size, then the lower and upper ends of the eight pairs; "after the grid current's lower end stand
+-- its upper end and the factor's two ends"
 unfoldable pub numbers : Row → List ℤ
 numbers r =
     r .station ∷ r .season ∷ pos (verdictNumber (r .verdict)) ∷ r .size

@@ -1,4 +1,4 @@
--- Texts worked by hand: rows of the sample of document 01 as each program prints them.
+-- Texts computed by hand: rows of the sample (§3.3) as each program prints them.
 use Prim.Native.Nat.{ℕ}
 use mathlib.Core.{Path.{_≡_, refl}, List.{[], _∷_, map}}
 use lib.IntN.{pos}
@@ -13,8 +13,8 @@ use Rattle.fields.specs.Listed.{listed}
 use Rattle.row_text.specs.{Verdict.{word, verdictNames, verdictFields}, Rows.{rowNames, rowFields}}
 use Rattle.row_text.specs.Margins.{marginNames, twoMargins, marginFields}
 
--- a row of station 7 with a season, a verdict and the size of document 01's sample, 17 since request (d) of document 02; its ends tell
--- the columns apart
+-- a row of station 7 with a season, a verdict and the sample's size, 17 kcmil by §4.3; its ends are different numbers, so that no two
+-- columns can be exchanged
 abbrev pub sampleRow : ℕ → Verdict → Row
 sampleRow season verdict =
     record {

@@ -1,4 +1,4 @@
--- How many bytes a text has at most: proved in proofs/Fits.antt.
+-- How many bytes a program's text has at most: proved in proofs/Fits.antt.
 use Prim.Native.Nat.{ℕ, _+_, _*_}
 use Rattle.judgement.specs.Limits.{mostLines}
 use Rattle.row.specs.Row.{rowLength}
@@ -11,6 +11,6 @@ fieldBytes = 22
 abbrev pub nameBytes : ℕ
 nameBytes = 352
 
--- a line of names, and twenty fields for each of the most value lines
+-- a line of names, and twenty fields for each of as many value lines as a sheet may have
 abbrev pub textRoom : ℕ
 textRoom = nameBytes + mostLines * (fieldBytes * rowLength)

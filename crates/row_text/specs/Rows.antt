@@ -1,4 +1,4 @@
--- What the rows program prints of a row: all its numbers, below a line of names with units.
+-- §3.1: what the rows program prints of a row: all its numbers, below a line of names with units.
 use Prim.Native.Nat.{ℕ}
 use mathlib.Core.List.{List, [], _∷_, map}
 use Rattle.text.specs.Text.{bytes}

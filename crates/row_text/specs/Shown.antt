@@ -1,5 +1,5 @@
--- What one loop writes of the rows of a table: fields of a row's numbers. That the texts of the programs are such lines is proved in
--- proofs/Texts.antt.
+-- What one loop writes of the rows of a table (§3.1): fields of a row's numbers. proofs/Texts.antt proves that the programs' texts are such
+-- lines.
 use Prim.Native.Nat.{ℕ}
 use mathlib.Core.List.{List, _∷_, _++_, map}
 use lib.{IntN.{ℤ, pos}, ListN.{length, getD, take}}

@@ -1,5 +1,5 @@
--- What the verdict program prints of a row. Document 01, 'Yards worked by hand': it "prints the header shown, then each row's station,
--- season, verdict (safe, unsafe or undecided) and kcmil".
+-- What the verdict program prints of a row. §3.3: it "prints the header shown, then each row's station, season, verdict (safe, unsafe or
+-- undecided) and kcmil".
 use Prim.Native.Nat.{ℕ}
 use mathlib.Core.List.{List, [], _∷_}
 use Rattle.text.specs.Text.{bytes}

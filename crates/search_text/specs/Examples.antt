@@ -1,4 +1,4 @@
--- Answers of a search and sides, worked by hand.
+-- Answers of a search (§6.7) and sides, computed by hand.
 use mathlib.Core.{Path.{_≡_, refl}, List.{[], _∷_}}
 use Rattle.text.specs.{Text.{bytes}, Value.{digit, digits, plain, isValue, numberFrom, valueOf, fieldValue}}
 use Rattle.writing.specs.{Decimal.{digitsIn, digitCount, lastDigits, decimal}, Text.{moreFields, parted, ended}}
@@ -11,7 +11,7 @@ found : searchText (Found 8 40 33) ∷ searchText (None 0) ∷ [] ≡ bytes "fou
 unfolding digitsIn digitCount lastDigits decimal moreFields parted ended numbered searchText
 found = refl
 
--- a side, and what is none: a 0 in front, seven digits
+-- a side, and what is not one: a 0 in front, seven digits
 sides : sideOf (fieldValue (bytes "70000")) ∷ sideOf (fieldValue (bytes "070000")) ∷ sideOf (fieldValue (bytes "1000000")) ∷ []
     ≡ 70000 ∷ 0 ∷ 0 ∷ []
 unfolding digit digits plain isValue numberFrom valueOf fieldValue sideOf

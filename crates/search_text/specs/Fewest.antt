@@ -1,6 +1,6 @@
--- What the fewest program prints of its input: a line with a square side in mm, then a sheet of one value line. Document 02 (k): "Given one
--- case and a square side in mm"; "The answer gives that yard's line and rod counts. None is answered only if no yard tried is safe. The
--- number of yards tried is reported".
+-- What the fewest program prints of its input: a line with a square side in mm, then a sheet of one value line. §6.7: "Given one case and a
+-- square side in mm"; "The answer gives that yard's line and rod counts. None is answered only if no yard tried is safe. The number of
+-- yards tried is reported".
 use Prim.Native.Nat.{ℕ, suc, _+_}
 use mathlib.Core.{Bool.{cond}, List.{List, [], _∷_}}
 use lib.{Dec.{ltb}, ListN.{length, take, drop}}
@@ -12,7 +12,7 @@ use Rattle.fields.specs.Refusal.{numbered, refusedText}
 
 -- ---- the input
 
--- a line that is no value is 0, which is out of the range of a side
+-- a line that is not a value counts as 0, which is out of the range of a side
 unfoldable pub sideOf : Field → ℕ
 sideOf (Value side) = side
 sideOf Wrong = 0

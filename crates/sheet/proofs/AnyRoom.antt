@@ -1,4 +1,4 @@
--- The sheet's own question answered in a table with room for the most rows, and what it would answer in another table.
+-- The sheet's own question answered in a table with room for the greatest number of rows, and what it would answer in another table.
 use Prim.Native.Nat.{ℕ, _*_, _≤_, _<_}
 use mathlib.Core.{Path.{_≡_, refl, ap, _∙_}, List.{List}}
 use native.Mathlib.Omega.{arith}

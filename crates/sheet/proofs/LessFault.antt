@@ -1,5 +1,5 @@
--- Request (n) of document 02, of two value lines, of one sheet or of two: where one has verdict 1 in the table, the other, with a lower
--- fault current and all else equal, station and season aside, has verdict 1 in its table, and so never 2.
+-- §10.1, for two value lines, of one sheet or of two: where one has verdict 1 in the table, the other, with a lower fault current and all
+-- else but station and season equal, has verdict 1 in its table, and so never 2.
 use Prim.Native.Nat.{ℕ, _<_}
 use mathlib.Core.{Path.{_≡_}, List.{List}}
 use lib.{IntN.{ℤ, pos}, ListN.{length}}

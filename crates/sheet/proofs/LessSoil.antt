@@ -1,5 +1,5 @@
--- The driest soil decides, of two value lines, of one sheet or of two, that differ in soil alone, station and season aside: where the one
--- with the higher resistivity has verdict 1 in the table, the other has not verdict 2.
+-- §10.3, for two value lines, of one sheet or of two, that differ in soil alone, apart from station and season: where the one with the
+-- higher resistivity has verdict 1 in the table, the other has not verdict 2.
 use Prim.Native.Nat.{ℕ, _<_}
 use mathlib.Core.{Path.{_≡_, sym, _∙_}, List.{List}}
 use lib.{IntN.{ℤ, pos}, ListN.{length}}

@@ -1,5 +1,5 @@
--- No worse, of two value lines, of one sheet or of two: where one has verdict 1 in the table, the other, no worse and all else equal,
--- station and season aside, has verdict 1 in its table.
+-- §10.2, for two value lines, of one sheet or of two: where one has verdict 1 in the table, the other, no worse and all else but station
+-- and season equal, has verdict 1 in its table.
 use Prim.Native.Nat.{ℕ, _<_}
 use mathlib.Core.{Path.{_≡_, sym, _∙_}, List.{List}}
 use lib.{IntN.{ℤ, pos}, ListN.{length}}

@@ -38,7 +38,7 @@ module _ {s before after : List ℕ} {r : Judgement} (read : Read (formOf Presen
         cases-are = stored-cases after a (read .stored n e);
       }
 
-  -- in a store for the most value lines
+  -- in a store for as many value lines as a sheet may have
   pub stored-lines : {n : ℕ} → length before ≡ nameCount * mostLines → r ≡ Lines n → StoredLines s n after
   unfolding formOf
   stored-lines h e =

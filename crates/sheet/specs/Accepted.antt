@@ -1,4 +1,4 @@
--- What holds of a sheet and a table whose answer is a count of rows: proved in proofs/Accepted.antt.
+-- What holds of a sheet and a table whose answer is a count of rows (§3.1): proved in proofs/Accepted.antt.
 use Prim.Native.Nat.{ℕ, _*_, _≤_}
 use mathlib.Core.List.{List}
 use Rattle.case.specs.Columns.{columns}

@@ -1,5 +1,5 @@
--- The answer to every sheet and table length, and the cases of a sheet. Document 01, 'The result table': "The order is 1, 2, 4; then line
--- by line 3, 5, 6, 7; then 8."
+-- The answer to every sheet and table length, and the cases of a sheet. §2.1, §2.2, §3.1: "The order is 1, 2, 4; then line by line 3, 5, 6,
+-- 7; then 8."
 use Prim.Native.Nat.{ℕ, _*_}
 use mathlib.Core.{Bool.{cond}, List.{List, map}}
 use lib.Dec.{ltb}
@@ -16,7 +16,7 @@ use Rattle.sheet.specs.declared.Answer.{Answer, the-variants.{Rows, Refu
 unfoldable pub cases : List ℕ → List Case
 cases s = map (λ line. lineCase (columnsOf columns (names s)) (fieldsOf line)) (valueLines s)
 
--- "table shorter than 17 numbers a line", 20 by request (d) of document 02
+-- "table shorter than 17 numbers a line"; today 20 (§3.1)
 unfoldable pub tableRefused : Answer
 tableRefused = Refused 8 0 0
 

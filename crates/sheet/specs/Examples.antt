@@ -1,4 +1,4 @@
--- The answer computed on sheets: document 01's sample, each refusal, and the order of the rules where two are broken at once.
+-- §2.1, §2.2: the answer computed on sheets: the sample (§3.3), each refusal, and the order of the rules where two are broken at once.
 use Prim.Native.Nat.{ℕ}
 use mathlib.Core.{Path.{_≡_, refl}, List.{List, [], _∷_, _++_, map}}
 use lib.ListN.{replicate}
@@ -31,7 +31,7 @@ dry = bytes "7,1,400,2500,102,500,500,500,70,3180,600,10,11,11,7000,500,100,0,0,
 abbrev wet : List ℕ
 wet = bytes "7,2,100,2500,102,500,500,500,70,3180,600,10,11,11,7000,500,100,0,0,0,1,60\n"
 
--- document 01's sample sheet
+-- the sample sheet
 unfoldable pub sample : List ℕ
 sample = head ++ dry ++ wet
 
@@ -71,7 +71,7 @@ examples =
     ∷ row (replicate 65537 10) 40 (Refused 1 0 0)
     ∷ row (replicate 65536 10) 40 (Refused 2 1 1)
     ∷ row (head ++ bytes "7") 40 (Refused 1 0 0)
-    -- 2: unknown, in another case of letters, twice, missing, one too many; document 01's ms and lines; no hz
+    -- 2: unknown, in another case of letters, twice, missing, one too many; the former names ms and lines; no hz
     ∷ row (bytes "station,season,Soil\n") 40 (Refused 2 1 3)
     ∷ row (bytes "station,season,station,nothing\n") 40 (Refused 2 1 3)
     ∷ row (bytes "metal,place\n") 40 (Refused 2 1 3)

@@ -1,4 +1,4 @@
--- The table after a sheet: one claim over every sheet, every table and every row. Document 01, 'The result table' and 'To the testers'.
+-- The table after a sheet: one claim over every sheet, every table and every row. §2.3, §3.1, §3.2.
 use Prim.Native.Nat.{ℕ}
 use mathlib.Core.{Path.{_≡_}, List.{List}}
 use lib.{IntN.{ℤ}, ListN.{length}}

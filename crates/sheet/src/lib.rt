@@ -21,7 +21,7 @@ pub enum Answer {
     Refused(u32, usize, usize),
 }
 
-// The answer to a sheet, and its rows in the table, by way of a store for the values of the most lines.
+// The answer to a sheet, and its rows in the table, through a store with room for the values of as many lines as a sheet may have.
 fn fill_table(s: &[u8], values: &mut [u32], table: &mut [i64]) -> Answer
     requires { ⌜ length (now values) ≡ nameCount * mostLines ⌝ }
     ensures { λ r. ⌜ Answered (now (s .entry)) (now (table .entry)) (now (table .exit)) r ⌝ }

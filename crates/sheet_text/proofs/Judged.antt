@@ -14,7 +14,7 @@ use Rattle.judgement.proofs.Accepted.{accepted}
 use Rattle.judgement.specs.declared.Judgement.the-variants as judged
 use Rattle.sheet.specs.{declared.Answer.{Answer, the-variants.{Rows, Refused}}, Answer.{cases, answerBy, answer}}
 
--- the judgement that an answer tells
+-- the judgement that an answer reports
 abbrev pub told : Answer → Judgement
 told (Rows count) = judged.Lines count
 told (Refused number line column) = judged.Refused number line column

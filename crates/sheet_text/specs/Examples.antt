@@ -1,4 +1,4 @@
--- The summary of the sample of document 01, worked by hand from its rows.
+-- The summary (§7.1) of the sample (§3.3), computed by hand from its rows.
 use mathlib.Core.{Path.{_≡_, refl}, List.{[], _∷_, map}}
 use Rattle.whole.specs.Count.{one}
 use Rattle.interval.specs.Operations.{natural}

@@ -1,4 +1,4 @@
--- The text of a sheet's rows as one loop writes it.
+-- The text of a sheet's rows (§3.1) as one loop writes it.
 use Prim.Native.Nat.{ℕ}
 use mathlib.Core.List.{List, map}
 use Rattle.case.specs.Columns.{columns}

@@ -1,5 +1,5 @@
--- What the programs print of a sheet, each a line of names and a line for each row or station, or the refusal. The fields of a row, and
--- what the documents say of them, stand in row_text/specs.
+-- What the programs print of a sheet, each a line of names and a line for each row or station, or the refusal. The fields of a row are in
+-- row_text/specs.
 use Prim.Native.Nat.{ℕ}
 use mathlib.Core.List.{List, [], _∷_, map}
 use Rattle.text.specs.Text.{bytes}
@@ -16,7 +16,7 @@ use Rattle.row_text.specs.{Verdict.{verdictNames, verdictFields}, Rows.{rowName
 abbrev pub listedSheet : List (List ℕ) → (Row → List (List ℕ)) → List ℕ → List ℕ
 listedSheet names fields s = unlessRefused (judgement columns s) (listed names (map fields (sheetRows s)))
 
--- "prints the header shown, then each row's station, season, verdict (safe, unsafe or undecided) and kcmil". Document 01
+-- "prints the header shown, then each row's station, season, verdict (safe, unsafe or undecided) and kcmil" (§3.3)
 unfoldable pub verdictText : List ℕ → List ℕ
 verdictText s = listedSheet verdictNames verdictFields s
 
@@ -27,7 +27,7 @@ unfoldable pub marginsText : List ℕ → List ℕ
 marginsText s = listedSheet marginNames marginFields s
 
 -- "six numbers a station, stations by first appearance: station, count of seasons, counts of safe, unsafe and undecided, and the season
--- with the highest upper mesh end". Document 02 (m)
+-- with the highest upper mesh end" (§7.1)
 unfoldable pub summaryNames : List (List ℕ)
 summaryNames =
     bytes "station" ∷ bytes "seasons" ∷ bytes "safe" ∷ bytes "unsafe" ∷ bytes "undecided" ∷ bytes "highest_mesh_season" ∷ []

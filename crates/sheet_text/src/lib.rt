@@ -15,7 +15,7 @@ use sheet::Answer;
 use sheet::sheet;
 pub use summary::put_summary;
 
-// A row for each of the most value lines.
+// A row for each of as many value lines as a sheet may have.
 const TABLE: usize = LINES * ROW_LENGTH;
 
 // What is shown of a sheet's rows after a line of names, or the refusal.

@@ -13,7 +13,7 @@ use stations::STATION_LENGTH;
 use stations::Summed;
 use stations::summary;
 
-// Six numbers for each of the most stations.
+// Six numbers for each of as many stations as a sheet may have.
 const STATIONS: usize = LINES * STATION_LENGTH;
 
 // The six numbers of each station after a line of names, or the refusal.

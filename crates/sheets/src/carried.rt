@@ -51,7 +51,7 @@ fn in_buffer(form: Form, s: &[u8], room: usize)
     kept(buffer);
 }
 
-// The two answers for a buffer length: `unknown` where it is no length or too large.
+// The two answers for a buffer length: `unknown` where it is not a length or too large.
 fn at_length(s: &[u8], room: usize) {
     if room <= BYTES {
         in_buffer(Form::Present, s, room);

@@ -67,7 +67,7 @@ fn on_licence<'a>(s: &'a [u8], numbers: &'a [u32], count: usize, room: usize) {
     }
 }
 
-// The answer to a line with the licence and the sheet after it: `unknown` where the line is no list of 32-bit numbers.
+// The answer to a line with the licence and the sheet after it: `unknown` where the line is not a list of 32-bit numbers.
 fn on_line<'a>(line: &'a [u8], s: &'a [u8], room: usize) {
     let mut v = [0i64; NUMBERS];
     let mut words = [0u32; NUMBERS];

@@ -1,4 +1,4 @@
-// The summary of a sheet's stations beside its rows, in two tables.
+// The summary of a sheet's stations and its rows, in two tables.
 use crate::length::length;
 use crate::listed::Listing;
 use crate::listed::lines;
@@ -59,7 +59,7 @@ fn in_tables(s: &[u8], rows: usize, stations: usize)
     kept(table, summary);
 }
 
-// The answer for the two lengths: `unknown` where one is no length or too large.
+// The answer for the two lengths: `unknown` where one is not a length or too large.
 pub fn ask<'a>(lengths: &'a [u8], s: &'a [u8]) {
     let first = first_part(lengths, 44);
     let e = first.end;

@@ -33,7 +33,7 @@ total-step [] = refl
 total-step (z ∷ []) = refl
 total-step (z ∷ w ∷ s) = refl
 
--- ---- the loop: of the currents worked so far, z is what is left
+-- ---- the loop: of the currents added so far, z is what is left
 
 pub record Left (s : List ℤ) (z : ℤ) (i : ℕ) : Type 0 where
   pub worked : ℕ

@@ -1,4 +1,4 @@
--- The answer to a staged test. Request (l) of document 02.
+-- The answer to a staged test. §9.2.
 use Prim.Native.Nat.{ℕ}
 use mathlib.Core.{Bool.{cond}, List.{List}}
 use lib.{IntN.{ℤ}, ListN.{length}}

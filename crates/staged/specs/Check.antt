@@ -1,5 +1,5 @@
 -- The checks of a staged test's numbers: the injected current's in-phase and quadrature part in signed milliamperes, then those of each
--- branch. Request (l) of document 02.
+-- branch. §9.2.
 use Prim.Native.Nat.{ℕ, _%_}
 use mathlib.Core.{Bool.{Bool, false, not, _&&_, _||_}, List.{List, [], _∷_}}
 use lib.{Dec.{ltb, eqb}, IntN.{ℤ, pos, negℤ, natAbs}, ListN.{getD}, Signed.{ltZ}}

@@ -1,4 +1,4 @@
--- The grid current of a staged test, part by part in milliamperes. Request (l) of document 02.
+-- The grid current of a staged test, part by part in milliamperes. §9.2.
 use Prim.Native.Nat.{ℕ, _+_, _*_}
 use mathlib.Core.List.{List, [], _∷_}
 use lib.{IntN.{ℤ, pos, natAbs, _+ℤ_, _-ℤ_}, ListN.{getD, drop}}

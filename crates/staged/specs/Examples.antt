@@ -1,4 +1,4 @@
--- The answer to a staged test computed on examples.
+-- §9.2: the answer to a staged test computed on examples.
 use mathlib.Core.{Path.{_≡_, refl}, List.{List, [], _∷_, map}}
 use lib.IntN.{ℤ, pos, negsuc}
 use Rattle.staged.specs.declared.SplitAnswer.{the-variants.{Grid, Refused}, SplitAnswer}

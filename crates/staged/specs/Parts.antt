@@ -1,4 +1,4 @@
--- What is known of a staged test's numbers once the checks are passed.
+-- §9.2: what is known of a staged test's numbers once the checks have passed.
 use Prim.Native.Nat.{ℕ, _≤_, _<_}
 use mathlib.Core.{Path.{_≡_}, Bool.{false}, List.{List}}
 use lib.{IntN.{ℤ, pos, natAbs}, ListN.{length, getD}}

@@ -1,4 +1,4 @@
--- What a reported grid current and split mean for the numbers of the test. Request (l) of document 02; proofs/Reporting.antt has the law.
+-- What a reported grid current and split mean for the numbers of the test. §9.2; proofs/Reporting.antt has the law.
 use Prim.Native.Nat.{ℕ, _*_, _≤_, _<_}
 use mathlib.Core.{Path.{_≡_}, List.{List}}
 use lib.IntN.{ℤ, _+ℤ_}

@@ -1,4 +1,4 @@
-// The split of the fault current from a staged test. Request (l) of document 02.
+// The split of the fault current from a staged test. §9.2.
 mod check;
 mod grid;
 

@@ -28,7 +28,7 @@ unfolding among
 among-more x y [] = none-more (sameZ x y)
 among-more x y (z ∷ l) = ap (λ (b : Bool). sameZ x z || b) (among-more x y l) ∙ or-more (sameZ x z) (among x l) (sameZ x y)
 
--- ---- the stations found are no two equal
+-- ---- no two of the stations found are equal
 
 -- a number stands once in a list that has it, and not in another
 abbrev Once : ℤ → List ℤ → Type 0

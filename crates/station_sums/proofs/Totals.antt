@@ -1,4 +1,4 @@
--- "The three counts add up to the seasons, and the seasons over all stations to the rows."
+-- §7.1: "The three counts add up to the seasons, and the seasons over all stations to the rows."
 use Prim.Native.Nat.{ℕ, zero, suc, _+_, _<_}
 use mathlib.Core.{Path.{_≡_, refl, ap, _∙_}, Bool.{Bool, true, false, cond, _||_}, List.{List, [], _∷_, map}}
 use native.Mathlib.Omega.{arith}

@@ -1,4 +1,4 @@
--- The summary computed: stations scattered over the lines, a tie, four seasons.
+-- §7.1: the summary computed: stations scattered over the lines, a tie, four seasons.
 use Prim.Native.Nat.{ℕ}
 use mathlib.Core.{Path.{_≡_, refl}, List.{[], _∷_}}
 use lib.IntN.{pos}

@@ -1,4 +1,4 @@
--- What document 02 (m) says of the summary, in its own words: proofs/StandsOnce.antt, Totals.antt and WorstSeason.antt show that it holds.
+-- What §7.1 says of the summary, in its own words: proofs/StandsOnce.antt, Totals.antt and WorstSeason.antt show that it holds.
 use Prim.Native.Nat.{ℕ, _+_, _<_}
 use mathlib.Core.{Path.{_≡_}, List.{List, [], _∷_}}
 use lib.{IntN.{ℤ, pos, natAbs}, ListN.{length, getD}, Signed.{_≤ℤ_, _<ℤ_}}

@@ -1,4 +1,4 @@
--- The counts of a station as rows are added to them, read from the table of rows.
+-- §7.1: the counts of a station as rows are added to them, read from the table of rows.
 use Prim.Native.Nat.{ℕ, zero, suc, _+_, _*_, _≤_, _<_, _^_}
 use mathlib.Core.{Bool.{Bool, cond, _||_}, List.{List, [], _∷_, _++_}}
 use lib.{Dec.{eqb}, IntN.{ℤ, pos}, ListN.{getD, length, take, drop}, Signed.{ltZ}}

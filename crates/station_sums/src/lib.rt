@@ -1,4 +1,4 @@
-// The sums of each station of some rows. Document 02 (m).
+// The sums of each station of some rows. §7.1.
 mod adding;
 mod gather;
 

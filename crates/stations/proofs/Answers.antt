@@ -1,4 +1,4 @@
--- The claim about a sheet and its two tables, from the rows worked in a table of its own, the summary, and the room of both tables.
+-- The claim about a sheet and its two tables, from the rows computed in a separate table, the summary, and the room of both tables.
 use Prim.Native.Nat.{ℕ, _*_, _≤_, _<_}
 use mathlib.Core.{Path.{_≡_, refl, sym, ap, _∙_}, List.{List, [], _++_}}
 use native.Mathlib.Omega.{arith}

@@ -1,5 +1,4 @@
--- The answer of the station summary, and what it leaves in the two tables: one claim over every sheet and every two tables. Document 02
--- (m).
+-- The answer of the station summary, and what it leaves in the two tables: one claim over every sheet and every two tables. §7.1.
 use Prim.Native.Nat.{ℕ, _*_}
 use mathlib.Core.{Path.{_≡_}, Bool.{cond}, List.{List, map}}
 use lib.{Dec.{ltb}, IntN.{ℤ}, ListN.{length}}
@@ -27,7 +26,7 @@ answerAfter room rows (sheet.Refused number line column) = Refused number line c
 unfoldable pub summaryAnswer : List ℕ → ℕ → ℕ → Summed
 summaryAnswer s rowsRoom room = answerAfter room (sheetRows s) (answer s rowsRoom)
 
--- the rows are what the sheet's own question leaves with a count of rows, the summary beside them is theirs
+-- the rows are what the sheet's own question leaves with a count of rows, and the summary is theirs
 pub record Summarised (s : List ℕ) (count : ℕ) (rowsBefore rowsAfter before after : List ℤ) : Type 0 where
   pub rows : Answered s rowsBefore rowsAfter (sheet.Rows count)
   pub summary : after ≡ filled (summaryOf (sheetRows s)) before

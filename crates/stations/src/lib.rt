@@ -1,4 +1,4 @@
-// The station summary beside the rows. Document 02 (m).
+// The station summary with the rows. §7.1.
 mod copy;
 mod put;
 
@@ -13,7 +13,7 @@ use sheet::TABLE_SHORT;
 use sheet::sheet;
 use station_sums::sum_rows;
 
-// A row for each of the most value lines.
+// A row for each of as many value lines as a sheet may have.
 const TABLE: usize = LINES * ROW_LENGTH;
 
 // How many numbers a station has in the summary.
@@ -28,8 +28,8 @@ pub enum Summed {
     Refused(u32, usize, usize),
 }
 
-// The answer to a sheet, its rows in their table, and the summary of its stations beside them. The rows are worked in a table of its own,
-// so that nothing is written before the stations are counted.
+// The answer to a sheet, its rows in their table, and the summary of its stations. The rows are computed in a separate table, so that
+// nothing is written before the stations are counted.
 pub fn summary(s: &[u8], rows: &mut [i64], beside: &mut [i64]) -> Summed
     ensures { λ r. ⌜ SummaryAnswered (now (s .entry)) (now (rows .entry)) (now (rows .exit)) (now (beside .entry))
         (now (beside .exit)) r ⌝ }

@@ -1,4 +1,4 @@
--- Rows written one after the other, from the values of a sheet's lines. Document 01, 'The result table'.
+-- Rows written one after the other, from the values of a sheet's lines. §3.1.
 use Prim.Native.Nat.{ℕ, _<_}
 use mathlib.Core.{Path.{_≡_}, List.{List, [], map}}
 use lib.{IntN.{ℤ}, ListN.{length, getD}}

@@ -1,4 +1,4 @@
--- A table divided into parts of equal width: the rows of a table of results, the lines of a store of values.
+-- A table divided into parts of equal width: the rows of a table of results (§3.1), the lines of a store of values.
 use Prim.Native.Nat.{ℕ, zero, suc, _+_, _*_, _<_}
 use mathlib.Core.{Path.{_≡_}, List.{List, [], _∷_}}
 use lib.ListN.{length, take, drop}

@@ -1,4 +1,4 @@
--- "the greatest fault current at which, put into every line of the station, every line is answered safe (0 where none, or no line)".
+-- §7.2: "the greatest fault current at which, put into every line of the station, every line is answered safe (0 where none, or no line)".
 use Prim.Native.Nat.{ℕ, zero, suc}
 use mathlib.Core.{Bool.{Bool, true, cond, _&&_}, List.{List, [], _∷_}}
 use lib.{Dec.{leb, eqb}, ListN.{length}}

@@ -1,4 +1,4 @@
--- The lines of a station, and what is counted of them: "of all lines of the station, licensed or not".
+-- §7.2: the lines of a station, and what is counted of them: "of all lines of the station, licensed or not".
 use Prim.Native.Nat.{ℕ, _+_, _*_, _-_, _/_, _%_, _^_}
 use mathlib.Core.{Bool.{Bool, false, cond, not, _&&_, _||_}, List.{List, [], _∷_}}
 use lib.{Dec.{ltb, eqb}, IntN.{natAbs}, ListN.{getD}}

@@ -1,4 +1,4 @@
--- What is counted of a station's lines, line by line from the last to the first.
+-- §7.2: what is counted of a station's lines, line by line from the last to the first.
 use Prim.Native.Nat.{ℕ, _+_, _<_, _^_, min}
 use mathlib.Core.{Bool.{Bool, cond, not, _&&_, _||_}, List.{List, [], _∷_}}
 use lib.{Dec.{eqb}, ListN.{length}}

@@ -1,4 +1,4 @@
--- Nought is not one: what remains of a case in which two different answers are equal.
+-- Zero is not one: what remains of a case in which two different answers are equal.
 use Prim.Native.Nat.{ℕ}
 use native.Mathlib.Omega.{arith}
 use mathlib.Core.Path.{_≡_}

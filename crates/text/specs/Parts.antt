@@ -1,4 +1,4 @@
--- What the parts of reading a text promise.
+-- §1.1, §1.3: what the parts of reading a text promise.
 use Prim.Native.Nat.{ℕ, zero, suc, _+_, _≤_, _<_}
 use mathlib.Core.{Path.{_≡_}, Bool.{cond}, List.{List, [], _∷_}}
 use lib.{Dec.{eqb}, ListN.{length, take, drop}}

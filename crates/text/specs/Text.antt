@@ -1,4 +1,4 @@
--- Bytes into lines and fields. Document 01, 'The sheet': "A line ends with one byte 10. Fields are parted by one comma."
+-- Bytes into lines and fields. §1.1: "A line ends with one byte 10. Fields are parted by one comma."
 use Prim.Native.{Nat.{ℕ, zero, suc}, Char.{code}, String.{String, [] as ends, _∷_ as _then_}}
 use mathlib.Core.{Bool.{Bool, true, false, cond, _&&_}, List.{List, [], _∷_}}
 use lib.Dec.{eqb}
@@ -23,7 +23,7 @@ unfoldable pub linesOf : List ℕ → List (List ℕ)
 linesOf [] = []
 linesOf (b ∷ t) = cond (eqb b 10) ([] ∷ linesOf t) (onFirst b (linesOf t))
 
--- the fields of a line: parted by one comma, byte 44; an empty line is one empty field
+-- the fields of a line: separated by one comma, byte 44; an empty line is one empty field
 unfoldable pub fieldsOf : List ℕ → List (List ℕ)
 fieldsOf [] = [] ∷ []
 fieldsOf (b ∷ t) = cond (eqb b 44) ([] ∷ fieldsOf t) (onFirst b (fieldsOf t))

@@ -1,4 +1,4 @@
--- Values. Document 01, 'The sheet': "A value is one to six decimal digits; 0 is the only value that may start with 0."
+-- Values. §1.3: "A value is one to six decimal digits; 0 is the only value that may start with 0."
 use Prim.Native.Nat.{ℕ, _+_, _*_, _-_}
 use mathlib.Core.{Bool.{Bool, true, not, cond, _&&_, _||_}, List.{List, [], _∷_}}
 use lib.{ListN.{length, getD}, Dec.{leb, eqb}}

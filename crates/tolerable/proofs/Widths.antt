@@ -1,4 +1,4 @@
--- The tolerable voltages' ends are no further apart than document 01 allows: 1/10,000 of the lower end plus 10 mV.
+-- The tolerable voltages' ends are no further apart than §5.8 allows: 1/10,000 of the lower end plus 10 mV.
 use Prim.Native.Nat.{ℕ, _+_, _*_, _/_, _≤_, _<_}
 use native.Mathlib.{Omega.{arith}, Nat.{mul-le-mul-left, mul-le-mul-right, le-trans, lt-of-mul-lt-mul-right, le-of-suc-le-suc}}
 use lib.Dec.{lit≤}
@@ -33,7 +33,7 @@ tolerable-near {c} b weight h =
           (floorDiv-above (s .a * 50000) (le-trans p (t .order)));
     }
 
--- the width of document 01 from the width in whole millivolts
+-- the width of §5.8 from the width in whole millivolts
 within-allowed : (a b : ℕ) → 10000 * b ≤ 10001 * a + 10000 * 10
     → AtMost (tolerableWidth (reported mV (natural a b))) (reported mV (natural a b))
 unfolding tolerableWidth reported mV ten over natural decimal _·f_ _+f_ _−f_ neg

@@ -1,4 +1,5 @@
--- The ends of the layer effect and of the tolerable voltages, by whole-number intervals. Names for the free part: callers use their laws.
+-- §4.5: the ends of the layer effect and of the tolerable voltages, by whole-number intervals. These name the free part of the answers:
+-- callers use only their laws.
 use Prim.Native.Nat.{ℕ, _+_, _*_, _^_}
 use mathlib.Core.Bool.{cond}
 use lib.{Dec.{eqb}, IntN.{pos}}

@@ -44,7 +44,7 @@ module _ {z : ℤ} (f : SFits w64 z) (h : natAbs z < 2 ^ 63) where
   pub negated-is : read (pos 0 -ℤ read z) ≡ negℤ z
   negated-is = rw (toZ-ofZ f, +ℤ-idl) (toZ-ofZ fits)
 
--- the bits of −1 − a are those of a, turned round
+-- the bits of −1 − a are those of a, inverted
 pub flipped : (a : ℤ) → SFits w64 a → toZ w64 (18446744073709551615 - ofZ w64 a) ≡ flipZ a
 flipped (pos n) f =
     let e : 18446744073709551615 - n ≡ 18446744073709551616 - suc n = omega arith in

@@ -24,7 +24,7 @@ module _ (n : ℕ) {d e : ℕ} (p : 0 < d) (h : d ≤ e) where
       min-cases (λ z. z ≡ negsuc (n / d)) (negsuc (n / d)) (negsuc (n / e)) (λ k. refl)
       (λ k. ap negsuc (le-antisymm falls (leb→le (n / d) (n / e) (k .le))))
 
--- turned round, the lesser becomes the greater
+-- negated, the lesser becomes the greater
 pub most-of-least : (z : ℤ) {d e : ℕ} → 0 < d → d ≤ e → maxZ (negℤ (floorZ z d)) (negℤ (floorZ z e)) ≡ negℤ (minZ (floorZ z d) (floorZ z e))
 unfolding floorZ
 most-of-least (pos n) p h = below.max-rising (falls n p h) ∙ sym (ap negℤ (least-from-zero n p h))

@@ -1,4 +1,4 @@
--- k · x over a divisor by the quotient and the rest of x, rounded down and up.
+-- k · x over a divisor by the quotient and the remainder of x, rounded down and up.
 use Prim.Native.Nat.{ℕ, _+_, _-_, _*_, _/_, _%_, _^_, _≤_, _<_}
 use mathlib.Core.Path.{_≡_, sym, ap, _∙_}
 use native.Mathlib.Omega.{arith}

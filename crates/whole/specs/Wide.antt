@@ -1,4 +1,4 @@
--- Where a product over a divisor is worked within 64 bits, though the product itself may pass them.
+-- When a product over a divisor is computed within 64 bits, though the product itself may exceed them.
 use Prim.Native.Nat.{ℕ, _+_, _*_, _/_, _^_, _<_}
 
 -- k · (x / den) and k · (x % den) with their sums

@@ -1,4 +1,4 @@
--- Least values of Kii, Km and Ks, so that their widths may be told as a share of them.
+-- Least values of Kii, Km and Ks, so that their widths may be given as a share of them.
 use Prim.Native.Nat.{ℕ, zero, suc, _+_, _*_, _/_, _^_, _≤_, _<_}
 use mathlib.Core.Path.{_≡_, ap}
 use native.Mathlib.{Omega.{arith}, Nat.{mul-le-mul, div-mul-le-self}}

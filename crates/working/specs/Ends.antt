@@ -1,5 +1,5 @@
--- The working of a case by the names of its ends. All but Cs are the ends that its row is worked from. Names for the free part: callers use
--- their laws.
+-- §6.4: the working of a case by the names of its ends. All but Cs are the ends that its row is computed from. These name the free part of
+-- the answers: callers use only their laws.
 use Prim.Native.Nat.{ℕ, _+_, _*_, _^_}
 use mathlib.Core.Bool.{cond}
 use lib.{Dec.{eqb}, IntN.{pos}}

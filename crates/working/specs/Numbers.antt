@@ -1,4 +1,4 @@
--- The working of a case as numbers in a row.
+-- §6.4: the working of a case as numbers in a row.
 use mathlib.Core.List.{List, [], _∷_}
 use lib.IntN.{ℤ}
 use Rattle.working.specs.declared.Quantities.{Quantities}

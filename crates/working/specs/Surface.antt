@@ -1,4 +1,4 @@
--- The derating factor of the surface layer. IEEE Std 80-2013, equation 27.
+-- The derating factor of the surface layer. §4.5, §6.4 (IEEE Std 80-2013, equation 27).
 use mathlib.Core.Bool.{cond}
 use lib.Dec.{eqb}
 use Rattle.exact.specs.Fraction.{Fraction, whole, decimal, _+f_, _−f_, _·f_, _÷f_}

@@ -1,4 +1,4 @@
--- What a right working is: the quantities that IEEE Std 80-2013, Annex B, prints of a case between its record and its row.
+-- §6.4: what a right working is: the quantities that IEEE Std 80-2013, Annex B, prints of a case between its record and its row.
 use mathlib.Core.Path.{_≡_}
 use Rattle.interval.specs.Operations.{productOf}
 use Rattle.exact.specs.{Fraction.{Fraction, _≈f_, decimal, _+f_, _·f_}, Ends.{Ends}, Exact.{exactly, _·x_, _÷x_}, Reported.{ten, Reports}}
@@ -43,7 +43,7 @@ pub record RightWorking (c : Case) (w : Quantities) : Type 0 where
   pub km : Reports (Mesh.Km c) (ten 7) hundredThousandth (w .km)
   pub ks : Reports (Step.Ks c) (ten 7) hundredThousandth (w .ks)
   pub driven : Reports (exactly (Lengths.ρ c) ·x Lengths.Ki c ·x IG c ÷x Mesh.LM c) mV drivenWidth (w .driven)
-  -- document 01: "Q is Cs·ρs"; "for bare soil Q is ρ"
+  -- §4.5: "Q is Cs·ρs"; "for bare soil Q is ρ"
   pub layer-effect : Q c ≈f Cs c ·f surface c
   -- the mesh voltage of the row is the product of the pairs of ρ·Ki·IG/LM and Km, rounded outward
   pub mesh-follows : meshEnds c ≡ productOf (w .driven) (w .km) 10000000
@@ -54,7 +54,7 @@ pub record RightWorking (c : Case) (w : Quantities) : Type 0 where
 unfoldable pub workingAnswer : Case → Worked
 workingAnswer c = recordAnswer Refused (Is (workingOf c)) (recordJudged c)
 
--- a working is right; of a refusal nothing is asked here
+-- a working is right; nothing is required of a refusal here
 unfoldable pub RightWorked : Case → Worked → Type 0
 RightWorked c (Is w) = RightWorking c w
 RightWorked c (Refused number line column) = Unit {0}

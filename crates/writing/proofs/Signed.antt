@@ -27,7 +27,7 @@ unfolding signed
 signed-at-most (pos n) = omega (arith, decimal-at-most n)
 signed-at-most (negsuc n) = omega (arith, decimal-at-most (suc n))
 
--- ---- a number of 64 bits turned round, and straight
+-- ---- a number of 64 bits inverted, and as it is
 
 below-bits : (z : ℤ) → SFits w64 z → ltZ z (pos 0) ≡ true → toZ w64 (18446744073709551615 - ofZ w64 z) ≡ pos (mag z)
 below-bits (pos n) f e = cc (leb·suc-zero n)

@@ -1,4 +1,4 @@
--- Lines and fields into bytes. Document 01, 'The sheet': "A line ends with one byte 10. Fields are parted by one comma."
+-- Lines and fields into bytes. §1.1: "A line ends with one byte 10. Fields are parted by one comma."
 use Prim.Native.Nat.{ℕ}
 use mathlib.Core.{Bool.{Bool, true, not, _&&_}, List.{List, [], _∷_, _++_, map}}
 use lib.{Dec.{leb, eqb}, ListN.{length}}
@@ -9,7 +9,7 @@ unfoldable pub moreFields : List (List ℕ) → List ℕ
 moreFields [] = []
 moreFields (f ∷ fs) = 44 ∷ f ++ moreFields fs
 
--- fields parted by one comma
+-- fields separated by one comma
 unfoldable pub parted : List (List ℕ) → List ℕ
 parted [] = []
 parted (f ∷ fs) = f ++ moreFields fs

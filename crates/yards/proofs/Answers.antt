@@ -1,4 +1,4 @@
--- What holds of an answer: an answer that is no refusal is the search's, over yards that are sound cases.
+-- What holds of an answer: an answer that is not a refusal is the search's, over yards that are sound cases.
 use Prim.Native.Nat.{ℕ, zero, suc, _<_}
 use mathlib.Core.{Path.{_≡_, refl, sym, ap, _∙_}, Bool.{Bool, true, false, cond, _&&_}, List.{List, [], _∷_}}
 use native.Mathlib.Omega.{arith}

@@ -1,4 +1,4 @@
--- The list of yards, computed on a side of 70 m.
+-- §6.7: the list of yards, computed on a side of 70 m.
 use mathlib.Core.{Path.{_≡_, refl}, List.{[], _∷_, map}}
 use lib.ListN.{length}
 use Rattle.case.specs.{declared.Case.{Case}, Columns.{columns, inRange, nameIndex}, Parts.{rangeAt}, Check.{countFrom}}

@@ -1,4 +1,4 @@
--- The first safe yard. Document 02 (k).
+-- The first safe yard. §6.7.
 use Prim.Native.Nat.{ℕ, suc, _≤_, _<_}
 use mathlib.Core.{Path.{_≡_}, Bool.{cond, _&&_}, List.{List, [], _∷_}}
 use lib.{Dec.{leb, eqb}, ListN.{length, getD}}
@@ -51,7 +51,7 @@ pub record RightNone (c : Case) (side tried : ℕ) : Type 0 where
   pub none-safe : (i : ℕ) → i < length (yards c side) → ¬ (rowOf (getD (yards c side) i c) .verdict ≡ Safe)
   pub most : tried ≤ 264
 
--- of a refusal nothing is asked here
+-- nothing is required of a refusal here
 unfoldable pub RightAnswer : Case → ℕ → FewestLines → Type 0
 RightAnswer c side (Found lines rods tried) = RightFound c side lines rods tried
 RightAnswer c side (None tried) = RightNone c side tried

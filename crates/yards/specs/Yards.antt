@@ -1,4 +1,4 @@
--- The yards tried for a square side, in order. Document 02 (k).
+-- The yards tried for a square side, in order. §6.7.
 use Prim.Native.Nat.{ℕ, _*_, _-_, _/_, _%_}
 use mathlib.Core.{Bool.{Bool, true, false, cond, _&&_}, List.{List, [], _∷_, _++_, map}}
 use lib.Dec.{eqb}
@@ -76,7 +76,7 @@ meansSafe Undecided = false
 unfoldable pub isSafe : Case → Bool
 isSafe c = meansSafe (caseVerdict c)
 
--- "The case's own counts, spacing, rods and place are not read, nor compared with rodlen": a yard that agrees with the rod length in their
--- stead
+-- "The case's own counts, spacing, rods and place are not read, nor compared with rodlen": in their place a yard that agrees with the rod
+-- length
 unfoldable pub trial : Case → Case
 trial c = cond (eqb (c .rodlen) 0) (yard c 2500 2 0) (yard c 2500 2 4)

@@ -1,4 +1,4 @@
-// The fewest lines for a given side: yards are tried in order until one is safe. Document 02 (k).
+// The fewest lines for a given side: yards are tried in order until one is safe. §6.7.
 mod search;
 mod yard;
 

@@ -1,4 +1,4 @@
--- `mark` takes the rest of a natural number by 2^16.
+-- `mark` takes the remainder of a natural number by 2^16.
 use mathlib.Core.Path.{_≡_, sym, ap, _∙_}
 use native.Mathlib.Omega.{arith}
 use lib.{IntN.{pos}, Signed.{mag}}

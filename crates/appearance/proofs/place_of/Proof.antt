@@ -23,7 +23,7 @@ element : (c : tie.After-same-arg Inv-loop μ-loop)
     → SFits w64 (getD (start (c .before .before) .args .known .now) (c .before .before .loop .i) (pos 0))
 element c = search needs
 
--- what the comparison tells
+-- what the comparison shows
 told : (c : tie.After-same Inv-loop μ-loop)
     → c .same .result
     ≡ sameZ (getD (start (c .before .before .before) .args .known .now) (c .before .before .before .loop .i) (pos 0))

@@ -1,4 +1,4 @@
--- `twos_complement`: a number below 0 is turned round and counted down from 2^64 − 1.
+-- `twos_complement`: the bits of a number below 0 are inverted and counted down from 2^64 − 1.
 use Prim.Native.Nat.{ℕ, suc, _-_}
 use mathlib.Core.{Path.{_≡_, sym, ap, _∙_}, Bool.{true, false}}
 use native.Mathlib.Omega.{arith}

@@ -1,4 +1,4 @@
--- `hocsimbur_rows_at` also tells line and column.
+-- `hocsimbur_rows_at` also reports line and column.
 use mathlib.Core.Path.{ap, _∙_}
 use borrow.Author.Needs.{needs}
 use Rattle.whole.proofs.Bits.{back}

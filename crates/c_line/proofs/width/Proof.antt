@@ -1,4 +1,4 @@
--- `width` tells how many numbers a line has.
+-- `width` says how many numbers a line has.
 use mathlib.Core.Path.{sym, ap}
 use borrow.Author.Needs.{needs}
 use Rattle.c_line.specs.Line.{widthOf}

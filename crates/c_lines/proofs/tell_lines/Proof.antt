@@ -1,4 +1,4 @@
--- `tell_lines` tells the answer of the lines.
+-- `tell_lines` reports the answer of the lines.
 use borrow.Author.Needs.{needs}
 use Rattle.c_lines.proofs.{Arrays.{lines-few}, tell_lines.Statement.{statement}}
 use Rattle.c_lines.proofs.tell_lines.Tie as tie

@@ -1,4 +1,4 @@
--- `hocsimbur_carry` tells the operation's own answer.
+-- `hocsimbur_carry` reports the operation's own answer.
 use borrow.Author.Needs.{needs}
 use Rattle.whole.proofs.Bits.{back}
 use Rattle.case.specs.declared.Form.the-variants.{Present}

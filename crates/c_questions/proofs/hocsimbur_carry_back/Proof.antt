@@ -1,4 +1,4 @@
--- `hocsimbur_carry_back` tells the operation's own answer.
+-- `hocsimbur_carry_back` reports the operation's own answer.
 use borrow.Author.Needs.{needs}
 use Rattle.whole.proofs.Bits.{back}
 use Rattle.case.specs.declared.Form.the-variants.{Former}

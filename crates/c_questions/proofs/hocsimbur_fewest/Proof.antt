@@ -1,4 +1,4 @@
--- `hocsimbur_fewest` tells the answer of the sheet's one line.
+-- `hocsimbur_fewest` reports the answer of the sheet's one line.
 use borrow.Author.Needs.{needs}
 use Rattle.c_questions.proofs.{ReportCounts.{fewest-few}, hocsimbur_fewest.Statement.{statement}}
 use Rattle.c_questions.proofs.hocsimbur_fewest.Tie as tie

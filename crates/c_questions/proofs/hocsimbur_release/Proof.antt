@@ -1,4 +1,4 @@
--- `hocsimbur_release` tells the operation's own answer.
+-- `hocsimbur_release` reports the operation's own answer.
 use Prim.Native.Nat.{_<_, _^_}
 use lib.ListN.{length}
 use borrow.Author.Needs.{needs}

@@ -1,4 +1,4 @@
--- `hocsimbur_soil` tells the operation's own answer.
+-- `hocsimbur_soil` reports the operation's own answer.
 use borrow.Author.Needs.{needs}
 use Rattle.c_questions.proofs.{ReportCounts.{soil-few}, hocsimbur_soil.Statement.{statement}}
 use Rattle.c_questions.proofs.hocsimbur_soil.Tie as tie

@@ -1,4 +1,4 @@
--- `hocsimbur_split` tells the operation's own answer.
+-- `hocsimbur_split` reports the operation's own answer.
 use mathlib.Core.Path.{refl, ap}
 use borrow.Author.Needs.{needs}
 use Rattle.whole.proofs.Bits.{back}

@@ -1,4 +1,4 @@
--- `hocsimbur_summary` tells the operation's own answer.
+-- `hocsimbur_summary` reports the operation's own answer.
 use Prim.Native.Nat.{_<_, _^_}
 use lib.ListN.{length}
 use borrow.Author.Needs.{needs}

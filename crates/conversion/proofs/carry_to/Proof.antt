@@ -20,7 +20,7 @@ use Rattle.conversion.proofs.Answers.{answered-source, answered-change,
 use Rattle.conversion.proofs.carry_to.Statement.{statement}
 use Rattle.conversion.proofs.carry_to.Tie as tie
 
--- lines of either form fit a store for the most lines of today's
+-- lines of either form fit a store for as many lines of today's form as a sheet may have
 form-room : (form : Form) (n : ℕ) → n ≤ mostLines → length (formOf form) * n ≤ nameCount * mostLines
 form-room form n h = omega (arith, mul-le-mul-left (length (formOf form)) h, mul-le-mul-right mostLines (form-most form))
 

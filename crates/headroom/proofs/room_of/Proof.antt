@@ -1,4 +1,4 @@
--- `room_of` tells 0 as none.
+-- `room_of` reports 0 as none.
 use native.Mathlib.Omega.{arith}
 use Rattle.headroom.specs.Headroom.{roomOf}
 use Rattle.headroom.proofs.{Bracket.{room-some}, room_of.Statement.{statement}}

@@ -1,4 +1,4 @@
--- `append` takes the greatest digit from a hundred times the rest.
+-- `append` takes the greatest digit from a hundred times the remainder.
 use Prim.Native.Nat.{_+_, _*_, _≤_, _^_}
 use native.Mathlib.Omega.{arith}
 use lib.Dec.{lit<}

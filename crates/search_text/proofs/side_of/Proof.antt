@@ -1,4 +1,4 @@
--- `side_of` takes a line that is no value for 0.
+-- `side_of` reads a line that is not a value as 0.
 use borrow.Author.Needs.{needs}
 use Rattle.search_text.proofs.{SearchTexts.{side-value, side-none}, side_of.Statement.{statement}}
 use Rattle.search_text.proofs.side_of.Tie as tie

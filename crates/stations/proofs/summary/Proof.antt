@@ -1,4 +1,4 @@
--- `summary` asks the sheet's own question in a table of its own, tests the room of both tables, and then writes.
+-- `summary` asks the sheet's own question in a separate table, tests the room of both tables, and then writes.
 use Prim.Native.Nat.{_≤_}
 use native.Mathlib.Omega.{arith}
 use Rattle.judgement.specs.Limits.{mostLines}

@@ -1,4 +1,4 @@
--- `floor_div`: a number below 0 is turned round, divided, and turned round again.
+-- `floor_div`: the bits of a number below 0 are inverted, divided, and inverted again.
 use Prim.Native.Nat.{_-_, _/_, _<_, _^_}
 use mathlib.Core.{Path.{_≡_, sym, ap, _∙_}, Bool.{true, false}}
 use native.Mathlib.{Nat.{lt-of-le-of-lt, div-le-self}, Omega.{arith}}

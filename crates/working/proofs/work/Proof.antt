@@ -7,7 +7,7 @@ use borrow.Author.Needs.{needs}
 use Rattle.working.proofs.work.Statement.{statement}
 use Rattle.working.proofs.work.Tie as tie
 
--- where LM was worked, seen from LT and from Ks
+-- where LM was computed, seen from LT and from Ks
 abbrev measured : tie.After-in-micrometres3 → tie.After-mesh-length
 measured c = c .before .before .before .before .before .before .before .before .before
 

@@ -1,4 +1,4 @@
--- `put_signed` writes the sign and the magnitude: the bits, turned round or straight, are those of proofs/Signed.antt.
+-- `put_signed` writes the sign and the magnitude: the bits, inverted or as they are, are those of proofs/Signed.antt.
 use mathlib.Core.Path.{_∙_}
 use native.Mathlib.Omega.{arith}
 use borrow.Author.Needs.{needs}

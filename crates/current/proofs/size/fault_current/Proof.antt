@@ -25,7 +25,7 @@ module _ (c : tie.After-struct-told) where
   product : (z : ℤ) {n : ℕ} → read z ≡ pos n → n ≤ 2236068000 → Fits w64 (start .args .c .fault * natAbs (read z))
   product z e h = rw e (fits-product (start .pre .0 .fault .high) h (lit< tt))
 
--- either end of the factor would do for the needs: what the function returns tells them apart
+-- either end of the factor would do for the needs: what the function returns distinguishes them
 cast-result-2 : tie.Need-cast-result-2
 cast-result-2 c =
     let lower = natural-cast (span c .a) (held c .0) (read-lower (held c) (span c)) in

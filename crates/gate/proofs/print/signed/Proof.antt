@@ -1,4 +1,4 @@
--- `gate::print::signed` is safe: the bits of a number below 0, turned round, read as its magnitude less one.
+-- `gate::print::signed` is safe: the bits of a number below 0, inverted, read as its magnitude less one.
 use Prim.Native.Nat.{_-_}
 use mathlib.Core.{Path.{_≡_, _∙_, ap}, Bool.{true}}
 use native.Mathlib.Omega.{arith}

@@ -1,4 +1,4 @@
--- `logarithm::argument::halve` meets its contract: the leading zeros of q and of p tell how much longer p is.
+-- `logarithm::argument::halve` meets its contract: the leading zeros of q and of p show how much longer p is.
 use Prim.Native.Nat.{ℕ, _+_, _-_, _*_, _/_, _%_, _^_, _≤_, _<_}
 use mathlib.Core.Path.{_≡_, ap, _∙_}
 use native.Mathlib.{Omega.{arith}, Nat.{mod-eq-of-lt, pow-le-pow-right}}

@@ -1,4 +1,4 @@
--- `logarithm::argument::quotient` meets its contract: what i digits of the quotient are, and the rest below d.
+-- `logarithm::argument::quotient` meets its contract: what i digits of the quotient are, and the remainder below d.
 use Prim.Native.Nat.{_-_, _≤_}
 use mathlib.Core.Path.{_≡_}
 use native.Mathlib.Omega.{arith}

@@ -1,4 +1,4 @@
--- `read_value_line` tells no line, more than one, and a wrong one apart: proofs/OneLines.antt.
+-- `read_value_line` distinguishes no line, more than one, and a wrong one: proofs/OneLines.antt.
 use mathlib.Core.Path.{_≡_}
 use lib.ListN.{length, take}
 use borrow.Author.Needs.{needs}

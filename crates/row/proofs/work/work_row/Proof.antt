@@ -10,7 +10,7 @@ use Rattle.row.proofs.work.work_row.Tie as tie
 size-held : (c : tie.After-size-number) → SFits w64 (c .size-number .result)
 size-held c = search needs
 
--- where the parts were worked
+-- where the parts were computed
 abbrev worked : tie.After-resistance → tie.After-driven-parts
 worked c = c .before .before .before .before .before .before .before
 

@@ -1,4 +1,4 @@
--- `ceil` adds the quotient's and the rest's parts, the rest's rounded up.
+-- `ceil` adds the quotient's and the remainder's parts, the remainder's rounded up.
 use native.Mathlib.{Nat.{lt-of-lt-of-le}, Omega.{arith}}
 use lib.Dec.{lit≤}
 use borrow.Author.Needs.{needs}

@@ -1,4 +1,4 @@
--- `floor` adds the quotient's and the rest's parts.
+-- `floor` adds the quotient's and the remainder's parts.
 use native.Mathlib.Omega.{arith}
 use borrow.Author.Needs.{needs}
 use Rattle.whole.proofs.{WideProduct.{wide-floor, rest-high, floor-parts}, wide.floor.Statement.{statement}}
