@@ -4,9 +4,10 @@ use mathlib.Core.{Path.{_≡_, refl, sym, ap, _∙_}, Bool.{Bool, true, false, c
 use native.Mathlib.{Numerals.{add-one}, Decide.{ℕ-discrete}, Omega.{arith}}
 use lib.{ListN.{length, getD, set, replicate, length-set, length-replicate}, Seq.{getD-set-same, getD-set-other}, Dec.{ltb}}
 use borrow.Author.Tests.{eq-eqb, ne-eqb, le-leb, lt-leb, ltb-true}
-use Rattle.text.{specs.Text.{fieldsOf}, proofs.Clash.{clash}}
+use Rattle.text.specs.{Text.{fieldsOf}, declared.Columns.{Columns, the-variants.{Right, Wrong}}}
+use Rattle.text.proofs.{Clash.{clash}, LeftmostWrong.{WrongAt, none-wrong, one-wrong, right-columns, wrong-column}}
 use Rattle.case.specs.{Columns.{Form, nameIndex}, Bounds.{Placed}, Order.{Ordered}}
-use Rattle.header.specs.Header.{noColumns, fresh, wrongName, columnsFrom, columnsOf}
+use Rattle.header.specs.Header.{noColumns, fresh, wrongName, namesFound, columnsFrom, columnsOf}
 use Rattle.header.specs.{declared.names.Found.the-variants.{At, Nothing}, Parts.{Header, foundName}}
 use Rattle.header.proofs.FreeNames.{free, free-zeros, free-set, free-none, set-under}
 
@@ -186,25 +187,37 @@ turn-start form line order e = record { header = header-start form (fieldsOf lin
 
 module _ {form : Form} {line at order : List ℕ} {c : ℕ} where
   pub header-refused : {fs : List (List ℕ)} → HeaderAt form (fieldsOf line) at fs c → OrderAt form at order c
-      → wrongName form 1 (noColumns form) (fieldsOf line) ≡ c → Header form line c at order
+      → wrongName form 1 (noColumns form) (fieldsOf line) ≡ c → Header form line (Wrong c) at order
+  unfolding namesFound
   header-refused a o e =
-      let some = a .first in
       record {
-        wrong-is = sym e;
-        at-is = λ z. absurd (omega arith);
-        placed = λ z. absurd (omega arith);
-        ordered = λ z. absurd (omega arith);
+        found-is = rw e (sym (one-wrong c (a .first)));
+        at-is = λ z. clash cc;
+        placed = λ z. clash cc;
+        ordered = λ z. clash cc;
         columns-all = a .count;
         order-all = o .count;
       }
 
-  pub header-end : HeaderAt form (fieldsOf line) at [] c → OrderAt form at order c → length form < c → Header form line 0 at order
+  pub header-end : HeaderAt form (fieldsOf line) at [] c → OrderAt form at order c → length form < c → Header form line Right at order
+  unfolding namesFound
   header-end a o h =
       record {
-        wrong-is = sym (header-none a h);
+        found-is = sym (none-wrong _ (header-none a h));
         at-is = λ z. header-columns a;
         placed = λ z. header-placed a h;
         ordered = λ z. order-end a o h;
         columns-all = a .count;
         order-all = o .count;
       }
+
+-- ---- what the answer says of the names
+
+module _ {form : Form} {line at order : List ℕ} {found : Columns} (h : Header form line found at order) where
+  pub names-right : found ≡ Right → wrongName form 1 (noColumns form) (fieldsOf line) ≡ 0
+  unfolding namesFound
+  names-right e = right-columns _ (sym (h .found-is) ∙ e)
+
+  pub names-wrong : {c : ℕ} → found ≡ Wrong c → WrongAt (wrongName form 1 (noColumns form) (fieldsOf line)) c
+  unfolding namesFound
+  names-wrong e = wrong-column _ (sym (h .found-is) ∙ e)

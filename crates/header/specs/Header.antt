@@ -2,6 +2,7 @@
 use Prim.Native.Nat.{ℕ, suc}
 use mathlib.Core.{Bool.{Bool, cond, _&&_}, List.{List, [], _∷_}}
 use lib.{ListN.{length, getD, set, replicate}, Dec.{leb, ltb, eqb}}
+use Rattle.text.specs.{declared.Columns.{Columns}, Columns.{columnsBy}}
 use Rattle.case.specs.Columns.{Form, nameIndex}
 
 -- Below, `at` lists for each name of the form the column, from 1, in which it stands, and 0 while it has not been seen.
@@ -18,6 +19,10 @@ module _ (form : Form) where
   unfoldable pub wrongName : ℕ → List ℕ → List (List ℕ) → ℕ
   wrongName c at [] = cond (leb c (length form)) c 0
   wrongName c at (name ∷ names) = cond (fresh at name) (wrongName (suc c) (set at (nameIndex form name) c) names) c
+
+  -- what is said of the columns of a line of names
+  unfoldable pub namesFound : List (List ℕ) → Columns
+  namesFound names = columnsBy (wrongName 1 noColumns names)
 
   -- the columns of the names
   unfoldable pub columnsFrom : ℕ → List ℕ → List (List ℕ) → List ℕ

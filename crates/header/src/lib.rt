@@ -11,11 +11,12 @@ use names::Found;
 pub use names::Name;
 pub use names::all_names;
 use names::name_of;
+use text::Columns;
 use text::find;
 
-// Puts for each name the column, from 1, where it stands, and for each column the index of its name; answers the leftmost wrong column,
-// or 0.
-pub fn read_header(form: Form, line: &[u8], at: &mut [usize], order: &mut [usize]) -> usize
+// Puts for each name the column, from 1, where it stands, and for each column the index of its name; answers whether all columns are
+// right, or which is the leftmost wrong one.
+pub fn read_header(form: Form, line: &[u8], at: &mut [usize], order: &mut [usize]) -> Columns
     requires { ⌜ now at ≡ noColumns (formOf form) ⌝ }
     requires { ⌜ length (now order) ≡ length (formOf form) ⌝ }
     ensures { λ r. ⌜ Header (formOf form) (now (line .entry)) r (now (at .exit)) (now (order .exit)) ⌝ }
@@ -26,10 +27,10 @@ pub fn read_header(form: Form, line: &[u8], at: &mut [usize], order: &mut [usize
         let e = find(rest, 44);
         let found = name_of(form, c - 1, &rest[..e]);
         let Found::At(k) = found else {
-            return c;
+            return Columns::Wrong(c);
         };
         if at[k] != 0 {
-            return c;
+            return Columns::Wrong(c);
         }
         at[k] = c;
         order[c - 1] = k;
@@ -40,7 +41,7 @@ pub fn read_header(form: Form, line: &[u8], at: &mut [usize], order: &mut [usize
         rest = &rest[e + 1..];
     }
     if c <= at.len() {
-        return c;
+        return Columns::Wrong(c);
     }
-    0
+    Columns::Right
 }

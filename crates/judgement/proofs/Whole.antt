@@ -4,7 +4,8 @@ use mathlib.Core.{Path.{_≡_, refl, ap, _∙_}, Bool.{Bool, true, false, not, _
 use native.Mathlib.{Omega.{arith}, Nat.{le-trans, mul-le-mul-left}}
 use lib.{ListN.{length, getD, take, drop}, Dec.{eqb, ltb}}
 use borrow.Author.Tests.{eq-eqb, ne-eqb, lt-ltb, le-ltb, eqb-true, eqb-false, ltb-true, ltb-false, not-true, not-false}
-use Rattle.text.{specs.{Text.{indexOf, linesOf, fieldsOf}, Parts.{Skipped}}, proofs.{Clash.{clash}, Lines.{lines-next}}}
+use Rattle.text.specs.{Text.{indexOf, linesOf, fieldsOf}, Parts.{Skipped}, declared.Columns.{Columns, the-variants.{Right, Wrong}}}
+use Rattle.text.proofs.{Clash.{clash}, Lines.{lines-next}}
 use Rattle.text.proofs.LineTurns.{line-turn}
 use Rattle.case.specs.Columns.{Form}
 use Rattle.judgement.specs.declared.Judgement.{Judgement, the-variants.{Lines, Refused}}
@@ -12,7 +13,7 @@ use Rattle.judgement.specs.Limits.{Limits, today, mostBytes, mostLines}
 use Rattle.judgement.specs.Refusal.{textRefused, nameRefused, noLineRefused, manyLinesRefused}
 use Rattle.judgement.specs.Sheet.{names, valueLines, badText, valuesJudgement, namesJudgement, judgementWithin, judgement}
 use Rattle.judgement.specs.{Read.{Room, LinesRead, ValuesRead, Read}, Accepted.{RightText}}
-use Rattle.header.specs.{Header.{columnsOf}, Parts.{Header}}
+use Rattle.header.{specs.{Header.{columnsOf}, Parts.{Header}}, proofs.HeaderReading.{names-right, names-wrong}}
 
 -- ---- the text
 
@@ -98,20 +99,22 @@ room-left s e {r} b ends k room =
     let l = ap length (line-turn s e r (text-some s b) ends k) in
     record { enough = λ h m. room .enough (omega (arith, l)) m }
 
-module _ {form : Form} (s : List ℕ) {at order : List ℕ} {c : ℕ} (e : ℕ) (b : badText today s ≡ false) (ends : e ≡ indexOf 10 s)
-    (h : Header form (take e s) c at order) where
-  pub read-names : (store : List ℕ) → (c ≡ 0 → ⊥) → Read form s store store (Refused 2 1 c)
+module _ {form : Form} (s : List ℕ) {at order : List ℕ} {found : Columns} (e : ℕ) (b : badText today s ≡ false)
+    (ends : e ≡ indexOf 10 s) (h : Header form (take e s) found at order) where
+  pub read-names : {c : ℕ} (store : List ℕ) → found ≡ Wrong c → Read form s store store (Refused 2 1 c)
   unfolding judgement judgementWithin namesJudgement nameRefused
-  read-names store z = read-refused store (rw (b, names-are s e b ends, ← h .wrong-is, ne-eqb c 0 z))
+  read-names {c} store z =
+      let w = names-wrong h z in
+      read-refused store (rw (b, names-are s e b ends, w .is, ne-eqb c 0 (w .some)))
 
-  pub read-values : {before after : List ℕ} {j : Judgement} (r : ℕ) → c ≡ 0 → Skipped e (length s) r
+  pub read-values : {before after : List ℕ} {j : Judgement} (r : ℕ) → found ≡ Right → Skipped e (length s) r
       → ValuesRead form at (linesOf (take (length s - r) (drop r s))) before after j → Read form s before after j
   unfolding judgement judgementWithin namesJudgement
   read-values r z k v =
       let q : at ≡ columnsOf form (names s) = h .at-is z ∙ rw (← names-are s e b ends) in
       let l = values-are s e r b ends k in
       record {
-        answer-is = v .answer-is ∙ rw (b, names-are s e b ends, ← h .wrong-is, eq-eqb c 0 z, l, ← h .at-is z);
+        answer-is = v .answer-is ∙ rw (b, names-are s e b ends, names-right h z, l, ← h .at-is z);
         size = v .size;
         stored = λ n t. rw (l, ← q) (v .stored n t);
       }

@@ -17,6 +17,7 @@ use case::Form;
 use case::NAMES;
 use header::read_header;
 use pass::check_lines;
+use text::Columns;
 use text::count_lines;
 use text::find;
 use text::skip;
@@ -101,12 +102,13 @@ fn read_by(
         return Judgement::Refused(NOT_A_SHEET, 0, 0);
     }
     let e = find(s, 10);
-    let c = read_header(form, &s[..e], at, order);
-    if c != 0 {
-        return Judgement::Refused(WRONG_NAME, 1, c);
+    match read_header(form, &s[..e], at, order) {
+        Columns::Wrong(column) => Judgement::Refused(WRONG_NAME, 1, column),
+        Columns::Right => {
+            let next = skip(e, s.len());
+            judge_values(form, &s[next..], at, order, values)
+        }
     }
-    let next = skip(e, s.len());
-    judge_values(form, &s[next..], at, order, values)
 }
 
 // The judgement of a sheet of a form, and its values in the store, line after line in the order of the names. The store has room for the

@@ -3,7 +3,7 @@ use Prim.Native.Nat.{ℕ, zero, suc, _-_, _<_}
 use mathlib.Core.{Path.{_≡_, refl, sym, ap, _∙_}, List.{List, [], _∷_, map}}
 use native.Mathlib.Omega.{arith}
 use lib.{ListN.{length, getD, length-map}, Seq.{ext-getD}}
-use Rattle.text.specs.{Text.{fieldsOf}, Value.{valueOf}}
+use Rattle.text.specs.{Text.{fieldsOf}, Value.{valueOf}, declared.Columns.{Columns, the-variants.{Right}}}
 use Rattle.case.specs.{Bounds.{Placed}, Order.{Ordered}}
 use Rattle.line.specs.{Line.{lineValues}, Parts.{LineValues}}
 
@@ -12,8 +12,8 @@ map-at f [] k h = absurd (omega arith)
 map-at f (x ∷ l) zero h = refl
 map-at f (x ∷ l) (suc k) h = map-at f l k (omega arith)
 
-pub arranged : {n : ℕ} {at order line row : List ℕ} {wrong : ℕ} → Placed n at → Ordered n at order → LineValues n order line wrong row
-    → wrong ≡ 0 → row ≡ lineValues at (fieldsOf line)
+pub arranged : {n : ℕ} {at order line row : List ℕ} {found : Columns} → Placed n at → Ordered n at order → LineValues n order line found row
+    → found ≡ Right → row ≡ lineValues at (fieldsOf line)
 unfolding lineValues
 arranged {n} {at} {order} {line} {row} p o v z =
     ext-getD 0 row (map value at) (v .count ∙ sym (length-map at value ∙ p .count)) (λ k h. same k (omega (arith, v .count)))

@@ -4,17 +4,18 @@ use mathlib.Core.{Path.{_≡_, refl, sym, ap, _∙_}, Bool.{Bool, true, false, c
 use native.Mathlib.{Numerals.{add-one}, Nat.{add-zero, zero-add}, Decide.{ℕ-discrete}, Omega.{arith}}
 use lib.{ListN.{length, getD, set, length-set}, Seq.{getD-set-same, getD-set-other}}
 use borrow.Author.Tests.{le-leb, lt-leb}
-use Rattle.text.specs.{Text.{fieldsOf}, Value.{isValue, valueOf, fieldValue}, declared.Field.{Field, the-variants.{Wrong, Value}}}
-use Rattle.text.proofs.Clash.{clash}
-use Rattle.line.specs.{Line.{wrongForm}, Parts.{LineValues, ValuesAt}}
+use Rattle.text.specs.{Text.{fieldsOf}, Value.{isValue, valueOf, fieldValue}, declared.Field.{Field, the-variants.{Wrong as NoValue, Value}}}
+use Rattle.text.specs.declared.Columns.{Columns, the-variants.{Right, Wrong}}
+use Rattle.text.proofs.{Clash.{clash}, LeftmostWrong.{WrongAt, none-wrong, one-wrong, right-columns, wrong-column}}
+use Rattle.line.specs.{Line.{wrongForm, formFound}, Parts.{LineValues, ValuesAt}}
 use Rattle.case.specs.Order.{Distinct}
 
 -- what a field's value says of its form
-wrong-form : (b : Bool) (n : ℕ) → cond b (Value n) Wrong ≡ Wrong → b ≡ false
+wrong-form : (b : Bool) (n : ℕ) → cond b (Value n) NoValue ≡ NoValue → b ≡ false
 wrong-form true n e = cc
 wrong-form false n e = refl
 
-right-form : (b : Bool) (n x : ℕ) → cond b (Value n) Wrong ≡ Value x → (b ≡ true) × (x ≡ n)
+right-form : (b : Bool) (n x : ℕ) → cond b (Value n) NoValue ≡ Value x → (b ≡ true) × (x ≡ n)
 right-form true n x e = (refl, cc)
 right-form false n x e = clash cc
 
@@ -32,7 +33,7 @@ values-start order all row =
 module _ {n : ℕ} {order : List ℕ} {all : List (List ℕ)} {row : List ℕ} {fs : List (List ℕ)} {t : List ℕ} {ts : List (List ℕ)} {c : ℕ}
     {f : Field}
     (a : ValuesAt n order all row fs c) (next : fs ≡ t ∷ ts) (held : f ≡ fieldValue t) (h : c < n) where
-  pub values-wrong : f ≡ Wrong → wrongForm n 1 all ≡ c + 1
+  pub values-wrong : f ≡ NoValue → wrongForm n 1 all ≡ c + 1
   unfolding wrongForm fieldValue
   values-wrong e = a .wrong-left ∙ rw (next, le-leb (c + 1) n (omega arith), wrong-form (isValue t) (valueOf t) (sym held ∙ e))
 
@@ -62,25 +63,37 @@ module _ {n : ℕ} {order : List ℕ} {all : List (List ℕ)} {row : List ℕ} {
 -- ---- what is returned: a wrong column, or the values
 
 pub values-refused : {n : ℕ} {order line row : List ℕ} (c : ℕ) → length row ≡ n → wrongForm n 1 (fieldsOf line) ≡ c + 1
-    → LineValues n order line (c + 1) row
-values-refused c k e = record { wrong-is = sym e; count = k; values = λ z. absurd (omega arith) }
+    → LineValues n order line (Wrong (c + 1)) row
+unfolding formFound
+values-refused c k e = record { found-is = rw e (sym (one-wrong (c + 1) (omega arith))); count = k; values = λ z. clash cc }
 
 pub values-many : {n : ℕ} {order line row t : List ℕ} {fs ts : List (List ℕ)} {c : ℕ} → ValuesAt n order (fieldsOf line) row fs c
-    → fs ≡ t ∷ ts → n ≤ c → LineValues n order line (n + 1) row
+    → fs ≡ t ∷ ts → n ≤ c → LineValues n order line (Wrong (n + 1)) row
 unfolding wrongForm
 values-many {n} {c = c} a next h =
     values-refused n (a .count) (a .wrong-left ∙ rw (next, lt-leb (c + 1) n (omega arith)) (omega (arith, a .most)))
 
 module _ {n : ℕ} {order line row : List ℕ} {c : ℕ} (a : ValuesAt n order (fieldsOf line) row [] c) where
-  pub values-few : c < n → LineValues n order line (c + 1) row
+  pub values-few : c < n → LineValues n order line (Wrong (c + 1)) row
   unfolding wrongForm
   values-few h = values-refused c (a .count) (a .wrong-left ∙ rw (le-leb (c + 1) n (omega arith)))
 
-  pub values-end : n ≤ c → LineValues n order line 0 row
-  unfolding wrongForm
+  pub values-end : n ≤ c → LineValues n order line Right row
+  unfolding wrongForm formFound
   values-end h =
       record {
-        wrong-is = sym (a .wrong-left ∙ rw (lt-leb (c + 1) n (omega arith)));
+        found-is = sym (none-wrong _ (a .wrong-left ∙ rw (lt-leb (c + 1) n (omega arith))));
         count = a .count;
         values = λ z i l. a .values-put i (omega arith);
       }
+
+-- ---- what the answer says of the fields
+
+module _ {n : ℕ} {order line row : List ℕ} {found : Columns} (v : LineValues n order line found row) where
+  pub form-right : found ≡ Right → wrongForm n 1 (fieldsOf line) ≡ 0
+  unfolding formFound
+  form-right e = right-columns _ (sym (v .found-is) ∙ e)
+
+  pub form-wrong : {c : ℕ} → found ≡ Wrong c → WrongAt (wrongForm n 1 (fieldsOf line)) c
+  unfolding formFound
+  form-wrong e = wrong-column _ (sym (v .found-is) ∙ e)

@@ -4,6 +4,7 @@ ghost use Rattle.case.specs.Order.{Distinct};
 ghost use Rattle.text.specs.Text.{fieldsOf};
 ghost use Rattle.line.specs.Parts.{LineValues, ValuesAt};
 ghost use lib.ListN.{length, drop};
+use text::Columns;
 use text::FRONT;
 use text::Field;
 use text::first_field;
@@ -44,8 +45,9 @@ fn front_values<'a>(line: &'a [u8], order: &'a [usize], row: &mut [u32]) -> Fron
     }
 }
 
-// Puts the values of a line at the indices of their columns' names; answers the leftmost wrong column, or 0.
-pub fn read_values<'a>(line: &'a [u8], order: &'a [usize], row: &mut [u32]) -> usize
+// Puts the values of a line at the indices of their columns' names; answers whether all columns are right, or which is the leftmost
+// wrong one.
+pub fn read_values<'a>(line: &'a [u8], order: &'a [usize], row: &mut [u32]) -> Columns
     requires { ⌜ Distinct (length (now row)) (now order) ⌝ }
     ensures { λ r. ⌜ LineValues (length (now (row .entry))) (now (order .entry)) (now (line .entry)) r (now (row .exit)) ⌝ }
 {
@@ -56,13 +58,13 @@ pub fn read_values<'a>(line: &'a [u8], order: &'a [usize], row: &mut [u32]) -> u
     let mut c = front.count;
     loop {
         if n <= c {
-            return n + 1;
+            return Columns::Wrong(n + 1);
         }
         let first = first_field(rest);
         let e = first.end;
         let f = first.field;
         let Field::Value(x) = f else {
-            return c + 1;
+            return Columns::Wrong(c + 1);
         };
         let k = order[c];
         row[k] = x;
@@ -73,7 +75,7 @@ pub fn read_values<'a>(line: &'a [u8], order: &'a [usize], row: &mut [u32]) -> u
         rest = &rest[e + 1..];
     }
     if c < n {
-        return c + 1;
+        return Columns::Wrong(c + 1);
     }
-    0
+    Columns::Right
 }

@@ -13,6 +13,7 @@ use case::Finding;
 use case::Form;
 use case::check_values;
 use line::read_values;
+use text::Columns;
 
 // What the checks of a value line find, with the column at fault.
 pub enum LineFinding {
@@ -108,9 +109,8 @@ pub fn check_line<'a>(
     requires { ⌜ length (now row) ≡ length (formOf form) ⌝ }
     ensures { λ r. ⌜ Checks (formOf form) (now (at .entry)) (keysOf (now (keys .entry)) n) (now (line .entry)) r (now (row .exit)) ⌝ }
 {
-    let column = read_values(line, order, row);
-    if column != 0 {
-        return LineFinding::Form(column);
+    match read_values(line, order, row) {
+        Columns::Wrong(column) => LineFinding::Form(column),
+        Columns::Right => values_finding(form, at, row, keys, n, most),
     }
-    values_finding(form, at, row, keys, n, most)
 }

@@ -3,12 +3,13 @@ use Prim.Native.Nat.{ℕ, _-_, _≤_, _<_}
 use mathlib.Core.{Path.{_≡_, refl, sym, ap, _∙_}, Bool.{true, false}, List.{List, [], _∷_}}
 use native.Mathlib.Omega.{arith}
 use lib.ListN.{length, take, drop, length-drop}
-use borrow.Author.Tests.{eq-eqb, ne-eqb, lt-ltb}
-use Rattle.text.{specs.{Text.{indexOf, linesOf, fieldsOf}, Parts.{Skipped}}, proofs.{Clash.{clash}, FieldTurns.{part-end}}}
-use Rattle.text.proofs.{Lines.{lines-next, lines-none}, LineTurns.{line-turn}}
+use borrow.Author.Tests.{ne-eqb, lt-ltb}
+use Rattle.text.specs.{Text.{indexOf, linesOf, fieldsOf}, Parts.{Skipped}, declared.Columns.{Columns, the-variants.{Right, Wrong}}}
+use Rattle.text.proofs.{Clash.{clash}, FieldTurns.{part-end}, Lines.{lines-next, lines-none}, LineTurns.{line-turn}}
 use Rattle.case.specs.{declared.Case.{Case}, Case.{caseOf}, Columns.{columns, nameCount, name-count}, Bounds.{Placed}, Order.{Ordered}}
-use Rattle.header.specs.Parts.{Header}
-use Rattle.line.{specs.{Line.{lineCase}, Parts.{LineValues}}, proofs.Arranging.{arranged}}
+use Rattle.header.{specs.Parts.{Header}, proofs.HeaderReading.{names-right, names-wrong}}
+use Rattle.line.specs.{Line.{wrongForm, lineCase}, Parts.{LineValues}}
+use Rattle.line.proofs.{Arranging.{arranged}, ValuesReading.{form-right, form-wrong}}
 use Rattle.judgement.specs.{declared.Judgement.{Judgement, the-variants.{Lines, Refused}}, Limits.{today}, Sheet.{names, badText}}
 use Rattle.judgement.specs.Refusal.{textRefused, nameRefused, noLineRefused, manyLinesRefused, lineJudgement}
 use Rattle.judgement.proofs.Whole.{names-are, values-are}
@@ -53,20 +54,20 @@ module _ (s order : List ℕ) {values : List ℕ} (count : length values ≡ nam
         let two = two-lines s some e r ends k h in
         values-refused count (rw (ne-eqb (length (linesOf s)) 0 (λ z. omega (arith, two)), lt-ltb 1 (length (linesOf s)) two))
 
-    module _ (h : length s ≤ r) {wrong : ℕ} (v : LineValues nameCount order (take e s) wrong values) where
-      fields-are : valuesJudged (linesOf s) ≡ fieldsJudged wrong
+    module _ (h : length s ≤ r) {found : Columns} (v : LineValues nameCount order (take e s) found values) where
+      fields-are : valuesJudged (linesOf s) ≡ fieldsJudged (wrongForm nameCount 1 (fieldsOf (take e s)))
       unfolding valuesJudged
-      fields-are = rw (one-line s some e r ends k h, v .wrong-is)
+      fields-are = rw (one-line s some e r ends k h)
 
-      pub wrong-line : (wrong ≡ 0 → ⊥) → ValuesRead (linesOf s) order values (Refused 3 2 wrong)
+      pub wrong-line : {c : ℕ} → found ≡ Wrong c → ValuesRead (linesOf s) order values (Refused 3 2 c)
       unfolding fieldsJudged lineJudgement
-      wrong-line z = values-refused count (rw (fields-are, ne-eqb wrong 0 z))
+      wrong-line {c} z = let w = form-wrong v z in values-refused count (rw (fields-are, w .is, ne-eqb c 0 (w .some)))
 
-      pub right-line : wrong ≡ 0 → ValuesRead (linesOf s) order values (Lines 1)
+      pub right-line : found ≡ Right → ValuesRead (linesOf s) order values (Lines 1)
       unfolding fieldsJudged lineJudgement
       right-line z =
           record {
-            answer-is = rw (fields-are, eq-eqb wrong 0 z);
+            answer-is = rw (fields-are, form-right v z);
             count = count;
             line-read = λ q. rw (one-line s some e r ends k h) (rw z at v);
           }
@@ -77,16 +78,18 @@ pub wrong-text : (s : List ℕ) {values : List ℕ} → length values ≡ nameCo
 unfolding sheetJudged textRefused
 wrong-text s count b = record { answer-is = rw b; count = count; values-are = no-refusal }
 
-module _ (s : List ℕ) {at order : List ℕ} {wrong e : ℕ} (b : badText today s ≡ false) (ends : e ≡ indexOf 10 s)
-    (h : Header columns (take e s) wrong at order) where
+module _ (s : List ℕ) {at order : List ℕ} {found : Columns} {e : ℕ} (b : badText today s ≡ false) (ends : e ≡ indexOf 10 s)
+    (h : Header columns (take e s) found at order) where
   names-of : names s ≡ fieldsOf (take e s)
   names-of = names-are s e b ends
 
-  pub wrong-names : {values : List ℕ} → length values ≡ nameCount → (wrong ≡ 0 → ⊥) → SheetRead s values (Refused 2 1 wrong)
+  pub wrong-names : {values : List ℕ} {c : ℕ} → length values ≡ nameCount → found ≡ Wrong c → SheetRead s values (Refused 2 1 c)
   unfolding sheetJudged namesJudged nameRefused
-  wrong-names count z = record { answer-is = rw (b, names-of, ← h .wrong-is, ne-eqb wrong 0 z); count = count; values-are = no-refusal }
+  wrong-names {c = c} count z =
+      let w = names-wrong h z in
+      record { answer-is = rw (b, names-of, w .is, ne-eqb c 0 (w .some)); count = count; values-are = no-refusal }
 
-  pub right-names : {values : List ℕ} {r : ℕ} {j : Judgement} → wrong ≡ 0 → Skipped e (length s) r
+  pub right-names : {values : List ℕ} {r : ℕ} {j : Judgement} → found ≡ Right → Skipped e (length s) r
       → ValuesRead (linesOf (take (length s - r) (drop r s))) order values j → SheetRead s values j
   unfolding sheetJudged namesJudged
   right-names {values} {r} z k v =
@@ -94,7 +97,7 @@ module _ (s : List ℕ) {at order : List ℕ} {wrong e : ℕ} (b : badText today
       let placed : Placed nameCount at = rw name-count at (h .placed z) in
       let ordered : Ordered nameCount at order = rw name-count at (h .ordered z) in
       record {
-        answer-is = v .answer-is ∙ rw (b, names-of, ← h .wrong-is, eq-eqb wrong 0 z, later);
+        answer-is = v .answer-is ∙ rw (b, names-of, names-right h z, later);
         count = v .count;
         values-are = λ q. rw (names-of, later, ← h .at-is z) (arranged placed ordered (v .line-read q) refl);
       }

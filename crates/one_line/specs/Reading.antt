@@ -2,7 +2,7 @@
 use Prim.Native.Nat.{ℕ}
 use mathlib.Core.{Path.{_≡_}, List.{List, []}}
 use lib.ListN.{length, getD}
-use Rattle.text.specs.Text.{fieldsOf}
+use Rattle.text.specs.{Text.{fieldsOf}, declared.Columns.the-variants.{Right}}
 use Rattle.case.specs.Columns.{columns, nameCount}
 use Rattle.header.specs.Header.{columnsOf}
 use Rattle.line.specs.{Line.{lineValues}, Parts.{LineValues}}
@@ -13,7 +13,7 @@ use Rattle.one_line.specs.Sheet.{valuesJudged, sheetJudged}
 pub record ValuesRead (lines : List (List ℕ)) (order values : List ℕ) (r : Judgement) : Type 0 where
   pub answer-is : r ≡ valuesJudged lines
   pub count : length values ≡ nameCount
-  pub line-read : {n : ℕ} → r ≡ Lines n → LineValues nameCount order (getD lines 0 []) 0 values
+  pub line-read : {n : ℕ} → r ≡ Lines n → LineValues nameCount order (getD lines 0 []) Right values
 
 -- the sheet, its values in the order of the names
 pub record SheetRead (s values : List ℕ) (r : Judgement) : Type 0 where

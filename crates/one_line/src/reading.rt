@@ -15,6 +15,7 @@ use judgement::WRONG_LINE_COUNT;
 use judgement::WRONG_NAME;
 use judgement::bad_text;
 use line::read_values;
+use text::Columns;
 use text::find;
 use text::skip;
 
@@ -31,11 +32,10 @@ fn read_value_line<'a>(s: &'a [u8], order: &'a [usize], values: &mut [u32]) -> J
     if skip(e, s.len()) < s.len() {
         return Judgement::Refused(WRONG_LINE_COUNT, 3, 0);
     }
-    let wrong = read_values(&s[..e], order, values);
-    if wrong != 0 {
-        return Judgement::Refused(NOT_A_VALUE, 2, wrong);
+    match read_values(&s[..e], order, values) {
+        Columns::Wrong(column) => Judgement::Refused(NOT_A_VALUE, 2, column),
+        Columns::Right => Judgement::Lines(1),
     }
-    Judgement::Lines(1)
 }
 
 // Refusals 1, 2, 4 and 3 of a sheet.
@@ -49,10 +49,11 @@ pub fn read_one(s: &[u8], values: &mut [u32]) -> Judgement
     let e = find(s, 10);
     let mut at = [0usize; NAMES];
     let mut order = [0usize; NAMES];
-    let wrong = read_header(Form::Present, &s[..e], &mut at, &mut order);
-    if wrong != 0 {
-        return Judgement::Refused(WRONG_NAME, 1, wrong);
+    match read_header(Form::Present, &s[..e], &mut at, &mut order) {
+        Columns::Wrong(column) => Judgement::Refused(WRONG_NAME, 1, column),
+        Columns::Right => {
+            let next = skip(e, s.len());
+            read_value_line(&s[next..], &order, values)
+        }
     }
-    let next = skip(e, s.len());
-    read_value_line(&s[next..], &order, values)
 }

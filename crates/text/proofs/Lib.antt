@@ -9,3 +9,4 @@ pub mod Counts
 pub mod FirstFields
 pub mod FieldTurns
 pub mod LineTurns
+pub mod LeftmostWrong

@@ -1,3 +1,4 @@
 pub mod Text
 pub mod Value
 pub mod Parts
+pub mod Columns

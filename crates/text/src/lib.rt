@@ -26,6 +26,12 @@ pub struct FrontValue {
     pub value: u32,
 }
 
+// What is said of the columns of a line, from 1: all are right, or which is the leftmost wrong one.
+pub enum Columns {
+    Right,
+    Wrong(usize),
+}
+
 // The bytes of the longest value and the one after it.
 pub const FRONT: usize = 7;
 

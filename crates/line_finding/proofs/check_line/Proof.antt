@@ -1,4 +1,5 @@
 -- `check_line` meets its contract, by the laws of proofs/LineChecked.antt.
+use borrow.Author.Needs.{needs}
 use lib.ListN.{length}
 use Rattle.case.{specs.Parts.{formOf}, proofs.Order.{distinct}}
 use Rattle.line.{specs.Parts.{LineValues}, proofs.Arranging.{arranged}}
@@ -19,26 +20,28 @@ line-values : (v : tie.After-read-values)
 line-values v = rw (start v .pre .1 .1 .1 .1) at (v .read-values .ensures)
 
 same-length : tie.Need-same-length
-same-length c = c .before .before .before .read-values .ensures .count
+same-length c = c .before .before .before .before .before .read-values .ensures .count
 
 returns : tie.Need-returns
-returns c = judged-form _ (line-values (c .before .before .before)) _ (c .if1 .taken)
+returns c = judged-form _ (line-values (c .before .before .before .before .before)) _ (c .before .column .given .1)
 
 values-finding-requires : tie.Need-values-finding-requires
 values-finding-requires c κs =
-    let v = c .before .before .before .before in
+    let v = c .before .before .before .before .before in
     (start v .pre .0, (line-values v .count, (start v .pre .1 .1 .0, start v .pre .1 .1 .1 .0)))
 
 same-length-2 : tie.Need-same-length-2
-same-length-2 c = c .before .before .before .before .before .read-values .ensures .count
+same-length-2 c = c .before .before .before .before .before .before .read-values .ensures .count
 
 returns-2 : tie.Need-returns-2
 returns-2 c =
     let e = c .before .before in
-    let v = e .before .before .before in
+    let v = e .before .before .before .before in
     judged-values _ (line-values v) _ _ (form-keyed (start v .args .form))
-    (key-fits (start v .args .form) _ (start v .pre .0) (line-values v .count)) (e .if1 .left)
-    (arranged (start v .pre .0) (start v .pre .1 .0) (line-values v) (e .if1 .left)) (c .values-finding .ensures)
+    (key-fits (start v .args .form) _ (start v .pre .0) (line-values v .count)) (e .enum-told .given .1)
+    (arranged (start v .pre .0) (start v .pre .1 .0) (line-values v) (e .enum-told .given .1)) (c .values-finding .ensures)
 
 pub check-line-spec : {M : Type 1} → statement M
-check-line-spec = tie.close (tie.spec read-values-requires same-length returns values-finding-requires same-length-2 returns-2)
+check-line-spec =
+    tie.close (tie.spec read-values-requires (λ c. search needs) (λ c. search needs) values-finding-requires same-length returns
+    same-length-2 returns-2)

@@ -34,19 +34,23 @@ text h = let l = ends h .before in sym (l .before .bad-text .ensures) ∙ l .if1
 returns-2 : tie.Need-returns-2
 unfolding formOf
 returns-2 c =
-    let h = c .before .before .before in
-    wrong-names (start h .args .s .now) (text h) (ends h .find .ensures) (h .read-header .ensures) (start h .pre) (c .if2 .taken)
+    let h = c .before .before .before .before .before in
+    wrong-names (start h .args .s .now) (text h) (ends h .find .ensures) (h .read-header .ensures) (start h .pre) (c .before .column .given .1)
+
+-- the names that are right
+abbrev right : tie.After-enum-told → tie.After-read-header
+right e = e .before .before .before .before
 
 slice-aggregate-read-value-line : tie.Need-slice-aggregate-read-value-line
 unfolding formOf
-slice-aggregate-read-value-line c = sym (c .before .before .before .before .before .before .read-header .ensures .order-all ∙ name-count)
+slice-aggregate-read-value-line c = sym (right (c .before .before .before) .read-header .ensures .order-all ∙ name-count)
 
 read-value-line-requires : tie.Need-read-value-line-requires
 unfolding formOf
 read-value-line-requires c κs =
     let e = c .before .before .before .before in
-    let h = e .before .before .before in
-    (rw (← name-count) (distinct (h .read-header .ensures .ordered (e .if2 .left))), start h .pre)
+    let h = right e in
+    (rw (← name-count) (distinct (h .read-header .ensures .ordered (e .enum-told .given .1))), start h .pre)
 
 returns-3 : tie.Need-returns-3
 unfolding formOf
@@ -54,12 +58,12 @@ returns-3 c =
     let v = c .before .before in
     let k = v .before .before .before .before in
     let e = k .before in
-    let h = e .before .before .before in
+    let h = right e in
     right-names (start h .args .s .now) (text h) (ends h .find .ensures) (h .read-header .ensures)
-    (e .if2 .left) (k .skip .ensures) (v .read-value-line .ensures)
+    (e .enum-told .given .1) (k .skip .ensures) (v .read-value-line .ensures)
 
 pub read-one-spec : {M : Type 1} → statement M
 read-one-spec =
     tie.close (tie.spec (λ c κs. search needs) returns (λ c κs. search needs) slice-aggregate-read-header (λ c. search needs)
-    (λ c. search needs) read-header-requires returns-2 (λ c κs. search needs) (λ c. search needs) (λ c. search needs) (λ c. search needs)
-    slice-aggregate-read-value-line read-value-line-requires (λ c. search needs) returns-3)
+    (λ c. search needs) read-header-requires (λ c. search needs) (λ c. search needs) (λ c κs. search needs) (λ c. search needs)
+    (λ c. search needs) (λ c. search needs) slice-aggregate-read-value-line read-value-line-requires returns-2 (λ c. search needs) returns-3)

@@ -46,23 +46,23 @@ module _ (v : tie.After-read-values) where
 
 returns-3 : tie.Need-returns-3
 returns-3 c =
-    let v = c .before .before .before in
+    let v = c .before .before .before .before .before in
     let d = v .before .before .before in
     let k = d .before in
     let z = k .before .before in
     wrong-line (start z .args .s .now) (start z .args .order .now) (values-count v) (z .if1 .left) (k .before .find .ensures)
-    (k .skip .ensures) (d .if2 .left) (line-values v) (c .if3 .taken)
+    (k .skip .ensures) (d .if2 .left) (line-values v) (c .before .column .given .1)
 
 returns-4 : tie.Need-returns-4
 returns-4 c =
-    let v = c .before .before .before in
+    let v = c .before .before .before .before in
     let d = v .before .before .before in
     let k = d .before in
     let z = k .before .before in
     right-line (start z .args .s .now) (start z .args .order .now) (values-count v) (z .if1 .left) (k .before .find .ensures)
-    (k .skip .ensures) (d .if2 .left) (line-values v) (c .if3 .left)
+    (k .skip .ensures) (d .if2 .left) (line-values v) (c .enum-told .given .1)
 
 pub read-value-line-spec : {M : Type 1} → statement M
 read-value-line-spec =
     tie.close (tie.spec returns (λ c κs. search needs) (λ c κs. search needs) returns-2 slice-aggregate-read-values read-values-requires
-    (λ c. search needs) returns-3 (λ c. search needs) returns-4)
+    (λ c. search needs) (λ c. search needs) (λ c. search needs) returns-3 (λ c. search needs) returns-4)
