@@ -1,12 +1,13 @@
 -- The pass that finds the stations by first appearance: the lines before i are placed.
 use Prim.Native.Nat.{ℕ, zero, suc, _+_, _-_, _≤_, _<_}
-use mathlib.Core.{Path.{_≡_, refl, sym, ap, _∙_}, Logic.{_⊎_, inl, inr, ⊎-elim}, Bool.{Bool, true, false, _||_}, List.{List, [], _∷_, _++_}}
+use mathlib.Core.{Path.{_≡_, refl, sym, ap, _∙_}, Logic.{_⊎_, inl, inr}, Bool.{Bool, true, false, _||_}, List.{List, [], _∷_, _++_}}
 use native.Mathlib.{Nat.{eq-or-lt-of-le}, Numerals.{add-one}, Omega.{arith}}
 use lib.{IntN.{ℤ, pos}, ListN.{length, getD, set, take, length-set}}
 use lib.Seq.{getD-set-same, getD-set-other, getD-take, take-suc-set, length-take-le}
 use Rattle.judgement.specs.Limits.{mostLines}
 use Rattle.station_sums.{specs.Summary.{sameZ, among, byAppearance}, proofs.Same.{same-refl, not-same}}
-use Rattle.appearance.specs.Places.{PlaceOf, stationAt, stationColumn, Places}
+use Rattle.appearance.specs.Places.{stationAt, stationColumn, Places}
+use Rattle.appearance.proofs.Standing.{NotAmong, StandsAt}
 
 -- ---- a station among some
 
@@ -25,17 +26,18 @@ unfolding among
 among-none x [] h = refl
 among-none x (y ∷ l) h = rw (not-same x y (λ e. h zero (omega arith) (sym e))) (among-none x l (λ k g. h (suc k) (omega arith)))
 
-module _ {known : List ℤ} {count : ℕ} {x : ℤ} {p : ℕ} (fits : count ≤ length known) (q : PlaceOf known count x p) where
-  placed-among : p < count → among x (take count known) ≡ true
-  placed-among h =
-      among-at x p (take count known) (omega (arith, length-take-le count known fits)) (getD-take count known p (pos 0) h ∙ q .here h)
+module _ {known : List ℤ} {count : ℕ} {x : ℤ} (fits : count ≤ length known) where
+  placed-among : {p : ℕ} → StandsAt known count x p → among x (take count known) ≡ true
+  placed-among {p} q =
+      let h = q .within in
+      among-at x p (take count known) (omega (arith, length-take-le count known fits)) (getD-take count known p (pos 0) h ∙ q .here)
 
-  placed-new : p ≡ count → among x (take count known) ≡ false
-  placed-new h =
+  placed-new : NotAmong known count x → among x (take count known) ≡ false
+  placed-new q =
       among-none x (take count known)
       (λ k g e.
       let l : k < count = omega (arith, length-take-le count known fits) in
-      q .before k (omega arith) (sym (getD-take count known k (pos 0) l) ∙ e))
+      q .none k l (sym (getD-take count known k (pos 0) l) ∙ e))
 
 from-known : (found : List ℤ) (x : ℤ) (xs : List ℤ) → among x found ≡ true → byAppearance found (x ∷ xs) ≡ byAppearance found xs
 unfolding byAppearance
@@ -84,9 +86,8 @@ module _ {table : List ℤ} {n i : ℕ} {known : List ℤ} {places : List ℕ} {
       rw z
 
   -- the line's station is among those found
-  pub placing-known : {p : ℕ} → PlaceOf known count (stationAt table i) p → (p ≡ count → ⊥)
-      → Placing table n (i + 1) known (set places i p) count
-  placing-known {p} q other =
+  pub placing-known : {p : ℕ} → StandsAt known count (stationAt table i) p → Placing table n (i + 1) known (set places i p) count
+  placing-known {p} q =
       record {
         most = omega arith;
         fewer = omega (arith, a .fewer);
@@ -98,14 +99,11 @@ module _ {table : List ℤ} {n i : ℕ} {known : List ℤ} {places : List ℕ} {
         apart = a .apart;
       }
     where
-      l : p < count
-      l = ⊎-elim (λ e. absurd (other e)) (λ g. g) (eq-or-lt-of-le (q .most))
-
       skipped : byAppearance (take count known) (stationColumn table i (n - i))
           ≡ byAppearance (take count known) (stationColumn table (suc i) (n - suc i))
       skipped =
           ap (byAppearance (take count known)) next-row
-          ∙ from-known (take count known) _ _ (placed-among (omega (arith, a .fewer, a .known-size)) q l)
+          ∙ from-known (take count known) _ _ (placed-among (omega (arith, a .fewer, a .known-size)) q)
 
       here : getD (set places i p) i 0 ≡ p
       here = getD-set-same places i p 0 (omega (arith, a .places-size))
@@ -114,22 +112,22 @@ module _ {table : List ℤ} {n i : ℕ} {known : List ℤ} {places : List ℕ} {
       there k g = getD-set-other places i k p 0 (λ e. omega arith)
 
       at-within : (k : ℕ) → (k ≡ i) ⊎ (k < i) → getD (set places i p) k 0 < count
-      at-within k (inl e) = rw (e, here) l
+      at-within k (inl e) = rw (e, here) (q .within)
       at-within k (inr g) = rw (there k g) (a .within k g)
 
       at-own : (k : ℕ) → (k ≡ i) ⊎ (k < i) → getD known (getD (set places i p) k 0) (pos 0) ≡ stationAt table k
-      at-own k (inl e) = rw (e, here) (q .here l)
+      at-own k (inl e) = rw (e, here) (q .here)
       at-own k (inr g) = rw (there k g) (a .own k g)
 
   -- it is a new one
-  pub placing-new : {p : ℕ} → PlaceOf known count (stationAt table i) p → p ≡ count
-      → Placing table n (i + 1) (set known count (stationAt table i)) (set places i p) (count + 1)
-  placing-new {p} q l =
+  pub placing-new : NotAmong known count (stationAt table i)
+      → Placing table n (i + 1) (set known count (stationAt table i)) (set places i count) (count + 1)
+  placing-new q =
       record {
         most = omega arith;
         fewer = omega (arith, a .fewer);
         known-size = length-set known count (stationAt table i) ∙ a .known-size;
-        places-size = length-set places i p ∙ a .places-size;
+        places-size = length-set places i count ∙ a .places-size;
         found = rw (add-one, add-one) (sym longer ∙ a .found);
         within = λ k g. at-within k (eq-or-lt-of-le (omega arith));
         own = λ k g. at-own k (eq-or-lt-of-le (omega arith));
@@ -142,15 +140,15 @@ module _ {table : List ℤ} {n i : ℕ} {known : List ℤ} {places : List ℕ} {
       longer : byAppearance (take count known) (stationColumn table i (n - i))
           ≡ byAppearance (take (suc count) (set known count (stationAt table i))) (stationColumn table (suc i) (n - suc i))
       longer =
-          ap (byAppearance (take count known)) next-row ∙ from-new (take count known) _ _ (placed-new (omega arith) q l)
+          ap (byAppearance (take count known)) next-row ∙ from-new (take count known) _ _ (placed-new (omega arith) q)
           ∙ ap (λ (f : List ℤ). byAppearance f (stationColumn table (suc i) (n - suc i)))
           (sym (take-suc-set known count (stationAt table i) inside))
 
-      here : getD (set places i p) i 0 ≡ p
-      here = getD-set-same places i p 0 (omega (arith, a .places-size))
+      here : getD (set places i count) i 0 ≡ count
+      here = getD-set-same places i count 0 (omega (arith, a .places-size))
 
-      there : (k : ℕ) → k < i → getD (set places i p) k 0 ≡ getD places k 0
-      there k g = getD-set-other places i k p 0 (λ e. omega arith)
+      there : (k : ℕ) → k < i → getD (set places i count) k 0 ≡ getD places k 0
+      there k g = getD-set-other places i k count 0 (λ e. omega arith)
 
       new : getD (set known count (stationAt table i)) count (pos 0) ≡ stationAt table i
       new = getD-set-same known count (stationAt table i) (pos 0) inside
@@ -158,20 +156,20 @@ module _ {table : List ℤ} {n i : ℕ} {known : List ℤ} {places : List ℕ} {
       old : (k : ℕ) → k < count → getD (set known count (stationAt table i)) k (pos 0) ≡ getD known k (pos 0)
       old k g = getD-set-other known count k (stationAt table i) (pos 0) (λ e. omega arith)
 
-      at-within : (k : ℕ) → (k ≡ i) ⊎ (k < i) → getD (set places i p) k 0 < count + 1
+      at-within : (k : ℕ) → (k ≡ i) ⊎ (k < i) → getD (set places i count) k 0 < count + 1
       at-within k (inl e) = rw (e, here) (omega arith)
       at-within k (inr g) = rw (there k g) (omega (arith, a .within k g))
 
       at-own : (k : ℕ) → (k ≡ i) ⊎ (k < i)
-          → getD (set known count (stationAt table i)) (getD (set places i p) k 0) (pos 0) ≡ stationAt table k
-      at-own k (inl e) = rw (e, here, l) new
+          → getD (set known count (stationAt table i)) (getD (set places i count) k 0) (pos 0) ≡ stationAt table k
+      at-own k (inl e) = rw (e, here) new
       at-own k (inr g) = rw (there k g, old (getD places k 0) (a .within k g)) (a .own k g)
 
       at-apart : (j k : ℕ) → (j ≡ count) ⊎ (j < count) → (k ≡ count) ⊎ (k < count)
           → getD (set known count (stationAt table i)) j (pos 0) ≡ getD (set known count (stationAt table i)) k (pos 0) → j ≡ k
       at-apart j k (inl e) (inl f) s = e ∙ sym f
-      at-apart j k (inl e) (inr f) s = absurd (q .before k (omega arith) (sym (old k f) ∙ sym s ∙ rw e new))
-      at-apart j k (inr e) (inl f) s = absurd (q .before j (omega arith) (sym (old j e) ∙ s ∙ rw f new))
+      at-apart j k (inl e) (inr f) s = absurd (q .none k f (sym (old k f) ∙ sym s ∙ rw e new))
+      at-apart j k (inr e) (inl f) s = absurd (q .none j e (sym (old j e) ∙ s ∙ rw f new))
       at-apart j k (inr e) (inr f) s = a .apart j k e f (sym (old j e) ∙ s ∙ old k f)
 
 pub placing-end : {table : List ℤ} {n i : ℕ} {known : List ℤ} {places : List ℕ} {count : ℕ} → Placing table n i known places count → n ≤ i

@@ -5,7 +5,8 @@ use native.Mathlib.Omega.{arith}
 use lib.{IntN.{ℤ, pos, natAbs}, ListN.{length, getD, set, length-set}, Seq.{getD-set-same, getD-set-other}, Dec.{eqb}}
 use borrow.Author.{Count.{below-more}, Tests.{eqb-false}}
 use Rattle.text.proofs.Clash.{clash}
-use Rattle.appearance.specs.Places.{markOf, NotMarked, Marked, PlaceOf}
+use Rattle.appearance.specs.Places.{markOf, NotMarked, Marked}
+use Rattle.appearance.proofs.Standing.{NotAmong}
 
 -- the mark of a natural number
 pub mark-natural : (z : ℤ) {n : ℕ} → z ≡ pos n → natAbs z % 65536 ≡ markOf z
@@ -45,9 +46,8 @@ marked-start known marks = record { room = omega arith; marks-are = λ k h. absu
 
 -- a station whose mark is not there is new
 pub not-marked : {known : List ℤ} {marks : List ℕ} {count : ℕ} {station : ℤ} → Marked known marks count
-    → NotMarked marks count (markOf station) → PlaceOf known count station count
-not-marked m n =
-    record { most = omega arith; before = λ k h e. n .none k h (m .marks-are k h ∙ ap markOf e); here = λ h. absurd (omega arith) }
+    → NotMarked marks count (markOf station) → NotAmong known count station
+not-marked m n = record { none = λ k h e. n .none k h (m .marks-are k h ∙ ap markOf e) }
 
 -- a new station with its mark
 pub marked-more : {known : List ℤ} {marks : List ℕ} {count : ℕ} (station : ℤ) → Marked known marks count → count < length known

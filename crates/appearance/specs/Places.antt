@@ -1,10 +1,11 @@
 -- §7.1, "stations by first appearance": the stations of a table of rows, and the place of each row's station among them.
 use Prim.Native.Nat.{ℕ, zero, suc, _*_, _%_, _≤_, _<_}
-use mathlib.Core.{Path.{_≡_}, List.{List, [], _∷_}}
+use mathlib.Core.{Path.{_≡_}, Bool.{cond}, List.{List, [], _∷_}}
 use lib.{IntN.{ℤ, pos, negsuc}, ListN.{getD, take, length}}
 use Rattle.judgement.specs.Limits.{mostLines}
 use Rattle.row.specs.Row.{rowLength}
-use Rattle.station_sums.specs.Summary.{byAppearance}
+use Rattle.station_sums.specs.Summary.{sameZ, byAppearance}
+use Rattle.appearance.specs.declared.Place.{Place, the-variants.{At, New}}
 
 -- the low sixteen bits of a station, which distinguish it from most others
 unfoldable pub markOf : ℤ → ℕ
@@ -20,11 +21,13 @@ pub record Marked (known : List ℤ) (marks : List ℕ) (count : ℕ) : Type 0 w
   pub room : count ≤ length marks
   pub marks-are : (k : ℕ) → k < count → getD marks k 0 ≡ markOf (getD known k (pos 0))
 
--- the place of a station among the first count, or count where it is not among them
-pub record PlaceOf (known : List ℤ) (count : ℕ) (station : ℤ) (place : ℕ) : Type 0 where
-  pub most : place ≤ count
-  pub before : (k : ℕ) → k < place → getD known k (pos 0) ≡ station → ⊥
-  pub here : place < count → getD known place (pos 0) ≡ station
+-- the place of a station among some that stand from place k on: the first at which it stands, or New where it is none of them
+unfoldable pub placeFrom : ℕ → ℤ → List ℤ → Place
+placeFrom k station [] = New
+placeFrom k station (x ∷ xs) = cond (sameZ station x) (At k) (placeFrom (suc k) station xs)
+
+unfoldable pub placeOf : ℤ → List ℤ → Place
+placeOf station known = placeFrom 0 station known
 
 -- the station of row i of a table, its first number
 abbrev pub stationAt : List ℤ → ℕ → ℤ

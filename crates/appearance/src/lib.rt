@@ -2,11 +2,11 @@
 ghost use mathlib.Core.Path.{_≡_};
 ghost use mathlib.Core.Bool.{false};
 ghost use Prim.Native.Nat.{_≤_, _*_};
-ghost use lib.ListN.{length};
+ghost use lib.ListN.{length, take};
 ghost use Rattle.row.specs.Row.{rowLength};
 ghost use Rattle.judgement.specs.Limits.{mostLines};
 ghost use Rattle.station_sums.specs.Summary.{sameZ};
-ghost use Rattle.appearance.specs.Places.{markOf, NotMarked, Marked, PlaceOf, Places};
+ghost use Rattle.appearance.specs.Places.{markOf, NotMarked, Marked, placeOf, Places};
 use judgement::LINES;
 use row::ROW_LENGTH;
 
@@ -15,6 +15,12 @@ pub struct Found {
     pub stations: [i64; LINES],
     pub places: [usize; LINES],
     pub count: usize,
+}
+
+// The place of a station among some, or that it is none of them.
+enum Place {
+    At(usize),
+    New,
 }
 
 fn same(a: i64, b: i64) -> bool
@@ -48,23 +54,23 @@ fn is_marked(marks: &[u16], count: usize, mark: u16) -> bool
     found
 }
 
-// The place of a station among the first count, or count where it is not among them; the marks show quickly that it is not.
-fn place_of<'a>(known: &'a [i64], marks: &'a [u16], count: usize, station: i64) -> usize
+// The place of a station among the first count; the marks show quickly that it is new.
+fn place_of<'a>(known: &'a [i64], marks: &'a [u16], count: usize, station: i64) -> Place
     requires { ⌜ count ≤ length (now known) ⌝ }
     requires { ⌜ Marked (now known) (now marks) count ⌝ }
-    ensures { λ r. ⌜ PlaceOf (now (known .entry)) count station r ⌝ }
+    ensures { λ r. ⌜ r ≡ placeOf station (take count (now (known .entry))) ⌝ }
 {
     if !is_marked(marks, count, mark(station)) {
-        return count;
+        return Place::New;
     }
     let mut i: usize = 0;
     while i < count {
         if same(known[i], station) {
-            return i;
+            return Place::At(i);
         }
         i += 1;
     }
-    i
+    Place::New
 }
 
 // The stations of n rows.
@@ -80,12 +86,16 @@ pub fn find_stations(table: &[i64], n: usize) -> Found
     let mut i: usize = 0;
     while i < n {
         let station = table[ROW_LENGTH * i];
-        let place = place_of(&known, &marks, count, station);
-        places[i] = place;
-        if place == count {
-            known[count] = station;
-            marks[count] = mark(station);
-            count += 1;
+        match place_of(&known, &marks, count, station) {
+            Place::At(place) => {
+                places[i] = place;
+            }
+            Place::New => {
+                places[i] = count;
+                known[count] = station;
+                marks[count] = mark(station);
+                count += 1;
+            }
         }
         i += 1;
     }

@@ -7,7 +7,7 @@ use borrow.Author.{Count.{below-more}, Tests.{not-true}, Needs.{needs}}
 use mir.{Syntax.{w64}, Val.{SFits, toZ}, Facts.{toZ-ofZ}}
 use Rattle.station_sums.{specs.Summary.{sameZ}, proofs.Same.{same-eq, same-apart}}
 use Rattle.appearance.specs.Places.{markOf}
-use Rattle.appearance.proofs.{Marks.{not-marked}, place_of.Statement.{statement}}
+use Rattle.appearance.proofs.{Standing.{stands-at, not-among}, Marks.{not-marked}, place_of.Statement.{statement}}
 use Rattle.appearance.proofs.place_of.Tie as tie
 
 abbrev Inv-loop : tie.InvT-loop
@@ -38,17 +38,15 @@ returns c =
     let m = c .before .before in
     let s = m .before .before in
     let mark : m .mark .result ≡ markOf (s .args .station) = rw (toZ-ofZ (s .fits .station)) at (m .mark .ensures) in
-    not-marked (s .pre .1) (rw mark at (c .before .is-marked .ensures (not-true _ (c .if1 .taken))))
+    not-among (s .pre .0) (not-marked (s .pre .1) (rw mark at (c .before .is-marked .ensures (not-true _ (c .if1 .taken)))))
 
 returns-2 : tie.Need-returns-2 Inv-loop μ-loop
 returns-2 c =
     let l = c .before .before .before .before in
     let station = toZ-ofZ (start l .fits .station) in
-    record {
-      most = omega arith;
-      before = λ k h e. l .loop .inv .1 k h (e ∙ sym station);
-      here = λ _. same-eq _ _ (sym (told (c .before)) ∙ c .if2 .taken);
-    }
+    stands-at (start l .pre .0)
+    (record { within = c .before .before .before .loop-test .taken; here = same-eq _ _ (sym (told (c .before)) ∙ c .if2 .taken) })
+    (record { none = λ k h e. l .loop .inv .1 k h (e ∙ sym station) })
 
 loop-again : tie.Need-loop-again Inv-loop μ-loop
 loop-again c =
@@ -61,12 +59,8 @@ loop-again c =
 returns-3 : tie.Need-returns-3 Inv-loop μ-loop
 returns-3 c =
     let l = c .before in
-    record {
-      most = l .loop .inv .0;
-      before = λ k h e. l .loop .inv .1 k h (e ∙ sym (toZ-ofZ (start l .fits .station)));
-      here = λ h.
-          absurd (omega arith);
-    }
+    let station = toZ-ofZ (start l .fits .station) in
+    not-among (start l .pre .0) (record { none = λ k h e. l .loop .inv .1 k (omega (arith, c .loop-test .left)) (e ∙ sym station) })
 
 pub place-of-spec : {M : Type 1} → statement M
 place-of-spec =
