@@ -1,5 +1,5 @@
--- The judgement of every sheet of a form within some limits: the count of its value lines, or a refusal. §1.1, §2.2: "The order is 1, 2, 4;
--- then line by line 3, 5, 6, 7".
+-- The judgement of every sheet of a form within some limits: the count of its value lines, or a refusal. §1.1, §2.1, §2.2: "The order is 1, 2,
+-- 4; then line by line 3, 5, 6, 7".
 use Prim.Native.Nat.{ℕ, suc, _-_}
 use mathlib.Core.{Bool.{Bool, cond, not, _||_}, List.{List, [], _∷_}}
 use lib.{ListN.{length, getD, drop}, Dec.{ltb, eqb}}
