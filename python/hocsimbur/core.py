@@ -1,6 +1,6 @@
 """The proved library, asked through ctypes: every number that this package shows is an answer of one of these functions.
 
-Nothing is worked here.
+Nothing is computed here.
 A sheet is bytes; numbers are whole, in the units of the library's header (include/hocsimbur.h), and a pair is the lower and upper
 end that enclose an exact value.
 What breaks a rule is raised as `Refused`, with the number, line and column that the library tells."""

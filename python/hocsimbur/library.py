@@ -1,6 +1,6 @@
 """The library for programs in Python: questions about any number of yards, each a mapping of the 22 names of a sheet to whole numbers.
 
-Answers are small dataclasses: exact values between two fractions in volts, amperes, ohms and metres, and beside them, as `whole`, the
+Answers are small dataclasses: exact values between two fractions in volts, amperes, ohms and metres, and with them, as `whole`, the
 library's own whole numbers in the units of include/hocsimbur.h.
 Nothing is decided here; what is not the library's answer is arithmetic on it."""
 from __future__ import annotations

@@ -28,7 +28,7 @@ def _carried(name: str, way: Callable[[bytes], bytes]) -> bytes:
 
 
 def _all(files: List[str], folder: pathlib.Path, way: Callable[[bytes], bytes], force: bool) -> int:
-    """Each file into the folder under its own name; what is refused or fails is told, and the others go on."""
+    """Each file into the folder under its own name; what is refused or fails is reported, and the others go on."""
     refused = failed = 0
     for place, name in enumerate(files, 1):
         try:

@@ -210,7 +210,7 @@ def _asked(argv: List[str]) -> Tuple[argparse.Namespace, Callable[[argparse.Name
 
 
 def _run(arguments: argparse.Namespace, run: Callable[[argparse.Namespace], int]) -> int:
-    """A command, with what it raises told and made a status."""
+    """A command, with what it raises reported and made a status."""
     try:
         return run(arguments)
     except Stopped as stopped:
@@ -225,7 +225,7 @@ def _run(arguments: argparse.Namespace, run: Callable[[argparse.Namespace], int]
 
 
 def main(argv: Optional[List[str]] = None) -> int:
-    """Runs a command and answers its exit status; where all is well but for a note that could not be told, output has failed."""
+    """Runs a command and answers its exit status; where all is well but for a note that could not be written, output has failed."""
     output.lost = False
     status = _main(argv)
     return FAILED if status == WELL and output.lost else status

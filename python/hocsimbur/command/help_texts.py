@@ -46,7 +46,7 @@ COMMANDS: Dict[str, Text] = {
 """),
     "rows": Text(
         "both ends of every voltage, current and resistance",
-        "All that is worked of each line, as two ends that enclose the exact value.",
+        "Everything that is computed of each line, as two ends that enclose the exact value.",
         """  $ hocsimbur rows tests/sample.csv
   station 7, season 1: unsafe; 17 kcmil needed
                         lower      upper
@@ -150,7 +150,7 @@ COMMANDS: Dict[str, Text] = {
     "carry": Text(
         "today's sheet of one of the former 18 names",
         "Copies ms to shock, clear and wire, lines to across and along, and sets hz to 60.\n"
-        "Several sheets, or a folder, go into the folder of -o; a refused one is told and leaves nothing there.",
+        "Several sheets, or a folder, go into the folder of -o; a refused one is reported and leaves nothing there.",
         """  $ hocsimbur carry examples/refused-2-ms.csv
   station,season,soil,layer,thick,shock,clear,wire,body,fault,split,xr,across,along,space,depth,dia,rods,rodlen,place,metal,hz
   101,1,60,0,0,300,300,300,70,2800,600,12,11,11,5000,600,105,0,0,0,2,60

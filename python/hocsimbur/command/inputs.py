@@ -58,7 +58,7 @@ def named(names: Sequence[str], apart: Optional[str] = None, quiet: bool = False
                 found.append(one)
             seen.setdefault(key, one)
     if not found:
-        raise Failed("the folder has no sheet beside the licence")
+        raise Failed("the folder has no sheet besides the licence")
     return found
 
 

@@ -44,7 +44,7 @@ class Brief(NamedTuple):
     kcmil: int
 
 
-Places = Optional[Sequence[Place]]  # of each line, where files are told apart
+Places = Optional[Sequence[Place]]  # of each line, where there are several files
 
 
 def brief(row: Row) -> Brief:
@@ -59,7 +59,7 @@ def counted(verdicts_: Sequence[core.Verdict]) -> str:
 
 
 def _with_places(names: Sequence[str], lines: Iterable[Sequence[object]], places: Places) -> Tuple[List[str], List[List[object]]]:
-    """Columns, and behind them the file and line where files are told apart."""
+    """Columns, and behind them the file and line where there are several files."""
     if places is None:
         return list(names), [list(line) for line in lines]
     return [*names, "file", "line"], [[*line, place.file, place.line] for line, place in zip(lines, places)]

@@ -17,7 +17,7 @@ WELL, REFUSED, HELD, FAILED = 0, 1, 2, 3  # exit statuses: all well; refused; un
 MOST = 1 << 28  # bytes of a file that are read
 
 
-lost = False  # whether something that was to be told on standard error could not be written
+lost = False  # whether something that was to be reported on standard error could not be written
 
 
 class Failed(Exception):
@@ -25,7 +25,7 @@ class Failed(Exception):
 
 
 class ClosedPipe(Exception):
-    """Whoever read standard output has gone away: nobody is left to be told."""
+    """Standard output was closed by its reader: there is nobody to report it to."""
 
 
 def reason(error: OSError) -> str:

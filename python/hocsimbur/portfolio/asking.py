@@ -35,7 +35,7 @@ def verdicts(cases: Sequence[Case]) -> List[core.Verdict]:
     return [row.verdict for row in _each(cases, lambda sheet, count: core.rows(sheet))]
 
 
-AREA = "own area"  # a case may have, beside its columns, its conductor's own cross-section in kcmil; without it, or with 0, it is a solid round
+AREA = "own area"  # a case may have, besides its columns, its conductor's own cross-section in kcmil; without it, or with 0, it is a solid round
 
 
 def with_area(case: Case, area: int) -> Case:

@@ -128,7 +128,7 @@ class Station:
 
     @property
     def differs(self) -> Tuple[str, ...]:
-        """The columns, beside station and season, in which the lines differ."""
+        """The columns, besides station and season, in which the lines differ."""
         return differing(self.lines)
 
     @property

@@ -123,7 +123,7 @@ class Line:
 
 
 def differing(lines: Tuple[Line, ...]) -> Tuple[str, ...]:
-    """The columns, beside station and season, in which lines differ, in the order of the table of names."""
+    """The columns, besides station and season, in which lines differ, in the order of the table of names."""
     return tuple(name.name for name in NAMES[2:] if len({line.case[name.name] for line in lines}) > 1)
 
 

@@ -117,7 +117,7 @@ def decision(station: Station) -> Tuple[str, str]:
 
 
 def nearest(station: Station) -> Told:
-    """The nearest limit on the first page: what is told in bold, and the rest."""
+    """The nearest limit on the first page: what stands in bold, and the rest."""
     if not station.lines:
         return Told("", "no line, nothing to compare")
     one = station.worst.nearest

@@ -25,7 +25,7 @@ def today() -> str:
 
 
 class Options(NamedTuple):
-    """What a report shows beside its portfolio."""
+    """What a report shows besides its portfolio."""
 
     date: str
     project: str = ""

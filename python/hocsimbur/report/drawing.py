@@ -53,7 +53,7 @@ def word(verdict: Verdict) -> str:
 
 
 def mark(kind: str) -> str:
-    """A mark, for the eye alone: a word stands beside it."""
+    """A mark, for the eye alone: a word stands next to it."""
     return f'<svg class="mark {kind}" viewBox="0 0 160 160" aria-hidden="true" focusable="false">{SHAPES[kind]}</svg>'
 
 

@@ -56,5 +56,5 @@ def table(kind: str, caption: str, inside: str) -> str:
 
 
 def caption(title: str, beside: str = "", kind: str = "sub") -> str:
-    """A table's caption: a heading, and what is said beside it."""
+    """A table's caption: a heading, and what is said next to it."""
     return element("caption", element("h3", title) + (f" {span(beside, kind)}" if beside else ""))

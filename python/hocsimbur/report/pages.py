@@ -21,7 +21,7 @@ COLUMNS = 9  # of the table of stations
 
 PROVED = (
     "Decisions, verdicts, ends, margins, sizes, fault currents and the working are answers of the proved library. "
-    "What a wire of its own has in kcmil is worked here, rounded down, and decides nothing."
+    "What a wire of its own has in kcmil is computed here, rounded down, and decides nothing."
 )
 
 

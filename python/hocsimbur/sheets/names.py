@@ -16,7 +16,7 @@ class Name:
     unit: str                  # '' for a number or a count
     low: int
     high: int
-    also_zero: bool = False    # 0 is allowed beside low..high
+    also_zero: bool = False    # 0 is allowed besides low..high
     only: Tuple[int, ...] = ()  # where only these are allowed, not all of low..high
 
     @property

@@ -13,7 +13,7 @@ from ..core import Pair
 from .amounts import decimal, parts, whole
 from .forms import Unclear
 
-# a number with a decimal comma; one with three digits behind it may also have its thousands parted, and is not taken
+# a number with a decimal comma; one with three digits behind it may also have its thousands separated, and is not taken
 DECIMAL_COMMA = re.compile(r"[+-]?(\d+,(\d{1,2}|\d{4,})|\d{4,},\d+)")
 
 

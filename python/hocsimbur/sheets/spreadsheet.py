@@ -114,7 +114,7 @@ def _sign(text: str) -> str:
 
 
 def _cells(text: str, changes: Changes) -> Tuple[Lines, str]:
-    """The cells of each line that is not blank, and the sign that parted them."""
+    """The cells of each line that is not blank, and the sign that separates them."""
     sign = _sign(text)
     changes.add("line: quotes removed", count=sum('"' in line for line in text.split("\n")))
     reader = csv.reader(io.StringIO(text, newline=""), delimiter=sign, strict=True)

@@ -59,7 +59,7 @@ class Asked:
         return self.line_numbers[line - 1] if self.line_numbers and 1 <= line <= len(self.line_numbers) else line
 
     def beside(self, line: int, other: int) -> str:
-        """A line in words beside another one: with its file, where that is another."""
+        """A line in words next to another one: with its file, where that is another."""
         if not self.places:
             return self.place(line)
         file, number = self.places[line - 2]
@@ -102,7 +102,7 @@ def _lines(refused: Refused, asked: Asked) -> str:
 
 
 def _in_sheet(refused: Refused, asked: Asked) -> Tuple[int, str]:
-    """The line of a refused value in the sheet and its name. A case asked alone is told with line 0 and the place in the table of names."""
+    """The line of a refused value in the sheet and its name. A case asked alone is refused with line 0 and the place in the table of names."""
     if refused.line == 0:
         return 2, asked.form[refused.column - 1]
     return refused.line, asked.cells(1)[refused.column - 1]
