@@ -36,7 +36,10 @@ def main():
         b.click(cell(5, 17)), hover(b, .6), shot("what-if")
         if len(sys.argv) > 1:
             b.size(1280, 900, SMALLER), b.shot(sys.argv[1]), b.size(1280, 900)
-        b.mouse("mouseMoved", 5, 5), b.click(cell(15, 15)), shot("what-if-undecided")
+        b.mouse("mouseMoved", 5, 5), b.click("#varied [data-key='two inputs']"), shot("map")
+        b.dark(True), shot("dark-map"), b.dark(False), b.size(375, 812, 2), b.settle()
+        b.run("document.querySelector('#middle').scrollIntoView()"), shot("narrow-375-map"), b.size(1280, 900), b.settle()
+        b.click("#varied [data-key='one input']"), b.click(cell(15, 15)), shot("what-if-undecided")
         b.click("#view-stations"), b.click('#stations [data-key="152"]'), shot("stations")
         b.dark(True), shot("dark-stations"), b.dark(False)
         b.click("#view-lines"), b.click(cell(5, 2)), b.click("#view-site"), b.settle()

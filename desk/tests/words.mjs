@@ -14,7 +14,7 @@ globalThis.document = { getElementById: (id) => ({ textContent: part(id) }) };
 
 const expected = JSON.parse(fs.readFileSync(process.env.EXPECTED, 'utf8'));
 const core = await import('../src/library/core.js');
-const { samples } = await import('../src/library/data.js');
+const { BY_NAME, samples } = await import('../src/library/data.js');
 const decimals = await import('../src/words/decimals.js');
 const words = await import('../src/words/words.js');
 const { cellsOf, parsed, tooMany, whole } = await import('../src/sheet/reading.js');
@@ -26,6 +26,8 @@ const { portfolio } = await import('../src/judging/stations.js');
 const sentences = await import('../src/judging/sentences.js');
 const { changes } = await import('../src/judging/advice.js');
 const site = await import('../src/judging/site.js');
+const mapped = await import('../src/judging/map.js');
+const { VARIED } = await import('../src/judging/whatif.js');
 await core.start();
 
 test('decimals are rounded outward alike', () => {
@@ -177,6 +179,32 @@ test('a station is not released while one of its lines is refused, nor any while
   assert.deepEqual(held([...rows, rows[6]]), [7]);
   for (const station of ['', '7.0', '07', 'x']) assert.equal(held([...rows, [station, '1', ...rest]]).length, 500);
   assert.deepEqual(held(rows.with(-1, rows.at(-1).with(14, '7000'))), [500]); // another yard in its last line
+});
+
+test('a map over two inputs has the answer of each yard by itself, and the number of the rule that one breaks', () => {
+  const pairs = VARIED.flatMap((right) => VARIED.filter((down) => down !== right).map((down) => [right, down])), seen = new Set();
+  const lines = expected.portfolios.slice(0, pairs.length).flatMap(({ rows }) => judge(rows).lines);
+  for (const [i, names] of pairs.entries()) {
+    const one = lines[i % lines.length].case, most = 8 + (i % 17), why = mapped.cannotBoth(names, one);
+    const bare = (name, other, hangs) => names.includes(name) && !names.includes(other) && !one[hangs];
+    assert.equal(Boolean(why), bare('layer', 'thick', 'thick') || bare('rodlen', 'rods', 'rods'), `${names}`);
+    const { right, down, yards } = mapped.map(names, one, i % 2 === 0, most);
+    assert.ok(right.length <= most && down.length <= 16 && right.length > 4 && down.length > 4, `${names} ${right} ${down}`);
+    for (const [place, values] of [right, down].entries()) {
+      const { low, high, also_zero: zero } = BY_NAME[names[place]];
+      assert.ok(values.includes(one[names[place]]) && values.every((value, at) => Number.isInteger(value) && (at === 0 || value > values[at - 1])));
+      assert.ok(values.every((value) => (value >= low && value <= high) || (zero && value === 0)), `${names[place]} ${values}`);
+    }
+    assert.deepEqual(yards.map((yard) => yard.pair), down.flatMap((y) => right.map((x) => [x, y])));
+    assert.deepEqual(yards.filter((yard) => yard.now).map((yard) => yard.pair), [names.map((name) => one[name])]);
+    for (const yard of yards) {
+      const made = { ...one, ...mapped.bothCells(names, yard.pair, one) }, answer = core.rows(core.textOf([core.lineOf(made)]));
+      assert.deepEqual(names.map((name) => made[name]), yard.pair);
+      assert.deepEqual([yard.refused, yard.verdict], [answer.refused?.number, answer.refused ? undefined : answer[0].verdict]);
+      seen.add(yard.refused ? `refused ${yard.refused}` : yard.verdict);
+    }
+  }
+  assert.deepEqual([...seen].sort(), [1, 2, 'refused 6']);
 });
 
 test('a text has the SHA-256 that others find', () => {

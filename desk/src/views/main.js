@@ -15,7 +15,8 @@ import { sha256 } from '../sheet/digest.js';
 import * as site from './siteview.js';
 import * as store from '../sheet/store.js';
 import { sheetText, word } from '../sheet/writing.js';
-import * as whatif from './whatifview.js';
+import * as varied from './varied.js';
+import { follow } from './whatifview.js';
 import { margin, meaning, refusal, refusedPlace, verdict } from '../words/words.js';
 
 const VIEWS = ['lines', 'stations', 'site'];
@@ -165,7 +166,7 @@ async function begin() {
   byId('sheet').prepend(...grid.head());
   detail.guide();
   for (const one of [keys, files]) { one.onSay(say); one.wire(); }
-  whatif.onTaken(say);
+  varied.onTaken(say);
   site.onTaken(say);
   site.wire(drawSite);
   files.onOpened(() => { byId('pane').scrollTo(0, 0); choose(0, 0, false, view === 'lines'); });
@@ -176,7 +177,7 @@ async function begin() {
   });
   upper();
   wire();
-  onMove(() => { whatif.follow(NAMES[at.column]); later(); });
+  onMove(() => { follow(NAMES[at.column]); later(); });
   choose(0, 0, false, false);
   lower();
   document.body.dataset.ready = String(Math.round(performance.now()));

@@ -1,0 +1,62 @@
+"""Real input into the panels: the map over two inputs."""
+import json
+
+from common import ROOT, cell, plain, same
+from hocsimbur import core
+from hocsimbur.core import Refused
+from hocsimbur.sheets import layout
+
+YARDS = """JSON.stringify([...document.querySelectorAll('.map td')].map(e => [e.dataset.key, e.title]))"""
+
+
+def text(b, query):
+    return plain(b.run(f"document.querySelector({json.dumps(query)}).textContent"))
+
+
+def chosen(b, place, name):
+    """An input of the map, chosen in its list."""
+    b.run(f"(() => {{ const s = document.querySelectorAll('#whatif select')[{place}]; s.value = '{name}';"
+          " s.dispatchEvent(new Event('change')); })()"), b.settle()
+
+
+def answered(case):
+    """What the native library says of a yard, as a cell of the map has it."""
+    try:
+        return core.rows(layout.text([case]))[0].verdict.name.lower()
+    except Refused as refused:
+        return f"refused, number {refused.number}"
+
+
+def mapped(b):
+    """The map over two inputs: every cell is the native library's answer; a click or Enter takes both values over, in one step."""
+    b.click("#sample"), b.click(cell(5, "rods")), b.click("#varied [data-key='two inputs']"), b.settle()
+    case = layout.cases((ROOT / "examples/portfolio.csv").read_bytes())[5]
+    found = json.loads(b.run(YARDS))
+    same("cells", len(found) > 200, True)
+    for key, title in found:
+        rods, space = (int(one) for one in key.removeprefix("yard ").split(","))
+        rodlen, place = (case["rodlen"], case["place"]) if rods else (0, 0)
+        made = {**case, "rods": rods, "rodlen": rodlen, "place": place, "space": space}
+        same(f"yard {key}", title.split(": ", 1)[1].removesuffix(", the present values"), answered(made))
+    same("the present values", b.run("document.querySelector('.map td.now').dataset.key"), f"yard {case['rods']},{case['space']}")
+    same("one cell in the order of Tab", b.run("document.querySelectorAll('.map td[tabindex=\"0\"]').length"), 1)
+    values = [f"document.querySelector('{cell(row, name)}').textContent" for row in (4, 5) for name in ("rods", "space")]
+    b.click(".map td[data-key='yard 60,8000']"), b.settle()
+    same("both taken over, in both lines", [b.run(one) for one in values], ["60", "8000"] * 2)
+    same("and marked", b.run("document.querySelector('.map td.now').dataset.key"), "yard 60,8000")
+    b.click("#undo"), b.settle()
+    same("one step", [b.run(one) for one in values], ["20", "7000"] * 2)
+    b.run("document.querySelector('.map td.now').focus()"), b.key("ArrowRight"), b.key("ArrowDown"), b.settle()
+    same("told", text(b, "#whatif .readout").startswith("Rods 30, Spacing 8 m: "), True)
+    b.key("Enter"), b.settle()
+    same("by keys", [b.run(one) for one in values], ["30", "8000"] * 2)
+    same("the focus stays", b.run("document.activeElement.dataset.key"), "yard 30,8000")
+    b.click("#undo"), b.settle()
+    chosen(b, 0, "thick"), chosen(b, 1, "layer")
+    same("a rule is broken", [title for key, title in json.loads(b.run(YARDS)) if key.startswith("yard 0,")][0].split(": ")[1],
+         "refused, number 6")
+    chosen(b, 0, "layer")
+    same("chosen twice they change places", b.run("[...document.querySelectorAll('#whatif select')].map(e => e.value).join()"), "layer,thick")
+    b.size(375, 812), b.settle()
+    same("as wide as the screen", b.run("document.documentElement.scrollWidth <= innerWidth"), True)
+    b.size(1280, 900), b.settle(), chosen(b, 0, "rods"), chosen(b, 1, "space"), b.click("#varied [data-key='one input']"), b.settle()
