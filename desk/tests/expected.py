@@ -286,12 +286,13 @@ def square_words(case, text):
     try:
         side = amounts.whole(text, 1000, "m", "mm")
     except Unclear as error:
-        return [f"side: {error}", None]
+        return [f"side: {error}", None, []]
     try:
         found = core.fewest(layout.text([case]), side)
     except Refused as refused_:
-        return [words.refusal(refused_, words.Asked(side=side)), None]
-    return [yards.said(found, side), [found.lines, found.rods] if found.found else None]
+        return [words.refusal(refused_, words.Asked(side=side)), None, []]
+    return [yards.said(found, side), [found.lines, found.rods] if found.found else None,
+            [yards.listed(line) for line in yards.answered(yards.tried(case, side, found.tried))]]
 
 
 KINDS = {"shown": shown, "shares": shares, "mended": mended, "ambiguous": ambiguous, "refused": refused, "portfolios": portfolios,

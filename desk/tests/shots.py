@@ -45,6 +45,7 @@ def main():
         b.click("#view-lines"), b.click(cell(5, 2)), b.click("#view-site"), b.settle()
         for place, text in (("#readings", "1 10.4\n2 4.55\n5 1.62\n10 0.71"), ("#currents", "1000 0\n400 0"), ("#side", "60")):
             b.click(place), b.call("Input.insertText", text=text), b.settle()
+        b.click("#side-said summary"), b.settle()
         shot("site"), b.dark(True), shot("dark-site")
         b.size(375, 812, 2), b.settle(), shot("narrow-375-site"), b.size(1280, 900), b.settle()
         b.click("#view-lines"), b.click(cell(5, 2)), shot("dark"), b.dark(False)

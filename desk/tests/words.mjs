@@ -267,15 +267,17 @@ test('staged tests are answered as by staged', () => {
 });
 
 test('the fewest conductors for a side are those of fewest, and the yard that is put into the sheet is safe', () => {
-  let safe = 0;
-  for (const [one, text, [said, counts]] of expected.squares) {
-    const { wrong, words: found, cells } = site.fewestOf(one, text);
+  let safe = 0, listed = 0;
+  for (const [one, text, [said, counts, tried]] of expected.squares) {
+    const answer = site.fewestOf(one, text), { wrong, words: found, cells } = answer;
     assert.equal(wrong ?? found, said);
+    if (!wrong) assert.deepEqual(site.triedTable(one, answer).map((yard) => yard.map(plain)), tried);
+    listed += tried.length;
     assert.deepEqual(cells ? [cells.across, cells.rods] : null, counts);
     if (!cells) continue;
     const [row] = core.rows(core.textOf([core.lineOf({ ...one, ...cells })]));
     assert.deepEqual([row.verdict, cells.space * (cells.across - 1), cells.along], [1, Math.round(Number(text) * 1000), cells.across]);
     safe++;
   }
-  assert.ok(safe > 30, `${safe} yards`);
+  assert.ok(safe > 30 && listed > 1000, `${safe} yards, ${listed} tried`);
 });

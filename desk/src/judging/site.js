@@ -2,6 +2,8 @@
 import { BY_NAME, data, fill } from '../library/data.js';
 import * as core from '../library/core.js';
 import { down, exact, grouped, up } from '../words/decimals.js';
+import { margin } from '../words/words.js';
+import { against } from './judging.js';
 
 const say = data.site, ROD = data.tried.constants.rod_length;
 const FAR = 2n ** 32n - 1n; // a reading in mm or mΩ is below it
@@ -125,12 +127,40 @@ export function fewestOf(one, text) {
   const answer = core.fewest(core.textOf([core.lineOf({ ...one, rodlen })]), wanted);
   if (answer.refused) return { wrong: refusal(answer.refused, { side: wanted }) };
   const { lines, rods, tried } = answer, count = fill(say.fewest.tried[tried > 1 ? 1 : 0], { count: tried });
-  if (!answer.found) return { words: tried ? fill(say.fewest.none, { tried }) : fill(say.fewest.untried, { side: exact(wanted, 3) }) };
+  if (!answer.found) {
+    return { side: wanted, tried, count, words: tried ? fill(say.fewest.none, { tried })
+      : fill(say.fewest.untried, { side: exact(wanted, 3) }) };
+  }
   const space = wanted / (lines - 1);
   return {
+    side: wanted, tried, count,
     words: fill(rods ? say.fewest.rods : say.fewest.no_rods, { lines, spacing: exact(space, 3), rods, tried: count }),
     cells: { across: lines, along: lines, space, rods, rodlen: rods ? rodlen : 0, place: rods ? 1 : 0 },
   };
+}
+
+// The yards of a side in mm that were tried, as many as the library says, in its order: conductors rising, with each count rods rising.
+function yardsTried(one, side, count) {
+  const { space, across } = BY_NAME, made = [], rodlen = one.rodlen || ROD;
+  for (let lines = across.low; lines <= across.high; lines++) {
+    const apart = side / (lines - 1);
+    if (!Number.isInteger(apart) || apart < space.low || apart > space.high) continue;
+    made.push(...say.fewest.rod_counts.map((rods) => ({ ...one, across: lines, along: lines, space: apart, rods, rodlen: rods ? rodlen : 0,
+      place: rods ? 1 : 0 })));
+  }
+  return made.slice(0, count);
+}
+
+// The same as lines of a table, each with the library's answer: conductors, spacing, rods, verdict and nearest limit.
+export function triedTable(one, { side, tried }) {
+  const yards = yardsTried(one, side, tried), found = [];
+  for (let first = 0; first < yards.length; first += data.lines) {
+    const part = yards.slice(first, first + data.lines).map((yard, i) => ({ ...yard, station: i + 1, season: 1 }));
+    const text = core.textOf(part.map(core.lineOf)), rows = core.rows(text), margins = core.margins(text);
+    found.push(...part.map((yard, i) => ({ yard, verdict: rows[i].verdict, near: against(rows[i], margins[i]).nearest })));
+  }
+  return found.map(({ yard, verdict, near }) => [String(yard.across), `${exact(yard.space, 3)} m`, String(yard.rods), data.verdicts[verdict],
+    `${margin(near)} ${near.side === 'not parted' ? 'from ' : ''}${near.limit}`]);
 }
 
 export const rodLength = (one) => (one.rodlen ? '' : `${exact(ROD, 3)}\u00a0m`);

@@ -1,10 +1,11 @@
 // The site: soil from four-pin readings, split from a staged test, the fewest conductors for a side; each answer goes into the sheet by a
 // button.
-import { COLUMN } from '../library/data.js';
-import { fewestOf, rodLength, soilOf, splitOf } from '../judging/site.js';
+import { COLUMN, data } from '../library/data.js';
+import { fewestOf, rodLength, soilOf, splitOf, triedTable } from '../judging/site.js';
 import { exact, up } from '../words/decimals.js';
 import { change, withCells } from '../sheet/store.js';
 import { byId, h, redraw, show } from './dom.js';
+import { withWord } from './drawing.js';
 
 const WIDTH = 320, FLOOR = 104, TOP = 20, LEFT = 8, RIGHT = 312;
 const READINGS = ['reading', 'distance', 'resistance', 'lower Ω·m', 'upper Ω·m'], CURRENTS = ['current', 'in-phase A', 'quadrature A'];
@@ -60,7 +61,22 @@ function yards(line, station) {
   const lines = station.lines, where = lines.length > 1 ? `the ${lines.length} lines of station ${station.station}` : `line ${line.number}`;
   return [h('p', {}, h('b', {}, found.words), ` for season ${line.row.season} of station ${station.station}`),
     length ? h('p', { class: 'sub' }, `The line has no rods: rods of ${length} were tried.`) : '',
-    found.cells ? taking(lines.map((one) => one.place), found.cells, `Put this yard into ${where}`, 'yard') : ''];
+    found.cells ? taking(lines.map((one) => one.place), found.cells, `Put this yard into ${where}`, 'yard') : '',
+    triedList(line.case, found, () => draw(line, station))];
+}
+
+// Every yard that was tried, in the order of the search; asked only where the list is open.
+const listing = { open: false };
+function triedList(one, found, again) {
+  if (!found.tried) return '';
+  const toggle = (event) => { if (event.target.open !== listing.open) { listing.open = event.target.open; again(); } };
+  const heads = data.site.fewest.head;
+  const row = ([lines, space, rods, verdict, near]) => h('tr', { class: verdict }, h('th', { scope: 'row' }, lines),
+    h('td', { class: 'num' }, space), h('td', { class: 'num' }, rods), h('td', {}, withWord(verdict)), h('td', {}, near));
+  return h('details', { class: 'tried', open: listing.open, ontoggle: toggle }, h('summary', { 'data-key': 'tried' }, `The ${found.count} tried`),
+    listing.open ? h('div', { class: 'scroll', tabindex: 0, role: 'region', 'aria-label': 'Yards tried' }, h('table', { class: 'data' },
+      h('thead', {}, h('tr', {}, heads.map((word, i) => h('th', { scope: 'col', class: i === 1 || i === 2 ? 'num' : '' }, word)))),
+      h('tbody', {}, triedTable(one, found).map(row)))) : '');
 }
 
 // The three answers, for the chosen line and its station.
