@@ -26,7 +26,8 @@ NAMES = [name.name for name in names.NAMES]
 COUNT = 1000
 SOUND = "7,1,400,2500,102,500,500,500,70,3180,600,10,11,11,7000,500,100,4,3000,1,1,60".split(",")
 WRONG = ["", "0", "00", "007", "-5", "+7", "\u22125", "62.5", "62.", "62.0", ".5", "1234567", "4 kA", "3m", "abc", "x1", "99999", "1", "3",
-         "250000", "1e3", "1 000", "1000000", "\u00b2", "\u0663", "m" * 60, "7.25", "é", "'7'", "--", "12x", "5%"]
+         "250000", "1e3", "1 000", "1000000", "\u00b2", "\u0663", "m" * 60, "7.25", "é", "'7'", "--", "12x", "5%", "062.0", "00.", "0.00",
+         "0" * 50 + ".0", "0000", "5\u00b2", "0\u0663", "\u0663.5", "-\u0663"]
 
 
 def random_case(rng: random.Random, station: int, season: int) -> Dict[str, int]:
@@ -156,8 +157,12 @@ def told(cases: List[Dict[str, int]], licensed: List[licence.Licensed]) -> Dict:
     granted = licence.read(text.encode()) if licensed else None
     areas = {one.station: one.area for one in granted.stations} if granted else {}
     sheet = layout.text(cases)
-    stations = decision.portfolio(sheet, granted).stations
+    whole = decision.portfolio(sheet, granted)
+    stations = whole.stations
+    sums = reasons.summed(reasons.counts(one) for one in stations)
     return {
+        "totals": "".join(part for told_ in reasons.totals(sums, whole.licensed) for part in told_), "notes": reasons.notes(whole),
+        "others": whole.unlicensed,
         "rows": [[str(case[name]) for name in NAMES] for case in cases],
         "licence": text,
         "lines": [[one.row.verdict.name.lower(), margin(one.nearest), one.nearest.limit, one.row.kcmil, one.headroom,
@@ -165,6 +170,13 @@ def told(cases: List[Dict[str, int]], licensed: List[licence.Licensed]) -> Dict:
         "stations": [station_words(one) for one in stations if one.lines],
         "absent": [[one.station, list(reasons.decision(one))] for one in stations if not one.lines],
     }
+
+
+def outside(rng: random.Random):
+    """Stations that a licence does not name, and what is said of them."""
+    for count in [*range(1, 45), 2000]:
+        numbers = rng.sample(range(1, 65536), count)
+        yield [numbers, *reasons.notes(decision.Portfolio((), True, tuple(numbers)))]
 
 
 def quoted(cell: str) -> str:
@@ -296,7 +308,7 @@ def square_words(case, text):
 
 
 KINDS = {"shown": shown, "shares": shares, "mended": mended, "ambiguous": ambiguous, "refused": refused, "portfolios": portfolios,
-         "licences": licences, "soils": soils, "splits": splits, "squares": squares}
+         "licences": licences, "outside": outside, "soils": soils, "splits": splits, "squares": squares}
 
 if __name__ == "__main__":
     json.dump({kind: list(make(random.Random(number))) for number, (kind, make) in enumerate(KINDS.items())}, sys.stdout)

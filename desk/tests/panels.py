@@ -4,6 +4,7 @@ import json
 from common import ROOT, cell, plain, same
 from hocsimbur import core
 from hocsimbur.core import Refused
+from hocsimbur.portfolio import decision, licence, reasons
 from hocsimbur.sheets import layout
 
 YARDS = """JSON.stringify([...document.querySelectorAll('.map td')].map(e => [e.dataset.key, e.title]))"""
@@ -25,6 +26,25 @@ def answered(case):
         return core.rows(layout.text([case]))[0].verdict.name.lower()
     except Refused as refused:
         return f"refused, number {refused.number}"
+
+
+def outside(b):
+    """The counts are the command's, and a station that the licence does not name is not asked."""
+    b.click("#sample"), b.settle()
+    sheet, granted = ((ROOT / "examples" / f"{name}.csv").read_bytes() for name in ("portfolio", "licence"))
+    whole = decision.portfolio(sheet, licence.read(granted))
+    counted = reasons.totals(reasons.summed(reasons.counts(one) for one in whole.stations), True)
+    same("totals", text(b, "#totals"), "".join(part for told in counted for part in told))
+    b.click(cell(36, "station")), b.paste("9\t1\t130\t2500\t102\t500\t500\t1000\t70\t8900\t420\t14\t12\t12\t6000\t600\t134\t24\t3000\t1\t2\t60")
+    b.settle()
+    same("the same totals", text(b, "#totals"), "".join(part for told in counted for part in told))
+    b.click(cell(36, "soil")), b.settle()
+    same("not asked", text(b, "#station .decision"), "Not asked: Station 9 of the sheet is not in the licence, and nothing is said of it.")
+    b.click("#view-stations"), b.settle()
+    same("its group", "Not in the licence (1)" in text(b, "#stations"), True)
+    b.click("#stations input[aria-label='Season 1 of station 9 is in the licence']"), b.settle()
+    same("ticked it is asked", text(b, "#totals").startswith("14 stations: 5 released, 9 held. "), True)
+    b.click("#undo"), b.click("#undo"), b.click("#view-lines"), b.settle()
 
 
 def mapped(b):

@@ -24,6 +24,7 @@ const { licenceText, sheetText, word } = await import('../src/sheet/writing.js')
 const { judge } = await import('../src/judging/judging.js');
 const { portfolio } = await import('../src/judging/stations.js');
 const sentences = await import('../src/judging/sentences.js');
+const { notes, outsideWords, totals } = await import('../src/judging/totals.js');
 const { changes } = await import('../src/judging/advice.js');
 const site = await import('../src/judging/site.js');
 const mapped = await import('../src/judging/map.js');
@@ -113,13 +114,22 @@ const saidOf = (asked, number) => {
 };
 
 test('lines and stations are told alike: verdicts, margins, decisions, asides, cautions and what to change', () => {
-  let released = 0, held = 0, changed = 0, thin = 0;
-  for (const { rows, licence, lines, stations, absent } of expected.portfolios) {
+  let released = 0, held = 0, changed = 0, thin = 0, outside = 0;
+  for (const { rows, licence, lines, stations, absent, totals: counts, notes: told, others } of expected.portfolios) {
     judge(rows); // what is known of a line without the licence's wires is not taken for what it is with them
     const granted = licenceMap(licence), judged = judge(rows, granted);
     assert.deepEqual(judged.lines.map((line) => [words.verdict(line), words.margin(line.nearest), line.nearest.limit, line.row.kcmil,
       line.headroom, line.small]), lines);
     const asked = portfolio(judged, granted);
+    const said = totals(asked);
+    assert.equal(`${said.stations} ${said.released}, ${said.held}. ${said.lines}; ${said.missing}`, counts);
+    assert.deepEqual([notes(asked), said.open], [told, 0]);
+    assert.deepEqual(asked.stations.filter((one) => one.outside).map((one) => one.station), others);
+    for (const number of others) {
+      assert.equal(asked.at.get(number).answer, undefined);
+      assert.deepEqual(sentences.decision(asked.at.get(number), []), ['Not asked:', outsideWords([number])]);
+      outside++;
+    }
     for (const [station, decision] of absent) assert.deepEqual(sentences.decision(asked.at.get(station), asked.unread), decision);
     for (const wanted of stations) {
       const one = asked.at.get(wanted.station), found = saidOf(asked, wanted.station);
@@ -132,11 +142,16 @@ test('lines and stations are told alike: verdicts, margins, decisions, asides, c
   }
   assert.ok(released > 50 && held > 150 && changed > 700, `${released} released, ${held} held, ${changed} changes`);
   assert.ok(thin > 20, `${thin} stations with a wire of the licence that is too small`);
+  assert.ok(outside > 50, `${outside} stations outside the licence`);
+});
+
+test('stations outside the licence are named, and beyond some counted', () => {
+  for (const [numbers, said] of expected.outside) assert.equal(outsideWords(numbers), said);
 });
 
 test('any number of lines is judged as few are, in sheets of whole stations', () => {
   const rows = [], licence = new Map(), wanted = [];
-  expected.portfolios.forEach((one, i) => {
+  expected.portfolios.filter((one) => one.licence).forEach((one, i) => {
     rows.push(...one.rows.map(([station, ...rest]) => [String(Number(station) + 10 * i), ...rest]));
     for (const [station, granted] of licenceMap(one.licence, 10 * i)) licence.set(station, granted);
     wanted.push(...one.stations.map((said) => ({ ...said, station: said.station + 10 * i, changes: said.changes.map(plain) })));
@@ -167,7 +182,8 @@ test('a station is not released while one of its lines is refused, nor any while
   for (const season of '1234') {
     for (let station = season === '1' ? 1 : 2; station <= 500; station++) rows.push([String(station), season, ...rest]);
   }
-  const licence = new Map([[1, { name: '', seasons: [1], wire: '', area: 0, byLicence: true }]]);
+  const licence = new Map(Array.from({ length: 500 }, (_, i) =>
+    [i + 1, { name: '', seasons: i ? [1, 2, 3, 4] : [1], wire: '', area: 0, byLicence: true }]));
   const held = (all) => {
     const asked = portfolio(judge(all, licence), licence);
     for (const one of asked.stations) assert.equal(sentences.decision(one, asked.unread)[0] === 'Released:', Boolean(one.released));

@@ -1,5 +1,5 @@
 // The sheet as it is edited: rows of text, the licence, what was done and undone. It lives in the page alone.
-import { NAMES, SEASONS } from '../library/data.js';
+import { NAMES } from '../library/data.js';
 
 const blank = () => NAMES.map(() => '');
 const MOST_STEPS = 300;
@@ -86,12 +86,4 @@ export function withCells(cells, rows = store.now.rows) {
 export function casesAsCells(lines, cases) {
   return lines.flatMap((line, i) => NAMES.map((name, column) => [line.place, column, String(cases[i][name])])
     .filter(([row, column, text]) => store.now.rows[row][column] !== text));
-}
-
-export function tick(station, season, on) {
-  const licence = new Map(store.now.licence);
-  const one = licence.get(station) ?? { name: '', seasons: SEASONS, wire: '', area: 0, byLicence: true };
-  const seasons = SEASONS.filter((other) => (other === season ? on : one.seasons.includes(other)));
-  licence.set(station, { ...one, seasons, byLicence: true });
-  change(`licence of station ${station}`, { licence });
 }

@@ -4,11 +4,12 @@ import { grouped, share } from '../words/decimals.js';
 import { byId, h, redraw, show } from './dom.js';
 import { badge, bar, seasonMark } from './drawing.js';
 import { decision, greatest, now, told } from '../judging/sentences.js';
-import { tick } from '../sheet/store.js';
+import { notes, totals as counted } from '../judging/totals.js';
+import { tick } from '../sheet/granting.js';
 import { margin } from '../words/words.js';
 
 const FAULT = 'Greatest fault current still safe', WIRE = 'Wire needed of own, kcmil', COLUMNS = 10;
-const KEY = 'A season that is ticked is asked of the licence; a station without ticks of its own is asked for all four. A station is '
+const KEY = 'A season that is ticked is in the licence; a station without a tick is not in it. A station is '
   + 'released only if every ticked season has a line, every line of it is safe, the lines agree on the yard, and the wire is '
   + 'large enough. A station with a refused line is not asked.';
 
@@ -63,18 +64,12 @@ function row(station, top, unread, choose, chosen) {
     wireCell(station), h('td', { class: 'why' }, why(station, unread)));
 }
 
-// The counts, in the report's sentence.
+// The counts, in the report's sentence, with the stations that were not asked and the lines that are refused.
 export function totals(portfolio, judged) {
-  const { stations } = portfolio, count = (test) => stations.filter(test).length, lines = judged.kept;
   if (!judged.lines.length) return [];
-  const of = (verdict) => lines.filter((line) => line.row.verdict === verdict).length, refused = judged.lines.length - lines.length;
-  const open = count((one) => one.released === undefined);
-  const gone = stations.reduce((sum, station) => sum + (station.released === undefined ? 0 : station.missing.length), 0);
-  return [h('b', {}, `${stations.length} station${stations.length > 1 ? 's' : ''}: `),
-    h('b', { class: 'green' }, `${count((one) => one.released)} released`), ', ',
-    h('b', { class: 'red' }, `${count((one) => one.released === false)} held`), open ? `, ${open} not asked` : '', '. ',
-    `${lines.length} season line${lines.length === 1 ? '' : 's'}: ${of(1)} safe, ${of(2)} unsafe, ${of(3)} undecided; `,
-    gone ? `${gone} season${gone > 1 ? 's' : ''} without a line.` : 'every season has a line.',
+  const said = counted(portfolio), refused = judged.lines.length - judged.kept.length;
+  return [h('b', {}, said.stations), ' ', h('b', { class: 'green' }, said.released), ', ', h('b', { class: 'red' }, said.held),
+    said.open ? `, ${said.open} not asked` : '', `. ${said.lines}; ${said.missing}`,
     refused ? h('b', { class: 'red' }, ` ${refused} line${refused > 1 ? 's are' : ' is'} refused.`) : ''];
 }
 
@@ -85,8 +80,8 @@ function head() {
   h('tr', {}, SEASONS.map((season) => h('th', { scope: 'col', class: 's' }, String(season)))));
 }
 
-const GROUPS = [['Held', (one) => one.released === false], ['Not asked', (one) => one.released === undefined],
-  ['Released', (one) => one.released]];
+const GROUPS = [['Held', (one) => one.released === false], ['Not asked', (one) => one.released === undefined && !one.outside],
+  ['Released', (one) => one.released], ['Not in the licence', (one) => one.outside]];
 
 // The table; `choose` is called with the line of a chosen station that is nearest its limit.
 export function draw(portfolio, top, choose, chosen) {
@@ -98,6 +93,6 @@ export function draw(portfolio, top, choose, chosen) {
   });
   const box = byId('stations'), caption = h('caption', { class: 'vh' }, 'Decision for each station');
   redraw(box, () => show(box, portfolio.stations.length ? [h('table', { class: 'pf' }, caption, head(), bodies),
-    h('p', { class: 'key' }, KEY)]
+    h('p', { class: 'key' }, notes(portfolio).map((one) => `${one} `), KEY)]
     : h('p', { class: 'key' }, 'No station yet: type or paste lines first.')));
 }
