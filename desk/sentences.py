@@ -193,6 +193,7 @@ def licences():
         "name": of("7,a\x07,1,", line="line 2"), "again": of("4242,a,1,", "4242,b,1,", line="line 3", earlier="line 2", station="4242"),
         "none": of("7,a,,", line="line 2"), "season": of("7,a,1 42,", line="line 2", text="42"),
         "twice": of("7,a,3 3,", line="line 2", text="3 3"), "wire": of("7,a,1,42x", line="line 2", text="42x"), "no_station": of(),
+        "counted": template(*licence.wires(licence.Licence((licence.Licensed(7, "", (1,), wire="42x", area=424242),))), wire="42x", area="424242"),
     }
 
 

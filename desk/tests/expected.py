@@ -215,6 +215,24 @@ def licences(rng: random.Random):
         yield [text, found]
 
 
+WIRES = ["4/0", "250 kcmil", "95 mm2", "95 mm\u00b2", "211 kcmil", "2000 kcmil", "2001 kcmil", "0 kcmil", "4", "#4", "AWG 4", "no. 2", "0000",
+         "00 awg", "70 sq mm", "70sqmm", "300MCM", "1kcmil", "250", "x", "5/0", "mm2", "185 MM^2", "96 mm2", "<b>", "W" * 60, "4/0 copper"]
+CALLED = ["Ashgrove", "Elm, west", 'say "so"', "a;b", "a\u00a0b", "a\u200bb", "\u202eevil", "\u00e9", "Кировск", "W" * 300, "=1+1", "a\tb"]
+
+
+def fields(rng: random.Random):
+    """Names and wires as they are typed into a licence: its line as the command writes it, or what it refuses."""
+    for field, texts in (("wire", WIRES), ("name", CALLED)):
+        for text in texts:
+            one = licence.Licensed(7, *((text, (1, 2)) if field == "name" else ("", (1, 2))), wire=text if field == "wire" else "")
+            written = licence.text(licence.Licence((one,)))
+            try:
+                read = licence.read(written.encode()).stations[0]
+                yield [field, text, "", read.area, written]
+            except licence.LicenceRefused as error:
+                yield [field, text, str(error).removeprefix("licence line 2, "), 0, ""]
+
+
 def amount(rng: random.Random, most: int) -> str:
     """A decimal up to a greatest one, mostly in whole thousandths; now and then with a sign, or no number."""
     places = rng.choice((0, 1, 2, 3, 3, 3, 4))
@@ -308,7 +326,7 @@ def square_words(case, text):
 
 
 KINDS = {"shown": shown, "shares": shares, "mended": mended, "ambiguous": ambiguous, "refused": refused, "portfolios": portfolios,
-         "licences": licences, "outside": outside, "soils": soils, "splits": splits, "squares": squares}
+         "licences": licences, "outside": outside, "fields": fields, "soils": soils, "splits": splits, "squares": squares}
 
 if __name__ == "__main__":
     json.dump({kind: list(make(random.Random(number))) for number, (kind, make) in enumerate(KINDS.items())}, sys.stdout)

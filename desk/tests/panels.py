@@ -1,7 +1,10 @@
 """Real input into the panels: the map over two inputs."""
 import json
+import tempfile
+import time
+from pathlib import Path
 
-from common import ROOT, cell, plain, same
+from common import NAMES, ROOT, cell, plain, same
 from hocsimbur import core
 from hocsimbur.core import Refused
 from hocsimbur.portfolio import decision, licence, reasons
@@ -45,6 +48,71 @@ def outside(b):
     b.click("#stations input[aria-label='Season 1 of station 9 is in the licence']"), b.settle()
     same("ticked it is asked", text(b, "#totals").startswith("14 stations: 5 released, 9 held. "), True)
     b.click("#undo"), b.click("#undo"), b.click("#view-lines"), b.settle()
+
+
+LEAVING = """(() => { const e = new Event('beforeunload', {cancelable: true}); dispatchEvent(e); return e.defaultPrevented; })()"""
+
+
+def typed(b, key, said):
+    """A text typed into a field of the licence in the place of what stands there."""
+    b.run(f"document.querySelector('[data-key=\"{key}\"]').select()"), b.call("Input.insertText", text=said), b.key("Enter"), b.settle()
+
+
+def saved(b, button, *names):
+    """The files that the browser saved at a click of a button, as texts."""
+    folder = Path(tempfile.mkdtemp(prefix="desk-"))
+    b.call("Browser.setDownloadBehavior", behavior="allow", downloadPath=str(folder))
+    b.click(button)
+    for _ in range(60):
+        if all((folder / name).exists() for name in names):
+            break
+        time.sleep(0.05)
+    return [(folder / name).read_bytes() if (folder / name).exists() else b"" for name in names]
+
+
+def licensing(b):
+    """Names and wires are typed into the licence, refused in the command's words, saved with the sheet, and read by the command."""
+    b.click("#sample"), b.click("#view-stations"), b.settle()
+    same("nothing to lose", b.run(LEAVING), False)
+    typed(b, "104 name", 'Birch "Hollow"; <b>east</b>')
+    typed(b, "118 wire", "4/0")
+    same("its own area", "495 of 211 too small" in text(b, "#stations"), True)
+    same("the focus stays", b.run("document.activeElement.dataset.key"), "118 wire")
+    same("a licence to lose", [b.run(LEAVING), text(b, "#name")], [True, "portfolio.csv (not saved)"])
+    typed(b, "110 wire", "95")
+    try:
+        licence.read(b"station,name,seasons,wire\n7,a,1,95\n")
+    except licence.LicenceRefused as refused:
+        same("refused at the cell", text(b, "#wire-110-refused"), str(refused).removeprefix("licence line 2, "))
+    same("and marked", b.run("document.querySelector('[data-key=\"110 wire\"]').getAttribute('aria-invalid')"), "true")
+    sheet, granted = saved(b, "#save", "portfolio.csv", "licence.csv")
+    same("the sheet", sheet, (ROOT / "examples/portfolio.csv").read_bytes())
+    whole = licence.read(granted)
+    same("what is saved", [(one.station, one.name, one.wire) for one in whole.stations if one.station in (104, 110, 118)],
+         [(104, 'Birch "Hollow"; <b>east</b>', ""), (110, "Carrow Mill", ""), (118, "Dunmore", "4/0")])
+    same("what is refused is still to lose", b.run(LEAVING), True)
+    b.run("document.querySelector('[data-key=\"110 wire\"]').focus()"), b.key("Escape"), b.settle()
+    same("given up", [b.run(LEAVING), b.run("document.querySelector('#wire-110-refused')")], [False, None])
+    asked = decision.portfolio(sheet, whole)
+    counted = reasons.totals(reasons.summed(reasons.counts(one) for one in asked.stations), True)
+    same("the command's totals", text(b, "#totals"), "".join(part for told in counted for part in told))
+    b.click("#undo"), b.settle()
+    same("one step", b.run("document.querySelector('[data-key=\"118 wire\"]').value"), "")
+    b.click("#view-lines"), b.click("#new"), b.click(cell(0, "station"))
+    b.paste("\n".join("\t".join(str(case[name]) for name in NAMES) for case in layout.cases(sheet)[:6])), b.settle()
+    b.click("#view-stations"), b.settle()
+    same("no licence", "No licence was handed over" in text(b, "#stations"), True)
+    typed(b, "101 name", "Ash")
+    same("a licence of both", saved(b, "#licence", "licence.csv"), [b"station,name,seasons\n101,Ash,1 2 3 4\n104,,1 2 3 4\n"])
+    b.click("#view-site"), b.click("#new"), b.settle()
+    for place in ("readings", "currents", "side"):
+        b.run(f"document.getElementById('{place}').value = ''")
+    same("no text", b.run(LEAVING), False)
+    b.click("#readings"), b.call("Input.insertText", text="2.5 7.3\n5 3"), b.settle()
+    same("a text to lose", b.run(LEAVING), True)
+    same("readings", saved(b, "#readings-said [data-key='save readings']", "readings.csv"), [b"metres,ohms\n2.5,7.3\n5,3\n"])
+    same("saved", b.run(LEAVING), False)
+    b.run("document.getElementById('readings').value = ''"), b.click("#view-lines"), b.settle()
 
 
 def mapped(b):

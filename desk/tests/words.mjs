@@ -6,6 +6,7 @@ import { execFileSync } from 'node:child_process';
 import { createHash } from 'node:crypto';
 import fs from 'node:fs';
 import test from 'node:test';
+import { fileURLToPath } from 'node:url';
 
 // the three parts of the built page that the modules read
 const page = fs.readFileSync(new URL('../../target/desk/hocsimbur.html', import.meta.url), 'utf8');
@@ -19,6 +20,8 @@ const decimals = await import('../src/words/decimals.js');
 const words = await import('../src/words/words.js');
 const { cellsOf, parsed, tooMany, whole } = await import('../src/sheet/reading.js');
 const { isLicence, licenceOf } = await import('../src/sheet/licence.js');
+const granting = await import('../src/sheet/granting.js');
+const store = await import('../src/sheet/store.js');
 const { sha256 } = await import('../src/sheet/digest.js');
 const { licenceText, sheetText, word } = await import('../src/sheet/writing.js');
 const { judge } = await import('../src/judging/judging.js');
@@ -256,6 +259,38 @@ test('a licence is read or refused in the same words', () => {
   assert.ok(refused > 200 && refused < expected.licences.length - 200, `${refused} refused`);
 });
 
+test('a name or a wire that is typed goes into the licence as the command writes it, or is refused in its words', () => {
+  const rows = [['7', '1', ...Array(20).fill('')]];
+  for (const [field, text, refused, area, written] of expected.fields) {
+    store.change('a sheet', { rows, licence: licenceMap('station,name,seasons\n7,,1 2\n') });
+    granting.enter(7, field, ` ${text} `);
+    const one = store.store.now.licence.get(7);
+    assert.equal(granting.refusedAt(7, field)?.words ?? '', refused, text);
+    assert.deepEqual([one[field], one.area], refused ? ['', 0] : [text, area]);
+    if (!refused) assert.equal(licenceText(store.store.now.licence), written);
+    assert.equal(granting.anyRefused(), Boolean(refused));
+    granting.giveUp(7, field);
+    assert.equal(granting.anyRefused(), false);
+  }
+});
+
+test('the first edit of a licence asks all else as before, and each edit is one step', () => {
+  const rows = ['7', '8', '8', 'x', '70000', ''].map((station) => [station, '1', ...Array(20).fill('')]);
+  store.change('a sheet', { rows, licence: new Map() });
+  granting.tick(8, 3, false);
+  const seasons = () => [...store.store.now.licence].map(([number, one]) => [number, one.seasons.join('')]);
+  assert.deepEqual(seasons(), [[7, '1234'], [8, '124']]);
+  granting.tick(9, 2, true);
+  assert.deepEqual(seasons(), [[7, '1234'], [8, '124'], [9, '2']]);
+  assert.ok(store.unsavedPart('licence') && store.unsaved());
+  store.markSaved({ sheet: 'a.csv', licence: true });
+  assert.ok(!store.unsaved());
+  store.undo();
+  assert.deepEqual([seasons(), store.unsaved()], [[[7, '1234'], [8, '124']], true]);
+  store.undo();
+  assert.equal(store.store.now.licence.size, 0);
+});
+
 // What is measured: the lines of the table with the value for the column, the notes and that value; or why there is none.
 const measuredAlike = (asked, wanted, least) => {
   let answered = 0;
@@ -280,6 +315,17 @@ test('four-pin readings are answered as by wenner', () => {
 test('staged tests are answered as by staged', () => {
   measuredAlike(site.splitOf, expected.splits, 100);
   assert.match(site.splitOf('1 0\n1 0 0').wrong, /^branch 1: 3 numbers, not two/);
+});
+
+test('readings and currents are saved as files that wenner and staged read', () => {
+  const command = (name, input) => execFileSync(fileURLToPath(new URL('../../hocsimbur', import.meta.url)), [name, '-'],
+    { input, encoding: 'utf8', env: { ...process.env, PYTHONDONTWRITEBYTECODE: '1' } });
+  for (const [name, asked, names, text] of [['wenner', site.soilOf, site.READINGS, ' 1  10.4\n2;4.55\n\n5, 1.62\n'],
+    ['staged', site.splitOf, site.CURRENTS, 'in_phase,quadrature\n1000 0\n400 -50\n']]) {
+    const file = site.fileText(text, names);
+    assert.equal(command(name, file).trim().split('\n').at(-1), asked(text).column);
+    assert.deepEqual(asked(file), asked(text));
+  }
 });
 
 test('the fewest conductors for a side are those of fewest, and the yard that is put into the sheet is safe', () => {

@@ -29,6 +29,12 @@ function pairs(text, names, called, form) {
   return wrong < 0 ? { lines } : { wrong: `${called(wrong)}: ${lines[wrong].length} numbers, not two; write ${form}` };
 }
 
+export const READINGS = 'metres,ohms', CURRENTS = 'in_phase,quadrature'; // the names of the files that `wenner` and `staged` read
+
+// A text of pairs as such a file.
+export const fileText = (text, names) => [names, ...pairs(text, names, String, '').lines.map((cells) => cells.join(','))]
+  .map((line) => `${line}\n`).join('');
+
 function refusal({ number, line }, { readings = [], parts = [], side = 0 }) {
   const of = say.refusals[number];
   if (number === 12) return readings.length ? fill(of[1], { count: readings.length }) : of[0];
@@ -67,7 +73,7 @@ function readingOf(cells, place) {
 
 // The soil from four-pin readings, a line each, in metres and ohms: its table, notes, and the value for the column; or why there is none.
 export function soilOf(text) {
-  const { lines, wrong } = pairs(text, 'metres,ohms', (place) => `reading ${place + 1}`, 'metres and ohms, as 2.5 7.3');
+  const { lines, wrong } = pairs(text, READINGS, (place) => `reading ${place + 1}`, 'metres and ohms, as 2.5 7.3');
   const found = (lines ?? []).map(readingOf), bad = wrong ?? found.find((one) => one.wrong)?.wrong;
   if (bad) return { wrong: bad };
   const [lower, upper] = ['lower', 'upper'].map((end) => found.map((one) => one[end]));
@@ -104,7 +110,7 @@ function partsOf(cells, place) {
 
 // The split from a staged test: the injected current and then each branch, a line each, in-phase and quadrature part in amperes.
 export function splitOf(text) {
-  const { lines, wrong } = pairs(text, 'in_phase,quadrature', currentName, 'in-phase and quadrature part in A, as 400 -50');
+  const { lines, wrong } = pairs(text, CURRENTS, currentName, 'in-phase and quadrature part in A, as 400 -50');
   const parts = (lines ?? []).map(partsOf), bad = wrong ?? parts.find((one) => one.wrong)?.wrong;
   if (bad) return { wrong: bad };
   const answer = core.split(parts);

@@ -5,15 +5,17 @@ const blank = () => NAMES.map(() => '');
 const MOST_STEPS = 300;
 export const MOST_LINES = 10000; // that the page takes
 const listeners = [];
-const empty = { rows: [], licence: new Map(), name: '' };
+export const LICENCE = 'licence.csv'; // the file of a licence that was never saved
+const empty = { rows: [], licence: new Map(), name: '', licenceName: LICENCE };
 let past = [], future = [], saved = empty;
 
 export const store = { now: empty, draft: null };
 export const listen = (call) => listeners.push(call);
 const told = (kind) => listeners.forEach((call) => call(kind));
 
-export const unsaved = () => ['rows', 'licence'].some((part) => store.now[part] !== saved[part]
-  && (store.now[part].length || store.now[part].size));
+export const unsavedPart = (part) => store.now[part] !== saved[part] && Boolean(store.now[part].length || store.now[part].size);
+export const unsaved = () => unsavedPart('rows') || unsavedPart('licence');
+export const touch = () => told('saved'); // something that is shown has changed, beside the sheet
 export const canUndo = () => past.length > 0;
 export const canRedo = () => future.length > 0;
 

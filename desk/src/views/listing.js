@@ -5,7 +5,8 @@ import { byId, h, redraw, show } from './dom.js';
 import { badge, bar, seasonMark } from './drawing.js';
 import { decision, greatest, now, told } from '../judging/sentences.js';
 import { notes, totals as counted } from '../judging/totals.js';
-import { tick } from '../sheet/granting.js';
+import { nameField, wireField, wireNames } from './granted.js';
+import { grant, tick } from '../sheet/granting.js';
 import { margin } from '../words/words.js';
 
 const FAULT = 'Greatest fault current still safe', WIRE = 'Wire needed of own, kcmil', COLUMNS = 10;
@@ -40,14 +41,22 @@ function faultCell(station) {
 }
 
 function wireCell(station) {
-  if (!station.lines.length) return h('td', { class: 'num' });
   const small = station.lines.some((line) => line.small), colour = { class: small ? 'red' : '' };
-  return h('td', { class: 'num', 'data-l': WIRE }, h('b', colour, grouped(station.size.needed)), ` of ${grouped(station.size.own)}`,
-    h('small', colour, small ? 'too small' : 'enough'));
+  const sizes = station.lines.length ? [h('b', colour, grouped(station.size.needed)), ` of ${grouped(station.size.own)} `,
+    h('span', { class: small ? 'red' : 'sub' }, small ? 'too small' : 'enough')] : '';
+  return h('td', { class: 'num', 'data-l': WIRE }, sizes, h('div', {}, wireField(station)));
+}
+
+// A station outside the licence comes into it with the seasons that have a line.
+function addTo(station) {
+  const seasons = station.lines.map((line) => line.row.season);
+  const act = () => grant(station.station, { seasons });
+  return seasons.length ? h('div', {}, h('button', { type: 'button', 'data-key': `add ${station.station}`, onclick: act }, 'Add to the licence')) : '';
 }
 
 function why(station, unread) {
   if (station.released) return '';
+  if (station.outside) return [decision(station, unread)[1], addTo(station)];
   if (station.released === undefined) return decision(station, unread)[1];
   const first = (text) => text[0].toUpperCase() + text.slice(1);
   return station.reasons.map(told).map(([head, detail], i) =>
@@ -55,10 +64,11 @@ function why(station, unread) {
 }
 
 function row(station, top, unread, choose, chosen) {
-  const here = chosen === station.station, name = [h('span', { class: 'no' }, String(station.station)), ' ', station.name];
+  const here = chosen === station.station, number = h('span', { class: 'no' }, String(station.station));
   const link = { type: 'button', class: 'link', 'data-key': station.station, 'aria-current': here ? 'true' : null,
-    onclick: () => choose(station.worst) };
-  return h('tr', { class: here ? 'chosen' : '' }, h('th', { scope: 'row' }, station.lines.length ? h('button', link, name) : name),
+    'aria-label': `Station ${station.station} ${station.name}`, onclick: () => choose(station.worst) };
+  return h('tr', { class: here ? 'chosen' : '' }, h('th', { scope: 'row' }, station.lines.length ? h('button', link, number) : number, ' ',
+    nameField(station)),
     h('td', { class: 'dec' }, badge(station)), SEASONS.map((season) => seasonCell(station, season)), nearCell(station, top),
     faultCell(station),
     wireCell(station), h('td', { class: 'why' }, why(station, unread)));
@@ -92,7 +102,7 @@ export function draw(portfolio, top, choose, chosen) {
       list.map((one) => row(one, top, portfolio.unread, choose, chosen))) : '';
   });
   const box = byId('stations'), caption = h('caption', { class: 'vh' }, 'Decision for each station');
-  redraw(box, () => show(box, portfolio.stations.length ? [h('table', { class: 'pf' }, caption, head(), bodies),
+  redraw(box, () => show(box, portfolio.stations.length ? [h('table', { class: 'pf' }, caption, head(), bodies), wireNames(),
     h('p', { class: 'key' }, notes(portfolio).map((one) => `${one} `), KEY)]
     : h('p', { class: 'key' }, 'No station yet: type or paste lines first.')));
 }

@@ -13,6 +13,7 @@ import { at, choose, onMove, paint, range } from './select.js';
 import { portfolio as asked } from '../judging/stations.js';
 import { sha256 } from '../sheet/digest.js';
 import * as site from './siteview.js';
+import { anyRefused } from '../sheet/granting.js';
 import * as store from '../sheet/store.js';
 import { sheetText, word } from '../sheet/writing.js';
 import * as varied from './varied.js';
@@ -75,14 +76,14 @@ function upper() {
   const typed = draft && judged.at.get(draft.row);
   if (typed?.refused) typed.typing = true;
   grid.draw(rows, judged, top);
-  byId('name').textContent = (now.name || 'new sheet') + (store.unsaved() ? ' (not saved)' : '');
+  byId('name').textContent = (now.name || 'new sheet') + (store.unsaved() || anyRefused() ? ' (not saved)' : '');
   byId('undo').disabled = !store.canUndo();
   byId('redo').disabled = !store.canRedo();
 }
 
 // What a print is of: the sheet and its SHA-256, the library and the date; and the command that makes the formal report.
 function printedHead() {
-  const { now } = store.store, name = now.name || files.UNNAMED, licence = now.licence.size ? ' --licence licence.csv' : '';
+  const { now } = store.store, name = now.name || files.UNNAMED, licence = now.licence.size ? ` --licence ${word(now.licenceName)}` : '';
   const today = new Date().toLocaleDateString('en-GB', { day: 'numeric', month: 'long', year: 'numeric' });
   return [
     `${name}${store.unsaved() ? ' (not saved)' : ''}, SHA-256 ${sha256(sheetText(now.rows))}`,
@@ -137,7 +138,7 @@ function wire() {
   addEventListener('keydown', (event) => {
     if (!(event.ctrlKey || event.metaKey) || event.altKey) return;
     const act = { s: 'save', o: 'open', p: '', z: event.shiftKey ? 'redo' : 'undo', y: 'redo' }[event.key.toLowerCase()];
-    if (!act || (keys.editing() && act !== 'save') || (act.endsWith('do') && event.target.closest('#site'))) return;
+    if (!act || (keys.editing() && act !== 'save') || (act.endsWith('do') && event.target.closest('#site, input.own'))) return;
     event.preventDefault();
     keys.finish(true); // what is typed is saved too
     byId(act).click();
