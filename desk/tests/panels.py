@@ -1,14 +1,74 @@
-"""Real input into the panels: the map over two inputs."""
+"""Real input into what stands beside the sheet: the map over two inputs, the licence, and cells with units."""
 import json
 import tempfile
 import time
 from pathlib import Path
 
-from common import NAMES, ROOT, cell, plain, same
+from common import NAMES, ROOT, cell, plain, same, told
 from hocsimbur import core
 from hocsimbur.core import Refused
 from hocsimbur.portfolio import decision, licence, reasons
-from hocsimbur.sheets import layout
+from hocsimbur.sheets import layout, spreadsheet
+
+def shown(b, row, name):
+    return b.run(f"document.querySelector('{cell(row, name)}').textContent")
+
+
+def imported(b, name, said, cautious=False):
+    """What `import` says of a cell in line 7 of the sample: the digits and its sentences, or the refusal without its place."""
+    lines = (ROOT / "examples/portfolio.csv").read_text().splitlines()
+    cells = lines[6].split(",")
+    cells[NAMES.index(name)] = f'"{said}"'
+    lines[6] = ",".join(cells)
+    try:
+        made = spreadsheet.make("\n".join([*lines, ""]).encode(), cautious)
+    except spreadsheet.Refusals as refusals:
+        return refusals.said[0].split(": ", 1)[1]
+    found = [one for one in made.changes.told() if one.startswith(("1 value", "1 diameter"))] + made.rounded
+    return [layout.cells(layout.lines(made.sheet)[6])[NAMES.index(name)], "; ".join(found)]
+
+
+def units(b):
+    """Units and decimals in cells: taken as `import` takes them, rounded only where the person says so, all in its words."""
+    b.click("#sample"), b.settle()
+    for name, said in (("fault", "3.9kA"), ("shock", "0.4s"), ("clear", "18 cycles"), ("dia", "4/0"), ("split", "55%"), ("soil", "400.0"), ("space", "8m")):
+        b.click(cell(5, name)), b.type(said), b.key("Enter"), b.settle()
+        same(f"{said} taken", [shown(b, 5, name), text(b, "#said")], imported(b, name, said))
+        same(f"{said} told at the cell", text(b, "#callout").startswith(f"{name} 1 "), True)
+        same("and moved on", b.run("document.activeElement.dataset.r"), "6")
+        b.key("z", 2), b.settle()
+    for name, said in (("soil", "187.5"), ("thick", "4in"), ("xr", "16.2"), ("rodlen", "23ft"), ("dia", "11.75 mm"), ("layer", "2.00005 kohm m")):
+        b.click(cell(5, name)), b.type(said), b.key("Enter"), b.settle()
+        words = imported(b, name, said).removesuffix(", or give --round cautious")
+        digits, report = imported(b, name, said, cautious=True)
+        same(f"{said} stays", [shown(b, 5, name), told(b)[5][0].startswith("refused")], [said, True])
+        same(f"{said} is told", text(b, "#callout").startswith(f"{name} {words}{report.rsplit(': ', 1)[1]}"), True)
+        same("heard", plain(b.run("document.getElementById('live').textContent")), f"{words}; Enter writes {digits}")
+        same("not moved on", b.run("document.activeElement.dataset.r + document.activeElement.dataset.c"), f"5{NAMES.index(name)}")
+        b.key("Enter") if name != "thick" else b.click("#callout button")
+        b.settle()
+        same(f"{said} rounded", [shown(b, 5, name), text(b, "#said")], [digits, report.split("; 1 value")[-1].split("); ")[-1]])
+        b.key("z", 2), b.settle()
+        same("one step", shown(b, 5, name), said)
+        b.key("z", 2), b.settle()
+    for name, said in (("depth", "18in"), ("space", "23.5ft"), ("rods", "4.5"), ("fault", "4 kg"), ("shock", "-5")):
+        b.click(cell(5, name)), b.type(said), b.key("Enter"), b.settle()
+        if name != "fault":
+            same(f"{said} has no side", text(b, "#callout"), f"{name} {imported(b, name, said)}")
+            same("no button", b.run("document.querySelector('#callout button')"), None)
+        b.key("Escape"), b.click("#undo"), b.settle()
+    b.click(cell(4, "soil")), b.paste("187.5\t2.5 kohm m\t4in\t0.5s"), b.settle()
+    same("pasted", [shown(b, 4, name) for name in ("soil", "layer", "thick", "shock")], ["187.5", "2500", "4in", "500"])
+    same("told", text(b, "#said").startswith("1 line pasted; 1 value: kohm m made Ω·m (line 6, layer, 2.5 kohm m is 2500); 1 value: s made ms "
+                                             "(line 6, shock, 0.5s is 500); left as it is: line 6, soil: 187.5 is not"), True)
+    b.click(cell(4, "thick")), b.settle()
+    same("by layer and soil", text(b, "#callout"), "thick 4in is 101.6 mm, not a whole number of mm; the cautious side is down where the layer "
+                                                   "is more resistive than the soil, else up")
+    b.click(cell(4, "soil")), b.key("Enter"), b.click(cell(4, "thick")), b.key("Enter"), b.settle()
+    same("one after the other", [shown(b, 4, name) for name in ("soil", "thick")], ["188", "101"])
+    same("judged", told(b)[4][0], "safe")
+    b.click("#sample"), b.settle()
+
 
 YARDS = """JSON.stringify([...document.querySelectorAll('.map td')].map(e => [e.dataset.key, e.title]))"""
 
@@ -53,6 +113,9 @@ def outside(b):
 LEAVING = """(() => { const e = new Event('beforeunload', {cancelable: true}); dispatchEvent(e); return e.defaultPrevented; })()"""
 
 
+EMPTIED = "for (const id of ['readings', 'currents', 'side']) document.getElementById(id).value = ''"
+
+
 def typed(b, key, said):
     """A text typed into a field of the licence in the place of what stands there."""
     b.run(f"document.querySelector('[data-key=\"{key}\"]').select()"), b.call("Input.insertText", text=said), b.key("Enter"), b.settle()
@@ -73,6 +136,7 @@ def saved(b, button, *names):
 def licensing(b):
     """Names and wires are typed into the licence, refused in the command's words, saved with the sheet, and read by the command."""
     b.click("#sample"), b.click("#view-stations"), b.settle()
+    b.run(EMPTIED)
     same("nothing to lose", b.run(LEAVING), False)
     typed(b, "104 name", 'Birch "Hollow"; <b>east</b>')
     typed(b, "118 wire", "4/0")
@@ -105,8 +169,7 @@ def licensing(b):
     typed(b, "101 name", "Ash")
     same("a licence of both", saved(b, "#licence", "licence.csv"), [b"station,name,seasons\n101,Ash,1 2 3 4\n104,,1 2 3 4\n"])
     b.click("#view-site"), b.click("#new"), b.settle()
-    for place in ("readings", "currents", "side"):
-        b.run(f"document.getElementById('{place}').value = ''")
+    b.run(EMPTIED)
     same("no text", b.run(LEAVING), False)
     b.click("#readings"), b.call("Input.insertText", text="2.5 7.3\n5 3"), b.settle()
     same("a text to lose", b.run(LEAVING), True)

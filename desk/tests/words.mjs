@@ -15,10 +15,13 @@ globalThis.document = { getElementById: (id) => ({ textContent: part(id) }) };
 
 const expected = JSON.parse(fs.readFileSync(process.env.EXPECTED, 'utf8'));
 const core = await import('../src/library/core.js');
-const { BY_NAME, samples } = await import('../src/library/data.js');
+const { BY_NAME, NAMES, samples } = await import('../src/library/data.js');
 const decimals = await import('../src/words/decimals.js');
 const words = await import('../src/words/words.js');
-const { cellsOf, parsed, tooMany, whole } = await import('../src/sheet/reading.js');
+const { cellsOf, parsed, tooMany } = await import('../src/sheet/reading.js');
+const { whole } = await import('../src/sheet/numbers.js');
+const amounts = await import('../src/sheet/amounts.js');
+const importing = await import('../src/sheet/importing.js');
 const { isLicence, licenceOf } = await import('../src/sheet/licence.js');
 const granting = await import('../src/sheet/granting.js');
 const store = await import('../src/sheet/store.js');
@@ -61,10 +64,10 @@ test('more lines than the page takes are refused in words', () => {
 test('a text becomes cells under their own names', () => {
   const names = samples.sheet.split('\n')[0].split(','), [, first] = samples.sheet.split('\n'), values = first.split(',');
   const turned = [names.toReversed().map((name) => name.toUpperCase()), values.toReversed()].map((line) => line.join('\t')).join('\r\n');
-  assert.deepEqual(cellsOf(turned), { rows: [values], header: true, notes: [] });
-  assert.deepEqual(cellsOf(`${values.join(';')}\n\n`), { rows: [values], header: false, notes: [] });
-  assert.deepEqual(cellsOf(`${names}\n`), { rows: [], header: true, notes: ['the sheet has names but no line of values'] });
-  assert.deepEqual(cellsOf(' \n'), { rows: [], header: false, notes: ['the sheet has names but no line of values'] });
+  assert.deepEqual(cellsOf(turned), { rows: [values], header: true, notes: [], sign: '\t' });
+  assert.deepEqual(cellsOf(`${values.join(';')}\n\n`), { rows: [values], header: false, notes: [], sign: ';' });
+  assert.deepEqual(cellsOf(`${names}\n`), { rows: [], header: true, notes: ['the sheet has names but no line of values'], sign: ',' });
+  assert.deepEqual(cellsOf(' \n'), { rows: [], header: false, notes: ['the sheet has names but no line of values'], sign: '\t' });
   const { rows, notes } = cellsOf(`${names.with(2, 'sol')}\n${values}\n`);
   assert.deepEqual([rows[0][2], rows[0][3], notes.length], ['', values[3], 2]);
   assert.match(notes[0], /^'sol'/);
@@ -257,6 +260,69 @@ test('a licence is read or refused in the same words', () => {
     refused += Boolean(found.refused);
   }
   assert.ok(refused > 200 && refused < expected.licences.length - 200, `${refused} refused`);
+});
+
+test('a cell with a unit or decimals becomes what import makes of it, is rounded as by --round cautious, or is refused in its words', () => {
+  const counts = { plain: 0, made: 0, rounded: 0, refused: 0 }, kinds = new Set();
+  for (const [text, name, line, wanted, cautious] of expected.cells) {
+    const where = `line 2, ${name}`, about = `${text} in ${name}: ${JSON.stringify(line)}`;
+    if (/^(0|[1-9]\d*)$/.test(text)) { counts.plain++; continue; }
+    const found = amounts.becomes(text, name, line);
+    if (found.rounded) {
+      assert.equal(`${found.said}, or give --round cautious`, wanted, about);
+      assert.deepEqual([found.digits, [found.rounded(where)]], [cautious[0], cautious[2]], about);
+      assert.ok(cautious[2][0].endsWith(`: ${found.why}`));
+      counts.rounded++;
+    } else if (found.digits) {
+      const note = found.wire ? [amounts.wireNote(found.wire)] : [];
+      assert.deepEqual([found.digits, [amounts.changeWords(found.change, where)], note], wanted, about);
+      assert.deepEqual(cautious, wanted);
+      kinds.add(found.change.kind);
+      counts.made++;
+    } else {
+      assert.deepEqual([found.said, found.said], [wanted, cautious], about);
+      counts.refused++;
+    }
+  }
+  assert.ok(counts.made > 200 && counts.rounded > 200 && counts.refused > 500, JSON.stringify(counts));
+  assert.deepEqual([...kinds].sort(), ['away', 'digits', 'made', 'wire']);
+});
+
+test('lines with units become the sheet that import makes of them, and all changes are told alike', () => {
+  let told = 0;
+  for (const [rows, sheet, said] of expected.imports) {
+    const found = importing.imported(rows, importing.everyCell(rows), ',');
+    assert.deepEqual([found.rows, found.told, found.left], [sheet, said, []]);
+    assert.equal(found.made.size, rows.flat().filter((text, i) => text !== sheet.flat()[i]).length);
+    told += said.length;
+  }
+  assert.ok(told > 500, `${told} sentences`);
+});
+
+test('what import would refuse or round stays as it is, and is told', () => {
+  const rows = [[], ['7', '1', '187.5', '2.5kohm m', '4in', '0.5s'], ['7', '2', 'x']].map((row) => [...row, ...Array(22 - row.length).fill('')]);
+  const { rows: after, told, left, made } = importing.imported(rows, importing.everyCell(rows), ',');
+  assert.deepEqual(after.map((row) => row.slice(0, 6)), [Array(6).fill(''), ['7', '1', '187.5', '2500', '4in', '500'], ['7', '2', 'x', '', '', '']]);
+  assert.deepEqual(told, ['1 value: kohm m made Ω·m (line 2, layer, 2.5kohm m is 2500)', '1 value: s made ms (line 2, shock, 0.5s is 500)']);
+  assert.deepEqual([...made.keys()], ['1,3', '1,5']);
+  assert.equal(importing.leftWords(rows, left), 'left as it is: line 2, soil: 187.5 is not a whole number of Ω·m; the cautious side is up: write 188; '
+    + 'and 2 more');
+});
+
+test('a thickness is rounded only where layer and soil are known, and cycles by the frequency of the line', () => {
+  const row = (more) => Object.entries(more).reduce((cells, [name, text]) => cells.with(NAMES.indexOf(name), text), SOUND);
+  const SOUND = '7,1,400,2500,102,500,500,500,70,3180,600,10,11,11,7000,500,100,4,3000,1,1,60'.split(',');
+  const of = (name, more) => amounts.reading(row(more), NAMES.indexOf(name));
+  assert.equal(of('thick', { thick: '4in' }).digits, '101');
+  assert.equal(of('thick', { thick: '4in', layer: '100' }).digits, '102');
+  assert.equal(of('thick', { thick: '4in', layer: '0.1 kohm m' }).digits, '102');
+  for (const more of [{ soil: '187.5' }, { soil: '' }, { layer: 'x' }]) {
+    const { said, digits } = of('thick', { thick: '4in', ...more });
+    assert.deepEqual([said, digits], ['4in is 101.6 mm, not a whole number of mm; the cautious side is down where the layer is more resistive than '
+      + 'the soil, else up', undefined]);
+  }
+  assert.deepEqual(['60', '50 Hz', '50.0', ''].map((hz) => of('clear', { clear: '30 cycles', hz }).digits), ['500', '600', '600', undefined]);
+  assert.equal(of('soil', { soil: '' }) ?? of('soil', {}), null);
 });
 
 test('a name or a wire that is typed goes into the licence as the command writes it, or is refused in its words', () => {

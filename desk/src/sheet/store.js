@@ -6,7 +6,7 @@ const MOST_STEPS = 300;
 export const MOST_LINES = 10000; // that the page takes
 const listeners = [];
 export const LICENCE = 'licence.csv'; // the file of a licence that was never saved
-const empty = { rows: [], licence: new Map(), name: '', licenceName: LICENCE };
+const empty = { rows: [], licence: new Map(), name: '', licenceName: LICENCE, made: new Map() };
 let past = [], future = [], saved = empty;
 
 export const store = { now: empty, draft: null };
@@ -25,13 +25,23 @@ function trimmed(rows) {
   return rows.slice(0, end);
 }
 
-// A change: what it is in words, and the new rows, licence or name.
+// The line of a sheet that a row becomes when it is saved: blank rows are left out. All lines of some rows are counted at once.
+const numbers = new WeakMap();
+export function lineNumber(rows, row) {
+  if (!numbers.has(rows)) {
+    let next = 2;
+    numbers.set(rows, rows.map((one) => (one.some(Boolean) ? next++ : next)));
+  }
+  return numbers.get(rows)[row];
+}
+
+// A change: what it is in words, and the new rows, licence or name; `made` has by cell what was done to what was typed there.
 export function change(what, next) {
   const { now } = store;
   past = [...past.slice(-MOST_STEPS), { state: now, what }];
   future = [];
   store.draft = null;
-  store.now = { ...now, ...next, rows: trimmed(next.rows ?? now.rows) };
+  store.now = { ...now, made: new Map(), ...next, rows: trimmed(next.rows ?? now.rows) };
   told('change');
 }
 

@@ -3,6 +3,7 @@ import { NAMES, data, samples } from '../library/data.js';
 import { grouped } from '../words/decimals.js';
 import { byId, download } from './dom.js';
 import { anyRefused, forget } from '../sheet/granting.js';
+import { everyCell, imported, leftWords } from '../sheet/importing.js';
 import { isLicence, licenceOf } from '../sheet/licence.js';
 import { cellsOf, parsed, tooMany } from '../sheet/reading.js';
 import { LICENCE, change, markSaved, store, unsaved, unsavedPart } from '../sheet/store.js';
@@ -56,13 +57,15 @@ function open(found, name) {
   }
   const measured = site.opened(first.map((one) => one.toLowerCase()).join(','), found);
   if (measured) return say(`${name}: ${measured}`);
-  const { rows, header, notes } = cellsOf(found);
+  const { rows, header, notes, sign } = cellsOf(found);
   const wide = rows.map((row) => NAMES.map((_, i) => row[i] ?? '')), most = tooMany(rows.length) || (rows.length ? '' : notes.join('; '));
   if (most) return say(`${name} was not opened: ${most}`, true);
   if (rows.some((row) => row.length > NAMES.length)) notes.push('values past the last column were left out');
   if (!header) notes.push('no line of names: the columns were taken in the order of the sheet');
+  const taken = imported(wide, everyCell(wide), sign), left = leftWords(wide, taken.left);
+  notes.push(...taken.told, ...(left ? [left] : []));
   forget();
-  change(`${name} opened`, { rows: wide, licence: new Map(), name, licenceName: LICENCE }); // a licence belongs to its sheet: it is opened after it
+  change(`${name} opened`, { rows: taken.rows, made: taken.made, licence: new Map(), name, licenceName: LICENCE }); // a licence belongs to its sheet: it is opened after it
   if (!notes.length) markSaved({ sheet: name, licence: true });
   opened();
   return say([`${name}: ${wide.length} line${wide.length === 1 ? '' : 's'}`, ...notes].join('; '), notes.length > 0);

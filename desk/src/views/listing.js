@@ -77,9 +77,9 @@ function row(station, top, unread, choose, chosen) {
 // The counts, in the report's sentence, with the stations that were not asked and the lines that are refused.
 export function totals(portfolio, judged) {
   if (!judged.lines.length) return [];
-  const said = counted(portfolio), refused = judged.lines.length - judged.kept.length;
-  return [h('b', {}, said.stations), ' ', h('b', { class: 'green' }, said.released), ', ', h('b', { class: 'red' }, said.held),
-    said.open ? `, ${said.open} not asked` : '', `. ${said.lines}; ${said.missing}`,
+  const said = counted(portfolio), refused = judged.lines.length - judged.kept.length, none = portfolio.stations.every((one) => one.outside);
+  return [...(none ? [] : [h('b', {}, said.stations), ' ', h('b', { class: 'green' }, said.released), ', ', h('b', { class: 'red' }, said.held),
+    said.open ? `, ${said.open} not asked` : '', `. ${said.lines}; ${said.missing}`]),
     refused ? h('b', { class: 'red' }, ` ${refused} line${refused > 1 ? 's are' : ' is'} refused.`) : ''];
 }
 

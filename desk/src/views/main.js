@@ -14,6 +14,7 @@ import { portfolio as asked } from '../judging/stations.js';
 import { sha256 } from '../sheet/digest.js';
 import * as site from './siteview.js';
 import { anyRefused } from '../sheet/granting.js';
+import { reading } from '../sheet/amounts.js';
 import * as store from '../sheet/store.js';
 import { sheetText, word } from '../sheet/writing.js';
 import * as varied from './varied.js';
@@ -21,7 +22,7 @@ import { follow } from './whatifview.js';
 import { margin, meaning, refusal, refusedPlace, verdict } from '../words/words.js';
 
 const VIEWS = ['lines', 'stations', 'site'];
-let judged, portfolio, top, queued = 0, view = 'lines', quiet = 0;
+let judged, portfolio, top, queued = 0, view = 'lines', quiet = 0, moves = 0; // moves of the chosen cell since the last change
 
 // A word on what was done; what was refused or left out stays until the next one.
 function say(words, stays = false) {
@@ -36,7 +37,9 @@ const chosen = () => judged.at.get(at.row);
 // For those who listen: what is now answered of the chosen line.
 function tellLine() {
   const line = chosen();
-  const words = !line ? '' : line.refused ? `${refusedPlace(line)}: ${refusal(line, judged.lines)}`
+  const open = line?.refused ? reading(line.cells, at.column) : null;
+  const words = !line ? '' : open?.number ? `${open.said}${open.digits ? `; Enter writes ${open.digits}` : ''}`
+    : line.refused ? `${refusedPlace(line)}: ${refusal(line, judged.lines)}`
     : `line ${line.number} ${verdict(line)}, ${line.nearest.limit} ${margin(line.nearest)}`;
   if (byId('live').textContent !== words) byId('live').textContent = words;
 }
@@ -54,7 +57,7 @@ function lower() {
   if (view === 'stations' || matchMedia('print').matches) listing.draw(portfolio, top, pick, chosen()?.row?.station);
   if (view === 'site') drawSite();
   detail.draw(chosen(), judged, portfolio, top, () => grid.cellAt(at.row, at.column));
-  grid.callout(chosen(), judged.lines);
+  grid.callout(chosen(), judged.lines, at, moves < 2);
   byId('hint').textContent = hint();
 }
 
@@ -75,7 +78,7 @@ function upper() {
   top = scaleOf(judged.kept);
   const typed = draft && judged.at.get(draft.row);
   if (typed?.refused) typed.typing = true;
-  grid.draw(rows, judged, top);
+  grid.draw(rows, judged, top, now.made);
   byId('name').textContent = (now.name || 'new sheet') + (store.unsaved() || anyRefused() ? ' (not saved)' : '');
   byId('undo').disabled = !store.canUndo();
   byId('redo').disabled = !store.canRedo();
@@ -171,14 +174,16 @@ async function begin() {
   site.onTaken(say);
   site.wire(drawSite);
   files.onOpened(() => { byId('pane').scrollTo(0, 0); choose(0, 0, false, view === 'lines'); });
+  grid.onAccept((row, column) => { keys.accept(row, column); choose(row, column); });
   store.listen((kind) => {
+    if (kind === 'change') moves = 0;
     upper();
     if (kind === 'change') { paint(); tellLine(); }
     later();
   });
   upper();
   wire();
-  onMove(() => { follow(NAMES[at.column]); later(); });
+  onMove(() => { moves++; follow(NAMES[at.column]); later(); });
   choose(0, 0, false, false);
   lower();
   document.body.dataset.ready = String(Math.round(performance.now()));
