@@ -193,4 +193,33 @@ def licences():
         "name": of("7,a\x07,1,", line="line 2"), "again": of("4242,a,1,", "4242,b,1,", line="line 3", earlier="line 2", station="4242"),
         "none": of("7,a,,", line="line 2"), "season": of("7,a,1 42,", line="line 2", text="42"),
         "twice": of("7,a,3 3,", line="line 2", text="3 3"), "wire": of("7,a,1,42x", line="line 2", text="42x"), "no_station": of(),
+        "counted": template(*licence.wires(licence.Licence((licence.Licensed(7, "", (1,), wire="42x", area=424242),))), wire="42x", area="424242"),
     }
+
+
+def totals():
+    """The counts of a portfolio, as pieces in bold and after them, without and with a licence; and what is said of the licence itself."""
+    def of(*numbers, licensed):
+        return reasons.totals(reasons.Counts(*numbers, 0), licensed)
+    tokens = {"lines": "17,171", "safe": "4,242", "unsafe": "5,151", "undecided": "7,778"}
+    found = {}
+    for licensed in (True, False):
+        one, many = (of(count, 1, 4242, 5151, 7778, missing, licensed=licensed) for count, missing in ((1, 1), (6161, 2323)))
+        whole, alone = of(2, 1, 4242, 5151, 7778, 0, licensed=licensed), of(2, 1, 1, 0, 0, 0, licensed=licensed)
+        head, gone = template(many[3].detail, **tokens).split("; ")
+        found[str(licensed)] = {
+            "stations": [template(one[0].head, count=1), template(many[0].head, count="6,161")],
+            "released": template(many[1].head, count=1), "held": template(many[2].head, count="6,160"),
+            "lines": [template(alone[3].detail.split("; ")[0], lines="1 season", safe="1 safe", unsafe="0 unsafe", undecided="0 undecided")
+                      .replace("{lines}", "{lines} season").replace("{safe}", "{safe} safe").replace("{unsafe}", "{unsafe} unsafe")
+                      .replace("{undecided}", "{undecided} undecided"), head],
+            "missing": [whole[3].detail.split("; ")[1], template(one[3].detail.split("; ")[1], count=1), template(gone, count="2,323")],
+        }
+    def notes(licensed, *others):
+        return reasons.notes(Fake(licensed=licensed, unlicensed=others, seasons=(1, 2, 3, 4)))[0]
+    few, many = range(41, 43), range(1001, 1001 + reasons.NAMED + 42)
+    return {**found, "named": reasons.NAMED, "notes": {
+        "no_licence": notes(False), "outside": [template(notes(True, 4242), list="4242"),
+                                                template(notes(True, *few), count="2 stations", list="41 and 42").replace("{count}", "{count} stations")],
+        "more": template(notes(True, *many)[-len("1020 and 42 more."):], last="1020", count="42").replace("{last}", "").removesuffix("."),
+    }}

@@ -74,6 +74,7 @@ def fewest():
         "tried": [yards.said(Fewest(True, 5, 0, 1), 4000).split("; ")[1].replace(" tried", ""), "{count} yards"],
         "none": template(yards.said(Fewest(False, 0, 0, 4242), 1), tried=4242),
         "untried": template(yards.said(Fewest(False, 0, 0, 0), 515151), side="515.151"),
+        "head": yards.LIST_HEAD, "rod_counts": yards.RODS,
     }
 
 

@@ -71,7 +71,7 @@ class Browser:
 
     def key(self, key, modifiers=0):
         """One key; modifiers: 1 Alt, 2 Ctrl, 8 Shift."""
-        code = KEYS.get(key) or ord(key.upper())
+        code = KEYS.get(key) or (ord(key.upper()) if key.isalnum() else 0)  # a sign's own number is that of another key: . of Delete
         text = {} if key in KEYS and key != "Enter" or modifiers & 2 else {"text": "\r" if key == "Enter" else key}
         named = {"key": key, "windowsVirtualKeyCode": code, "modifiers": modifiers}
         self.call("Input.dispatchKeyEvent", type="keyDown", **named, **text)

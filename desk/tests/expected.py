@@ -19,14 +19,15 @@ from hocsimbur.command import measured, yards  # noqa: E402
 from hocsimbur.core import Pair, Refused  # noqa: E402
 from hocsimbur.portfolio import advice, candidates, decision, licence, lines, reasons  # noqa: E402
 from hocsimbur.portfolio.compared import margin, share  # noqa: E402
-from hocsimbur.sheets import amounts, checking, decimals, layout, names, site, spreadsheet, words  # noqa: E402
+from hocsimbur.sheets import amounts, checking, decimals, layout, names, site, spreadsheet, units, words  # noqa: E402
 from hocsimbur.sheets.forms import Unclear  # noqa: E402
 
 NAMES = [name.name for name in names.NAMES]
 COUNT = 1000
 SOUND = "7,1,400,2500,102,500,500,500,70,3180,600,10,11,11,7000,500,100,4,3000,1,1,60".split(",")
 WRONG = ["", "0", "00", "007", "-5", "+7", "\u22125", "62.5", "62.", "62.0", ".5", "1234567", "4 kA", "3m", "abc", "x1", "99999", "1", "3",
-         "250000", "1e3", "1 000", "1000000", "\u00b2", "\u0663", "m" * 60, "7.25", "é", "'7'", "--", "12x", "5%"]
+         "250000", "1e3", "1 000", "1000000", "\u00b2", "\u0663", "m" * 60, "7.25", "é", "'7'", "--", "12x", "5%", "062.0", "00.", "0.00",
+         "0" * 50 + ".0", "0000", "5\u00b2", "0\u0663", "\u0663.5", "-\u0663"]
 
 
 def random_case(rng: random.Random, station: int, season: int) -> Dict[str, int]:
@@ -156,8 +157,12 @@ def told(cases: List[Dict[str, int]], licensed: List[licence.Licensed]) -> Dict:
     granted = licence.read(text.encode()) if licensed else None
     areas = {one.station: one.area for one in granted.stations} if granted else {}
     sheet = layout.text(cases)
-    stations = decision.portfolio(sheet, granted).stations
+    whole = decision.portfolio(sheet, granted)
+    stations = whole.stations
+    sums = reasons.summed(reasons.counts(one) for one in stations)
     return {
+        "totals": "".join(part for told_ in reasons.totals(sums, whole.licensed) for part in told_), "notes": reasons.notes(whole),
+        "others": whole.unlicensed,
         "rows": [[str(case[name]) for name in NAMES] for case in cases],
         "licence": text,
         "lines": [[one.row.verdict.name.lower(), margin(one.nearest), one.nearest.limit, one.row.kcmil, one.headroom,
@@ -165,6 +170,13 @@ def told(cases: List[Dict[str, int]], licensed: List[licence.Licensed]) -> Dict:
         "stations": [station_words(one) for one in stations if one.lines],
         "absent": [[one.station, list(reasons.decision(one))] for one in stations if not one.lines],
     }
+
+
+def outside(rng: random.Random):
+    """Stations that a licence does not name, and what is said of them."""
+    for count in [*range(1, 45), 2000]:
+        numbers = rng.sample(range(1, 65536), count)
+        yield [numbers, *reasons.notes(decision.Portfolio((), True, tuple(numbers)))]
 
 
 def quoted(cell: str) -> str:
@@ -201,6 +213,79 @@ def licences(rng: random.Random):
         except licence.LicenceRefused as error:
             found = str(error)
         yield [text, found]
+
+
+UNITS = ["", "", "mm", "cm", "m", "in", "inch", "inches", '"', "ft", "feet", "'", "ms", "s", "sec", "cycles", "cyc", "cycle", "kg", "A", "kA", "amps", "%", "‰",
+         "per mille", "percent", "Hz", "hz", "ohm m", "Ω·m", "Ωm", "ohm-m", "kΩm", "ohm cm", "ohm.metres", "kcmil", "mm2", "lb", "x", "é", "½", "e5x"]
+TEXTS = ["23ft", "18in", "8.7kA", "0.5s", "30 cycles", "4/0", "187.5", "#2", "250 kcmil", "95 mm2", "96 mm2", "60%", "62 ohm m", "4in", "7m", "16.2",
+         "5/0", "0000", "#9", "-5", "-0.4", "--5", "+7.5", "1e3", "1e-3", "9e99", ".5", "5.", "1,5", "1.234", "1,234", "1,234.5kA", "1 234,5", "٣", "٣mm",
+         "0x10", "1e", "1e5", "1.5e1mm", "7 ' ", "5'6\"", "=1+1", "constructor", "1 constructor", "2 __proto__", "1toString", "m" * 60, "4" * 60, "1 " + "k" * 60]
+
+
+def cells(rng: random.Random):
+    """Cells with units and decimals, in lines of some layer, soil and frequency, and what `import` makes of them, also with caution."""
+    shapes = ("{}", "{}.{}", "{}.{}", "{}.0", "{},{}", ".{}", "{}e{}", "{} {}00", "-{}.{}", "+{}", "0{}.{}0")
+    for place in range(3 * COUNT):
+        name = rng.choice(NAMES)
+        shape = rng.choice(shapes).format(rng.randint(0, 10 ** rng.randint(1, 4)), rng.randint(0, 10 ** rng.randint(1, 3)))
+        text = rng.choice(TEXTS) if place % 4 == 0 else shape + rng.choice(("", " ", "\u00a0")) + rng.choice(UNITS)
+        if rng.random() < 0.6 and name in units.UNITS:
+            text = shape + rng.choice(("", " ")) + rng.choice(list(units.UNITS[name]) + (["cycles"] if name in ("shock", "clear", "wire") else []))
+        text = text.strip(" \t\n\u00a0\u202f\u2007\ufeff")
+        line = dict(zip(NAMES, SOUND), layer=str(rng.choice((0, 100, 2500))), soil=str(rng.choice((100, 400, 4000))), hz=rng.choice(("50", "60", "55")))
+        line[name] = text
+        sign = rng.choice(",,,;\t")
+        context = {"sign": sign, "hertz": int(line["hz"]) if line["hz"] in ("50", "60") else 0, "layer": int(line["layer"]) if name != "layer" else 0,
+                   "soil": int(line["soil"]) if name != "soil" else 0}
+        if text:
+            yield [text, name, context, cell_words(line, name, sign, False), cell_words(line, name, sign, True)]
+
+
+def cell_words(line: Dict[str, str], name: str, sign: str, cautious: bool):
+    """The digits of a cell, how it was changed and what was noted; or what is refused, without its place."""
+    text = f"{sign.join(NAMES)}\n" + sign.join('"' + one.replace('"', '""') + '"' for one in line.values()) + "\n"
+    try:
+        made = spreadsheet.make(text.encode(), cautious)
+    except spreadsheet.Refusals as refusals:
+        return refusals.said[0].split(": ", 1)[1]
+    told_ = [one for one in made.changes.told() if one.startswith(("1 value: ", "1 diameter: "))]
+    return [layout.cells(layout.lines(made.sheet)[1])[NAMES.index(name)], told_, made.rounded]
+
+
+WELL = {"soil": ["62 ohm m", "400.0", "0.1 kohm m"], "layer": ["2.5 kΩm"], "thick": ["10cm", "0.1m", "102 mm"], "shock": ["0.5s", "30 cycles", "6 cyc"],
+        "clear": ["0.25 s", "15 cycles"], "wire": ["1 s"], "body": ["70kg"], "fault": ["8.7kA", "3180 A", "3180.0", "3.18E+03", "3 180"], "split": ["60%", "600‰"],
+        "space": ["7m", "700 cm"], "depth": ["0.5m", "500.00"], "dia": ["4/0", "#2", "95 mm2", "1cm", "250 kcmil"], "rodlen": ["3m"], "hz": ["60 Hz", "50hz"]}
+
+
+def imports(rng: random.Random):
+    """Sheets of cells that become whole numbers, and all that `import` tells of them."""
+    for _ in range(COUNT // 10):
+        rows = []
+        for season in range(1, 5):
+            line = dict(zip(NAMES, SOUND), season=str(season))
+            line.update((name, rng.choice(texts)) for name, texts in WELL.items() if rng.random() < 0.3)
+            rows.append(list(line.values()))
+        made = spreadsheet.make("".join(",".join(row) + "\n" for row in [NAMES, *rows]).encode())
+        told_ = [one for one in made.changes.told() if one.split()[1].rstrip("s:") in ("value", "diameter")]
+        yield [rows, [layout.cells(line) for line in layout.lines(made.sheet)[1:]], told_ + made.rounded]
+
+
+WIRES = ["4/0", "250 kcmil", "95 mm2", "95 mm\u00b2", "211 kcmil", "2000 kcmil", "2001 kcmil", "0 kcmil", "4", "#4", "AWG 4", "no. 2", "0000",
+         "00 awg", "70 sq mm", "70sqmm", "300MCM", "1kcmil", "250", "x", "5/0", "mm2", "185 MM^2", "96 mm2", "<b>", "W" * 60, "4/0 copper"]
+CALLED = ["Ashgrove", "Elm, west", 'say "so"', "a;b", "a\u00a0b", "a\u200bb", "\u202eevil", "\u00e9", "Кировск", "W" * 300, "=1+1", "a\tb"]
+
+
+def fields(rng: random.Random):
+    """Names and wires as they are typed into a licence: its line as the command writes it, or what it refuses."""
+    for field, texts in (("wire", WIRES), ("name", CALLED)):
+        for text in texts:
+            one = licence.Licensed(7, *((text, (1, 2)) if field == "name" else ("", (1, 2))), wire=text if field == "wire" else "")
+            written = licence.text(licence.Licence((one,)))
+            try:
+                read = licence.read(written.encode()).stations[0]
+                yield [field, text, "", read.area, written]
+            except licence.LicenceRefused as error:
+                yield [field, text, str(error).removeprefix("licence line 2, "), 0, ""]
 
 
 def amount(rng: random.Random, most: int) -> str:
@@ -286,16 +371,17 @@ def square_words(case, text):
     try:
         side = amounts.whole(text, 1000, "m", "mm")
     except Unclear as error:
-        return [f"side: {error}", None]
+        return [f"side: {error}", None, []]
     try:
         found = core.fewest(layout.text([case]), side)
     except Refused as refused_:
-        return [words.refusal(refused_, words.Asked(side=side)), None]
-    return [yards.said(found, side), [found.lines, found.rods] if found.found else None]
+        return [words.refusal(refused_, words.Asked(side=side)), None, []]
+    return [yards.said(found, side), [found.lines, found.rods] if found.found else None,
+            [yards.listed(line) for line in yards.answered(yards.tried(case, side, found.tried))]]
 
 
 KINDS = {"shown": shown, "shares": shares, "mended": mended, "ambiguous": ambiguous, "refused": refused, "portfolios": portfolios,
-         "licences": licences, "soils": soils, "splits": splits, "squares": squares}
+         "licences": licences, "outside": outside, "fields": fields, "cells": cells, "imports": imports, "soils": soils, "splits": splits, "squares": squares}
 
 if __name__ == "__main__":
     json.dump({kind: list(make(random.Random(number))) for number, (kind, make) in enumerate(KINDS.items())}, sys.stdout)

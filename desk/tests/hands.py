@@ -1,6 +1,7 @@
 """Real input: keys, pasted text, ranges, the curve, dropped files."""
 import hashlib
 import json
+import re
 import tempfile
 import time
 from pathlib import Path
@@ -179,6 +180,12 @@ def site(b):
     words = plain(b.run("document.querySelector('#side-said b').textContent"))
     same("fewest", " conductors each way, " in words, True)
     across = words.split()[0]
+    count = int(re.search(r"; (\d+) yards? tried", words)[1])
+    b.click("#side-said summary"), b.settle()
+    listed = json.loads(b.run("JSON.stringify([...document.querySelectorAll('.tried tbody tr')].map(e => e.className))"))
+    same("yards tried", listed, ["unsafe"] * (count - 1) + ["safe"])
+    same("heard", plain(b.run("document.querySelector('.tried summary').textContent")), f"The {count} yards tried")
+    b.click("#side-said summary"), b.settle()
     same("in every season", taken("#side-said button", *((row, "across") for row in range(4))), [across] * 4)
     typed("#side", "x")
     same("refused", plain(b.run("document.querySelector('#side-said .red').textContent")), "side: '60x' is no number")

@@ -11,6 +11,7 @@ import sys
 from common import NAMES, PAGE, ROOT, cell, plain, same, told, wrong
 from devtools import Browser
 from hands import drawn, hostile, keys, many_lines, opened, paste, printed, ranges, site
+from panels import licensing, mapped, outside, units
 from hocsimbur.portfolio import advice, decision, licence, lines, reasons
 from hocsimbur.portfolio.compared import NOT_PARTED, margin as margin_of
 from hocsimbur.sheets import checking, layout, names
@@ -101,7 +102,8 @@ def refusals(b):
         part = spoilt[first:first + DRAWN]
         b.click("#new"), b.click(cell(0, "station"))
         b.paste("\n".join("\t".join(line) for line in part)), b.settle()
-        sheet = "".join(",".join(line) + "\n" for line in [NAMES, *part]).encode()
+        taken = [["4000" if one == "4 kA" and name == "fault" else one for name, one in zip(NAMES, line)] for line in part]  # as by import
+        sheet = "".join(",".join(line) + "\n" for line in [NAMES, *taken]).encode()
         wanted = {found.line: found for found in reversed(checking.check(sheet))}  # the first of each line
         for number, said in enumerate(told(b), 2):
             found = wanted.get(number)
@@ -129,7 +131,7 @@ def judge():
     b = Browser()
     try:
         b.open(PAGE)
-        for part in (keys, ranges, paste, drawn, site, stations, opened, many, refusals, printed, hostile, many_lines):
+        for part in (keys, ranges, paste, units, drawn, mapped, site, stations, outside, licensing, opened, many, refusals, printed, hostile, many_lines):
             before = len(wrong)
             part(b)
             print(f"browser: desk page, {part.__name__}: {'as it should be' if len(wrong) == before else 'WRONG'}")

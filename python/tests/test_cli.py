@@ -152,6 +152,25 @@ class Statuses(unittest.TestCase):
         self.assertIn("only one is taken here", run("fewest", "examples/rods.csv", "--side", "60m").err)
         self.assertIn("no line for station 9", run("fewest", "examples/rods.csv", "--side", "60m", "--station", "9").err)
 
+    def test_the_yards_that_fewest_tried(self):
+        """The list has the yards that the library tried, as many as it says: the found one last, and no other one safe."""
+        for side, rodlen in ((60, 6), (121, 6), (720, 3), (97, 10), (20, 3)):
+            words = ("fewest", "examples/rods.csv", "--station", "303", "--side", f"{side}m", "--rodlen", f"{rodlen}m")
+            answer = run(*words, "--csv").out.strip().split(",")
+            names, *lines = [line.split(",") for line in run(*words, "--csv", "--list").out.split()]
+            self.assertEqual(names, ["lines", "space_mm", "rods", "verdict", "mesh_excess_per_mille", "step_excess_per_mille"])
+            self.assertEqual(len(lines), int(answer[-1]))
+            self.assertEqual([line[3] for line in lines].count("safe"), int(answer[0] == "found"))
+            if answer[0] == "found":
+                self.assertEqual((lines[-1][0], lines[-1][2], lines[-1][3]), (answer[1], answer[2], "safe"))
+            self.assertTrue(all((int(line[0]) - 1) * int(line[1]) == 1000 * side for line in lines))
+            self.assertEqual(sorted(lines, key=lambda line: (int(line[0]), int(line[2]))), lines)
+            told = run(*words, "--list").out.splitlines()
+            self.assertEqual((len(told), told[0].split()), (len(lines) + 2, ["conductors", "spacing", "rods", "verdict", "nearest", "limit"]))
+            self.assertEqual(told[-1], run(*words).out.strip())
+        none = run("fewest", "examples/rods.csv", "--station", "303", "--side", "719.999m", "--list")
+        self.assertTrue(none.out.startswith("no yard was tried: "))
+
     def test_the_ends_of_a_side(self):
         """A side that the library can be asked about is asked about; the words tell who refused it."""
         for side, said in (("0m", "examples/rods.csv: side: 0 m is not in 2.5..720 m\n"), ("-0.001m", "side: -0.001m is not in 2.5..720 m\n"),

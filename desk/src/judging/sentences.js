@@ -2,6 +2,7 @@
 import { data, fill } from '../library/data.js';
 import { ends, grouped, tenths } from '../words/decimals.js';
 import { kcmil, wireTo } from './stations.js';
+import { outsideWords } from './totals.js';
 import { above, columnsOf, listed, margin, notParted, seasonsOf } from '../words/words.js';
 
 // What a conductor needs and has: of two templates the one for a solid round of the diameter, or for the licence's own area.
@@ -25,7 +26,8 @@ export function decision(station, unread) {
     const { refused } = station, of = (lines) => listed(lines.map((line) => `line ${line.number}`));
     if (refused.length) return ['Not asked:', `${of(refused)} of this station ${refused.length > 1 ? 'are' : 'is'} refused.`];
     if (unread.length) return ['Not asked:', `the station of ${of(unread)} cannot be read, and might be this one.`];
-    return ['Not asked:', station.seasons.length ? 'there is no line.' : 'no season is ticked.'];
+    if (station.outside) return ['Not asked:', station.byLicence ? 'no season is ticked.' : outsideWords([station.station])];
+    return ['Not asked:', 'there is no line.'];
   }
   if (!station.released) return ['Held:',
     `${station.reasons.map(told).map(([head, detail]) => head + (detail ? ` (${detail})` : '')).join('; ')}.`];

@@ -2,6 +2,8 @@
 import { BY_NAME, data, fill } from '../library/data.js';
 import * as core from '../library/core.js';
 import { down, exact, grouped, up } from '../words/decimals.js';
+import { margin } from '../words/words.js';
+import { against } from './judging.js';
 
 const say = data.site, ROD = data.tried.constants.rod_length;
 const FAR = 2n ** 32n - 1n; // a reading in mm or mΩ is below it
@@ -26,6 +28,12 @@ function pairs(text, names, called, form) {
   const wrong = lines.findIndex((cells) => cells.length !== 2);
   return wrong < 0 ? { lines } : { wrong: `${called(wrong)}: ${lines[wrong].length} numbers, not two; write ${form}` };
 }
+
+export const READINGS = 'metres,ohms', CURRENTS = 'in_phase,quadrature'; // the names of the files that `wenner` and `staged` read
+
+// A text of pairs as such a file.
+export const fileText = (text, names) => [names, ...pairs(text, names, String, '').lines.map((cells) => cells.join(','))]
+  .map((line) => `${line}\n`).join('');
 
 function refusal({ number, line }, { readings = [], parts = [], side = 0 }) {
   const of = say.refusals[number];
@@ -65,7 +73,7 @@ function readingOf(cells, place) {
 
 // The soil from four-pin readings, a line each, in metres and ohms: its table, notes, and the value for the column; or why there is none.
 export function soilOf(text) {
-  const { lines, wrong } = pairs(text, 'metres,ohms', (place) => `reading ${place + 1}`, 'metres and ohms, as 2.5 7.3');
+  const { lines, wrong } = pairs(text, READINGS, (place) => `reading ${place + 1}`, 'metres and ohms, as 2.5 7.3');
   const found = (lines ?? []).map(readingOf), bad = wrong ?? found.find((one) => one.wrong)?.wrong;
   if (bad) return { wrong: bad };
   const [lower, upper] = ['lower', 'upper'].map((end) => found.map((one) => one[end]));
@@ -102,7 +110,7 @@ function partsOf(cells, place) {
 
 // The split from a staged test: the injected current and then each branch, a line each, in-phase and quadrature part in amperes.
 export function splitOf(text) {
-  const { lines, wrong } = pairs(text, 'in_phase,quadrature', currentName, 'in-phase and quadrature part in A, as 400 -50');
+  const { lines, wrong } = pairs(text, CURRENTS, currentName, 'in-phase and quadrature part in A, as 400 -50');
   const parts = (lines ?? []).map(partsOf), bad = wrong ?? parts.find((one) => one.wrong)?.wrong;
   if (bad) return { wrong: bad };
   const answer = core.split(parts);
@@ -125,12 +133,40 @@ export function fewestOf(one, text) {
   const answer = core.fewest(core.textOf([core.lineOf({ ...one, rodlen })]), wanted);
   if (answer.refused) return { wrong: refusal(answer.refused, { side: wanted }) };
   const { lines, rods, tried } = answer, count = fill(say.fewest.tried[tried > 1 ? 1 : 0], { count: tried });
-  if (!answer.found) return { words: tried ? fill(say.fewest.none, { tried }) : fill(say.fewest.untried, { side: exact(wanted, 3) }) };
+  if (!answer.found) {
+    return { side: wanted, tried, count, words: tried ? fill(say.fewest.none, { tried })
+      : fill(say.fewest.untried, { side: exact(wanted, 3) }) };
+  }
   const space = wanted / (lines - 1);
   return {
+    side: wanted, tried, count,
     words: fill(rods ? say.fewest.rods : say.fewest.no_rods, { lines, spacing: exact(space, 3), rods, tried: count }),
     cells: { across: lines, along: lines, space, rods, rodlen: rods ? rodlen : 0, place: rods ? 1 : 0 },
   };
+}
+
+// The yards of a side in mm that were tried, as many as the library says, in its order: conductors rising, with each count rods rising.
+function yardsTried(one, side, count) {
+  const { space, across } = BY_NAME, made = [], rodlen = one.rodlen || ROD;
+  for (let lines = across.low; lines <= across.high; lines++) {
+    const apart = side / (lines - 1);
+    if (!Number.isInteger(apart) || apart < space.low || apart > space.high) continue;
+    made.push(...say.fewest.rod_counts.map((rods) => ({ ...one, across: lines, along: lines, space: apart, rods, rodlen: rods ? rodlen : 0,
+      place: rods ? 1 : 0 })));
+  }
+  return made.slice(0, count);
+}
+
+// The same as lines of a table, each with the library's answer: conductors, spacing, rods, verdict and nearest limit.
+export function triedTable(one, { side, tried }) {
+  const yards = yardsTried(one, side, tried), found = [];
+  for (let first = 0; first < yards.length; first += data.lines) {
+    const part = yards.slice(first, first + data.lines).map((yard, i) => ({ ...yard, station: i + 1, season: 1 }));
+    const text = core.textOf(part.map(core.lineOf)), rows = core.rows(text), margins = core.margins(text);
+    found.push(...part.map((yard, i) => ({ yard, verdict: rows[i].verdict, near: against(rows[i], margins[i]).nearest })));
+  }
+  return found.map(({ yard, verdict, near }) => [String(yard.across), `${exact(yard.space, 3)} m`, String(yard.rods), data.verdicts[verdict],
+    `${margin(near)} ${near.side === 'not parted' ? 'from ' : ''}${near.limit}`]);
 }
 
 export const rodLength = (one) => (one.rodlen ? '' : `${exact(ROD, 3)}\u00a0m`);

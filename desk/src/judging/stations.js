@@ -80,8 +80,17 @@ function releases(sheets, open, entryOf) {
   return answers;
 }
 
-// The stations of the sheet and of the licence; `licence` has name, seasons and wire of a station; one that it does not name is asked for
-// all four seasons.
+const NO_LICENCE = { name: '', seasons: SEASONS, wire: '', area: 0, byLicence: false, outside: false };
+
+// What a licence grants of a station: without any, all four seasons are asked; a station that it does not name, or without a season, is
+// outside it and not asked.
+function grantedBy(licence, number) {
+  if (!licence.size) return NO_LICENCE;
+  const one = licence.get(number) ?? { ...NO_LICENCE, seasons: [] };
+  return { ...one, outside: !one.seasons.length };
+}
+
+// The stations of the sheet and of the licence; `licence` has name, seasons and wire of each that it names.
 export function portfolio(judged, licence) {
   const lines = new Map(), refused = refusedOf(judged);
   for (const line of judged.lines) {
@@ -90,15 +99,14 @@ export function portfolio(judged, licence) {
     lines.set(number, [...(lines.get(number) ?? []), ...(line.refused ? [] : [line])]);
   }
   for (const number of licence.keys()) if (!lines.has(number)) lines.set(number, []);
-  const granted = (number) => licence.get(number) ?? { name: '', seasons: SEASONS, wire: '', area: 0, byLicence: false };
-  const open = [...lines.keys()].filter((number) => !refused.byStation.has(number) && granted(number).seasons.length
-    && !refused.unread.length);
+  const granted = (number) => grantedBy(licence, number);
+  const open = [...lines.keys()].filter((number) => !refused.byStation.has(number) && !granted(number).outside && !refused.unread.length);
   const entry = (number) => [number, mask(granted(number).seasons), granted(number).area];
   const answers = releases(judged.sheets, open, entry);
   const stations = [...lines].map(([number, own]) => ({
     ...stationOf(number, own, granted(number), answers.get(number)), refused: refused.byStation.get(number) ?? [],
   }));
-  return { stations, at: new Map(stations.map((one) => [one.station, one])), unread: refused.unread };
+  return { stations, at: new Map(stations.map((one) => [one.station, one])), unread: refused.unread, licensed: licence.size > 0 };
 }
 
 // The greatest fault current at which the wire of every line of a station is large enough: by halving.

@@ -32,7 +32,7 @@ export function alongWith(name, one) {
   return '';
 }
 
-function domain(name, one, whole) {
+export function domain(name, one, whole) {
   const { low, high } = BY_NAME[name], now = one[name];
   if (whole || !isWide(name)) return [low, high];
   return [Math.max(low, Math.floor(now / 4)), Math.min(high, Math.max(low + 1, Math.ceil(now * 2.5)))];

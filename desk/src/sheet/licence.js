@@ -13,6 +13,12 @@ function columnsOf(cells) {
   return names.length === wanted.length && wanted.every((name) => names.includes(name)) ? names : null;
 }
 
+// What is wrong with a name or a wire, without its place; '' where nothing is.
+const here = (template) => template.replace('licence {line}, ', '');
+const unprintable = (name) => /\p{C}|[^\P{Z} ]/u.test(name);
+export const nameRefused = (name) => (unprintable(name) ? here(say.name) : '');
+export const wireRefused = (wire) => (areaOf(wire) === null ? fill(here(say.wire), { text: wire }) : '');
+
 export const isLicence = (cells) => columnsOf(cells) !== null;
 
 // { seasons } as people write them ('1 2 4', '1,2,4', '1-4', 'all'), or { wrong }, the sentence and its text.
@@ -33,7 +39,7 @@ function stationOf(names, cells, line, places) {
   const [text, name, seasons, wire] = [...COLUMNS, WIRE].map((column) => cells[names.indexOf(column)] ?? '');
   const digits = /^(\d{1,5})(?:\.0*)?$/.exec(text), station = Number(digits?.[1]);
   if (!digits || station < 1 || station > 65535) return { refused: fill(say.station, { line, text }) };
-  if (/\p{C}|[^\P{Z} ]/u.test(name)) return { refused: fill(say.name, { line }) };
+  if (unprintable(name)) return { refused: fill(say.name, { line }) };
   if (places.has(station)) return { refused: fill(say.again, { line, station, earlier: places.get(station) }) };
   const asked = seasonsOf(seasons), area = areaOf(wire);
   if (asked.wrong) return { refused: fill(asked.wrong, { line, text: asked.text }) };

@@ -1,12 +1,10 @@
 // Text from a file or the clipboard as cells: commas, semicolons or tabs, with or without the names, as `hocsimbur import` reads it.
-// A number is written as whole digits where its size stays the same; nothing is rounded, and what is no whole number is left as it is.
 import { NAMES, data, fill } from '../library/data.js';
 import { carry } from '../library/core.js';
 import { grouped } from '../words/decimals.js';
 import { listed } from '../words/words.js';
+import { SPACES, whole } from './numbers.js';
 import { MOST_LINES } from './store.js';
-
-const SPACES = '\u00a0\u202f\u2007\ufeff';
 
 export function parsed(text) {
   const plain = text.replace(/^\ufeff/, '').replace(/\r\n?/g, '\n'), named = /^sep=(.)\n/.exec(plain);
@@ -29,38 +27,23 @@ export function parsed(text) {
   return { sign, lines: lines.map((line) => line.map((one) => one.replace(space, ''))) };
 }
 
-// A cell as the one whole number that it stands for, in digits; as it is where it is none or may be two.
-export function whole(text, sign = ',') {
-  let bare = text.replace(new RegExp(`(?<=\\d)[ ${SPACES}](?=\\d\\d\\d(?!\\d))`, 'g'), '');
-  if (/^\d{1,3}[.,]\d{3}$/.test(bare) && !(sign === ',' && bare.includes('.'))) return text;
-  if (/^\d{1,3}(,\d{3})+(\.\d*)?$/.test(bare)) bare = bare.replaceAll(',', '');
-  else if (/^\d{1,3}(\.\d{3})+(,\d*)?$/.test(bare) && (bare.split('.').length > 2 || bare.includes(','))) {
-    bare = bare.replaceAll('.', '').replace(',', '.');
-  } else if (/^\d+,\d*$/.test(bare)) bare = bare.replace(',', '.');
-  const parts = /^([+-]?)(?=\.?\d)(\d{0,30})(?:\.(\d{0,30}))?(?:[eE]([+-]?\d{1,2}))?$/.exec(bare);
-  if (!parts) return text;
-  const digits = parts[2] + (parts[3] ?? ''), point = parts[2].length + Number(parts[4] ?? 0);
-  if (/[^0]/.test(digits.slice(parts[1] === '-' ? 0 : Math.max(0, point)))) return text; // no whole number, or below 0
-  return String(BigInt(point <= 0 ? '0' : digits.slice(0, point).padEnd(point, '0')));
-}
-
 const isNames = (cells) => cells.filter((cell) => NAMES.includes(cell.toLowerCase())
   || data.former.includes(cell.toLowerCase())).length > 1;
-// { rows, header, notes } of a text; a header puts each column under its own name.
+// { rows, header, notes, sign } of a text, its cells as they stand; a header puts each column under its own name.
 export function cellsOf(text) {
   const { sign, lines } = parsed(text), kept = lines.filter((line) => line.some(Boolean)), notes = [];
-  if (!kept.length) return { rows: [], header: false, notes: [data.refusals.no_lines] };
+  if (!kept.length) return { rows: [], header: false, notes: [data.refusals.no_lines], sign };
   const names = kept[0].map((name) => name.toLowerCase());
-  if (!isNames(kept[0])) return { rows: kept.map((line) => line.map((cell) => whole(cell, sign))), header: false, notes };
+  if (!isNames(kept[0])) return { rows: kept, header: false, notes, sign };
   if (names.includes('ms') || names.includes('lines')) return carried(kept, sign);
   const unknown = names.filter((name) => name && !NAMES.includes(name)), missing = NAMES.filter((name) => !names.includes(name));
   for (const name of unknown) notes.push(fill(data.refusals.unknown_name, { name }));
   const gone = `${listed(missing)} ${missing.length > 1 ? 'are' : 'is'}`;
   if (missing.length) notes.push(fill(data.refusals.missing_name, { names: gone, count: names.length }));
   const place = NAMES.map((name) => names.indexOf(name));
-  const rows = kept.slice(1).map((line) => place.map((at) => (at < 0 ? '' : whole(line[at] ?? '', sign))));
+  const rows = kept.slice(1).map((line) => place.map((at) => (at < 0 ? '' : line[at] ?? '')));
   if (!rows.length) notes.push(data.refusals.no_lines);
-  return { rows, header: true, notes };
+  return { rows, header: true, notes, sign };
 }
 
 // Why so many lines cannot stand in the page; '' where they can. None is left out in silence.
@@ -73,7 +56,7 @@ function carried(kept, sign) {
   const asked = carry([kept[0].map((name) => name.toLowerCase()), ...values].map((line) => `${line.join(',')}\n`).join(''));
   if (asked.refused) {
     const { number, line, column } = asked.refused;
-    return { rows: [], header: true,
+    return { rows: [], header: true, sign,
       notes: [`a sheet of the former 18 names, and refused: number ${number}, line ${line}, column ${column}`] };
   }
   return { ...cellsOf(asked), notes: ['a sheet of the former 18 names: the library made today’s of it'] };

@@ -1,19 +1,21 @@
 // The sheet as it is edited: rows of text, the licence, what was done and undone. It lives in the page alone.
-import { NAMES, SEASONS } from '../library/data.js';
+import { NAMES } from '../library/data.js';
 
 const blank = () => NAMES.map(() => '');
 const MOST_STEPS = 300;
 export const MOST_LINES = 10000; // that the page takes
 const listeners = [];
-const empty = { rows: [], licence: new Map(), name: '' };
+export const LICENCE = 'licence.csv'; // the file of a licence that was never saved
+const empty = { rows: [], licence: new Map(), name: '', licenceName: LICENCE, made: new Map() };
 let past = [], future = [], saved = empty;
 
 export const store = { now: empty, draft: null };
 export const listen = (call) => listeners.push(call);
 const told = (kind) => listeners.forEach((call) => call(kind));
 
-export const unsaved = () => ['rows', 'licence'].some((part) => store.now[part] !== saved[part]
-  && (store.now[part].length || store.now[part].size));
+export const unsavedPart = (part) => store.now[part] !== saved[part] && Boolean(store.now[part].length || store.now[part].size);
+export const unsaved = () => unsavedPart('rows') || unsavedPart('licence');
+export const touch = () => told('saved'); // something that is shown has changed, beside the sheet
 export const canUndo = () => past.length > 0;
 export const canRedo = () => future.length > 0;
 
@@ -23,13 +25,23 @@ function trimmed(rows) {
   return rows.slice(0, end);
 }
 
-// A change: what it is in words, and the new rows, licence or name.
+// The line of a sheet that a row becomes when it is saved: blank rows are left out. All lines of some rows are counted at once.
+const numbers = new WeakMap();
+export function lineNumber(rows, row) {
+  if (!numbers.has(rows)) {
+    let next = 2;
+    numbers.set(rows, rows.map((one) => (one.some(Boolean) ? next++ : next)));
+  }
+  return numbers.get(rows)[row];
+}
+
+// A change: what it is in words, and the new rows, licence or name; `made` has by cell what was done to what was typed there.
 export function change(what, next) {
   const { now } = store;
   past = [...past.slice(-MOST_STEPS), { state: now, what }];
   future = [];
   store.draft = null;
-  store.now = { ...now, ...next, rows: trimmed(next.rows ?? now.rows) };
+  store.now = { ...now, made: new Map(), ...next, rows: trimmed(next.rows ?? now.rows) };
   told('change');
 }
 
@@ -86,12 +98,4 @@ export function withCells(cells, rows = store.now.rows) {
 export function casesAsCells(lines, cases) {
   return lines.flatMap((line, i) => NAMES.map((name, column) => [line.place, column, String(cases[i][name])])
     .filter(([row, column, text]) => store.now.rows[row][column] !== text));
-}
-
-export function tick(station, season, on) {
-  const licence = new Map(store.now.licence);
-  const one = licence.get(station) ?? { name: '', seasons: SEASONS, wire: '', area: 0, byLicence: true };
-  const seasons = SEASONS.filter((other) => (other === season ? on : one.seasons.includes(other)));
-  licence.set(station, { ...one, seasons, byLicence: true });
-  change(`licence of station ${station}`, { licence });
 }

@@ -2,7 +2,7 @@
 import { data } from '../library/data.js';
 
 // The name of a size as the catalogue writes it; '' where the text names no size.
-function key(text) {
+export function wireKey(text) {
   const bare = text.trim().toLowerCase().replace(/\s+/g, ' ').replaceAll('²', '2').replaceAll('sq mm', 'mm2').replaceAll('sqmm', 'mm2')
     .replaceAll('mm^2', 'mm2');
   const awg = /^(?:#|awg |no\.? ?)?([1-6]|[1-4]\/0|0{1,4})(?: ?awg)?$/.exec(bare);
@@ -14,7 +14,7 @@ function key(text) {
 // The cross-section that a licence names, in whole kcmil and rounded down; 0 where it names none, nothing where it is no size.
 export function areaOf(text) {
   if (!text) return 0;
-  const named = key(text), own = /^([1-9]\d{0,3}) ?kcmil$/.exec(text.trim().toLowerCase());
+  const named = wireKey(text), own = /^([1-9]\d{0,3}) ?kcmil$/.exec(text.trim().toLowerCase());
   const area = data.wires[named] ?? Number(own?.[1] ?? 0);
   return area >= 1 && area <= data.most_area ? area : null;
 }

@@ -6,8 +6,9 @@ import { byId, h, markup, redraw, show } from './dom.js';
 import { badge, bar, mark, seasonMark, withWord } from './drawing.js';
 import { plan } from './plan.js';
 import { asides, cautions, decision } from '../judging/sentences.js';
-import { casesAsCells, change, store, tick, withCells } from '../sheet/store.js';
-import { draw as drawWhatIf } from './whatifview.js';
+import { tick } from '../sheet/granting.js';
+import { casesAsCells, change, store, withCells } from '../sheet/store.js';
+import { draw as drawWhatIf } from './varied.js';
 import { above, listed, margin, meaning, notParted, refusal, refusedPlace, verdict } from '../words/words.js';
 
 const captionOf = (title, aside) => h('caption', {}, h('h3', {}, title), h('span', { class: 'sub' }, ` ${aside}`));

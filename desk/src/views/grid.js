@@ -4,6 +4,8 @@ import { grouped } from '../words/decimals.js';
 import { bar, mark, withWord } from './drawing.js';
 import { byId, h, show } from './dom.js';
 import { incomplete, refusedColumn } from '../judging/judging.js';
+import { changeWords, reading } from '../sheet/amounts.js';
+import { cellKey } from '../sheet/importing.js';
 import { MOST_LINES } from '../sheet/store.js';
 import { sizeWords } from '../judging/sentences.js';
 import { sizeOfLine } from '../judging/stations.js';
@@ -20,7 +22,8 @@ const WIDTHS = { // rem: so that a cell that is typed moves no other
 };
 const starts = new Set(GROUPS.map(([, names]) => names[0]));
 const lines = new Map(); // drawn rows by place: { tr, head, cells, texts, results, seen }
-let shown = { rows: [], judged: null, top: 0, total: 0 }, whole = false;
+let shown = { rows: [], judged: null, top: 0, total: 0, made: new Map() }, whole = false, accept = () => {};
+export const onAccept = (call) => { accept = call; };
 
 const classOf = (name) => `c-${name}${starts.has(name) ? ' first' : ''}`;
 export const cellAt = (row, column) => lines.get(row)?.cells[column];
@@ -164,9 +167,13 @@ function flag(drawn, line) {
   drawn.cells.forEach((td) => { td.classList.remove('bad', 'todo'); td.removeAttribute('aria-invalid');
     td.removeAttribute('aria-describedby'); });
   if (!line?.refused) return;
+  line.cells.forEach((text, column) => { // cells beside the refused one that are no whole numbers either
+    if (!line.typing && reading(line.cells, column)) drawn.cells[column].classList.add('todo');
+  });
   const marked = [refusedColumn(line), ...(line.refused.number === 7 ? [1] : [])];
   for (const column of marked) {
     const td = drawn.cells[column];
+    td.classList.remove('todo');
     td.classList.add(line.typing || incomplete(line) ? 'todo' : 'bad');
     td.setAttribute('aria-invalid', 'true');
     td.setAttribute('aria-describedby', 'callout');
@@ -174,8 +181,8 @@ function flag(drawn, line) {
 }
 
 // Draws the rows of the sheet and what is known of them; cells and answers that stay the same are left alone.
-export function draw(rows, judged, top) {
-  shown = { rows, judged, top, total: Math.min(MOST_LINES, Math.max(LEAST, rows.length + SPARE)) };
+export function draw(rows, judged, top, made) {
+  shown = { rows, judged, top, made, total: Math.min(MOST_LINES, Math.max(LEAST, rows.length + SPARE)) };
   drawRows();
 }
 
@@ -189,6 +196,12 @@ function drawRows() {
       if (text === drawn.texts[column]) return;
       drawn.texts[column] = text;
       if (!td.firstElementChild) td.textContent = text; // the editor stands in a cell that is being typed
+    });
+    drawn.cells.forEach((td, column) => {
+      const words = shown.made.get(cellKey(place, column)) ?? '';
+      if (words === (td.title ?? '')) return;
+      td.title = words;
+      td.classList.toggle('made', words !== '');
     });
     const seen = key(line, top);
     if (seen === drawn.seen) return;
@@ -205,18 +218,43 @@ export function restore(row, column) {
   if (drawn) drawn.cells[column].textContent = drawn.texts[column];
 }
 
-// The words of a refusal at its cell.
-export function callout(line, all) {
-  const box = byId('callout');
-  const td = line?.refused && !line.typing ? cellAt(line.place, refusedColumn(line)) : null;
+// What is said at a cell: of a refused line the chosen cell's text as `import` reads it, else the refusal; of a cell that was changed what
+// was done to it. `at` is the chosen cell, `fresh` whether the last change was just made.
+function saidAt(line, all, at, fresh) {
+  if (line?.refused && !line.typing) {
+    const told = (column) => { const found = reading(line.cells, column); return found?.number || found?.digits ? found : null; };
+    const column = at && told(at.column) ? at.column : refusedColumn(line), found = told(column);
+    return found ? { row: line.place, column, ...offered(line, column, found) }
+      : { row: line.place, column, kind: incomplete(line) ? 'todo' : '', name: NAMES[line.refused.column - 1] ?? `line ${line.number}`,
+        words: refusal(line, all), small: `${refusedPlace(line)}; refusal ${line.refused.number}` };
+  }
+  const key = at && shown.made.has(cellKey(at.row, at.column)) ? cellKey(at.row, at.column)
+    : fresh && shown.made.size === 1 ? [...shown.made.keys()][0] : '';
+  if (!key || line?.typing) return null;
+  const [row, column] = key.split(',').map(Number);
+  return { row, column, kind: 'made', name: NAMES[column], words: shown.made.get(key), small: '' };
+}
+
+// What the text of a cell would become and why, with a button that writes it; Enter on the cell does the same.
+function offered(line, column, found) {
+  const said = found.said ?? changeWords(found.change, `line ${line.number}, ${NAMES[column]}`);
+  const button = found.digits ? h('button', { type: 'button', onclick: () => accept(line.place, column) }, `Write ${found.digits}`) : '';
+  const small = [found.why ?? '', found.digits ? `Enter writes ${found.digits}; another value may be typed` : ''];
+  return { kind: 'offer', name: NAMES[column], words: said, small, button };
+}
+
+export function callout(line, all, at = null, fresh = false) {
+  const box = byId('callout'), said = saidAt(line, all, at, fresh), td = said ? cellAt(said.row, said.column) : null;
   if (!td) { box.hidden = true; return; }
-  const pane = byId('pane'), words = refusal(line, all);
-  box.className = incomplete(line) ? 'callout todo' : 'callout';
-  show(box, h('b', {}, NAMES[line.refused.column - 1] ?? `line ${line.number}`), ` ${words}`,
-    h('small', {}, `${refusedPlace(line)}; refusal ${line.refused.number}`));
+  const pane = byId('pane');
+  box.className = `callout ${said.kind}`;
+  show(box, h('b', {}, said.name), ` ${said.words}`, [said.small].flat().filter(Boolean).map((one) => h('small', {}, one)),
+    said.button ?? '');
   box.hidden = false;
-  const left = Math.min(td.offsetLeft, pane.scrollLeft + pane.clientWidth - box.offsetWidth - 8), below = td.offsetTop + td.offsetHeight;
-  const fits = below + box.offsetHeight < pane.scrollTop + pane.clientHeight || td.offsetTop < box.offsetHeight + 60;
+  box.style.left = '0'; // its width is measured where nothing narrows it
+  const left = Math.min(td.offsetLeft, pane.scrollLeft + pane.clientWidth - box.offsetWidth - 8), under = td.offsetTop + td.offsetHeight;
+  const room = under + box.offsetHeight < pane.scrollTop + pane.clientHeight, over = td.offsetTop - box.offsetHeight - 3;
+  const below = said.kind === 'made' ? over < pane.scrollTop + 60 : room || td.offsetTop < box.offsetHeight + 60; // not over what is typed next
   box.style.left = `${Math.max(0, left)}px`;
-  box.style.top = `${fits ? below + 3 : td.offsetTop - box.offsetHeight - 3}px`;
+  box.style.top = `${below ? under + 3 : over}px`;
 }

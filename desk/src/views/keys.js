@@ -2,7 +2,9 @@
 import { BY_NAME, NAMES } from '../library/data.js';
 import { byId, h } from './dom.js';
 import { cellAt, restore, rowCount } from './grid.js';
-import { cellsOf, tooMany, whole } from '../sheet/reading.js';
+import { changeWords, reading } from '../sheet/amounts.js';
+import { cellKey, imported, leftWords, whereOf } from '../sheet/importing.js';
+import { cellsOf, tooMany } from '../sheet/reading.js';
 import { at, choose, chooseAll, chooseRows, move, range } from './select.js';
 import { change, draft, store, withCells } from '../sheet/store.js';
 
@@ -25,14 +27,30 @@ function edit(text, over) {
   input.addEventListener('blur', () => finish(true));
 }
 
-// Ends the typing: the value is taken, or what stood there before.
+// Ends the typing: the value is taken, as `import` takes it, or what stood there before.
 export function finish(take) {
   if (!editor) return;
-  const { input, row, column, was } = editor, text = whole(input.value.trim());
+  const { input, row, column, was } = editor, typed = input.value.trim();
+  const { rows, told, made } = imported(withCells([[row, column, typed]]), [[row, column]], ',');
   editor = null;
-  if (take && text !== was) change(`${NAMES[column]} of a line`, { rows: withCells([[row, column, text]]) });
-  else draft(row, column, null);
+  if (take && typed !== was && rows[row]?.[column] !== was) {
+    change(`${NAMES[column]} of a line`, { rows, made });
+  } else draft(row, column, null);
+  if (take && typed !== was && told.length) say(told.join('; '));
   restore(row, column);
+}
+
+// Whether more can be said of what stands in a cell than that it is refused: what it would become, or why no side is cautious.
+const isOpen = (row, column) => { const found = reading(store.now.rows[row], column); return Boolean(found?.number || found?.digits); };
+
+// Writes what the text of a cell becomes, rounded with caution where it must be: only where the person says so.
+export function accept(row, column) {
+  const { rows } = store.now, found = reading(rows[row], column), where = whereOf(rows, row, column);
+  if (!found?.digits) return false;
+  const words = found.rounded ? found.rounded(where) : changeWords(found.change, where);
+  change(`${NAMES[column]} of a line`, { rows: withCells([[row, column, found.digits]]), made: new Map([[cellKey(row, column), words]]) });
+  say(words);
+  return true;
 }
 
 function inEditor(event) {
@@ -42,8 +60,10 @@ function inEditor(event) {
   if (key === 'Escape') { event.preventDefault(); event.stopPropagation(); finish(false); choose(at.row, at.column); }
   if (!moves[key]) return;
   event.preventDefault();
+  const { row, column } = editor;
   finish(true);
-  step(...moves[key]);
+  if (isOpen(row, column)) choose(row, column); // what it would become is shown there first
+  else step(...moves[key]);
 }
 
 // Past the last column the next line begins.
@@ -87,6 +107,7 @@ function inGrid(event) {
   let done = true;
   if (arrows[key] && ctrl) choose(...jump(...arrows[key]), shiftKey);
   else if (arrows[key]) move(...arrows[key], shiftKey);
+  else if (key === 'Enter' && !shiftKey && accept(at.row, at.column)) step(1, 0);
   else if (key === 'Enter' || key === 'Tab') step(...(key === 'Enter' ? [shiftKey ? -1 : 1, 0] : [0, shiftKey ? -1 : 1]));
   else if (key === 'Home') choose(ctrl ? 0 : at.row, 0, shiftKey);
   else if (key === 'End') choose(ctrl ? Math.max(0, store.now.rows.length - 1) : at.row, NAMES.length - 1, shiftKey);
@@ -103,12 +124,15 @@ function inGrid(event) {
 const inside = () => byId('sheet').contains(document.activeElement) && !editor;
 
 function paste(text) {
-  const { rows, header, notes } = cellsOf(text), { top, left } = range(), from = header ? 0 : left;
+  const { rows, header, notes, sign } = cellsOf(text), { top, left } = range(), from = header ? 0 : left;
   const cells = rows.flatMap((row, i) => row.map((cell, j) => [top + i, from + j, cell]));
   const most = tooMany(top + rows.length);
   if (most) { say(`Nothing was pasted: ${most}`, true); return; }
-  if (cells.length) change(`${rows.length} line${rows.length > 1 ? 's' : ''} pasted`, { rows: withCells(cells) });
-  say([`${rows.length} line${rows.length > 1 ? 's' : ''} pasted`, ...notes].join('; '), notes.length > 0);
+  const words = `${rows.length} line${rows.length > 1 ? 's' : ''} pasted`, after = withCells(cells);
+  const found = imported(after, cells.filter(([row, column]) => row < after.length && column < NAMES.length), sign);
+  if (cells.length) change(words, { rows: found.rows, made: found.made });
+  const left_ = leftWords(after, found.left);
+  say([words, ...found.told, ...notes, left_].filter(Boolean).join('; '), notes.length > 0 || Boolean(left_));
   const wide = Math.max(1, ...rows.map((row) => row.length));
   Object.assign(at, { fromRow: top, fromColumn: from });
   choose(top + Math.max(1, rows.length) - 1, from + wide - 1, true);

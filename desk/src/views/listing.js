@@ -4,11 +4,13 @@ import { grouped, share } from '../words/decimals.js';
 import { byId, h, redraw, show } from './dom.js';
 import { badge, bar, seasonMark } from './drawing.js';
 import { decision, greatest, now, told } from '../judging/sentences.js';
-import { tick } from '../sheet/store.js';
+import { notes, totals as counted } from '../judging/totals.js';
+import { nameField, wireField, wireNames } from './granted.js';
+import { grant, tick } from '../sheet/granting.js';
 import { margin } from '../words/words.js';
 
 const FAULT = 'Greatest fault current still safe', WIRE = 'Wire needed of own, kcmil', COLUMNS = 10;
-const KEY = 'A season that is ticked is asked of the licence; a station without ticks of its own is asked for all four. A station is '
+const KEY = 'A season that is ticked is in the licence; a station without a tick is not in it. A station is '
   + 'released only if every ticked season has a line, every line of it is safe, the lines agree on the yard, and the wire is '
   + 'large enough. A station with a refused line is not asked.';
 
@@ -39,14 +41,22 @@ function faultCell(station) {
 }
 
 function wireCell(station) {
-  if (!station.lines.length) return h('td', { class: 'num' });
   const small = station.lines.some((line) => line.small), colour = { class: small ? 'red' : '' };
-  return h('td', { class: 'num', 'data-l': WIRE }, h('b', colour, grouped(station.size.needed)), ` of ${grouped(station.size.own)}`,
-    h('small', colour, small ? 'too small' : 'enough'));
+  const sizes = station.lines.length ? [h('b', colour, grouped(station.size.needed)), ` of ${grouped(station.size.own)} `,
+    h('span', { class: small ? 'red' : 'sub' }, small ? 'too small' : 'enough')] : '';
+  return h('td', { class: 'num', 'data-l': WIRE }, sizes, h('div', {}, wireField(station)));
+}
+
+// A station outside the licence comes into it with the seasons that have a line.
+function addTo(station) {
+  const seasons = station.lines.map((line) => line.row.season);
+  const act = () => grant(station.station, { seasons });
+  return seasons.length ? h('div', {}, h('button', { type: 'button', 'data-key': `add ${station.station}`, onclick: act }, 'Add to the licence')) : '';
 }
 
 function why(station, unread) {
   if (station.released) return '';
+  if (station.outside) return [decision(station, unread)[1], addTo(station)];
   if (station.released === undefined) return decision(station, unread)[1];
   const first = (text) => text[0].toUpperCase() + text.slice(1);
   return station.reasons.map(told).map(([head, detail], i) =>
@@ -54,27 +64,22 @@ function why(station, unread) {
 }
 
 function row(station, top, unread, choose, chosen) {
-  const here = chosen === station.station, name = [h('span', { class: 'no' }, String(station.station)), ' ', station.name];
+  const here = chosen === station.station, number = h('span', { class: 'no' }, String(station.station));
   const link = { type: 'button', class: 'link', 'data-key': station.station, 'aria-current': here ? 'true' : null,
-    onclick: () => choose(station.worst) };
-  return h('tr', { class: here ? 'chosen' : '' }, h('th', { scope: 'row' }, station.lines.length ? h('button', link, name) : name),
+    'aria-label': `Station ${station.station} ${station.name}`, onclick: () => choose(station.worst) };
+  return h('tr', { class: here ? 'chosen' : '' }, h('th', { scope: 'row' }, station.lines.length ? h('button', link, number) : number, ' ',
+    nameField(station)),
     h('td', { class: 'dec' }, badge(station)), SEASONS.map((season) => seasonCell(station, season)), nearCell(station, top),
     faultCell(station),
     wireCell(station), h('td', { class: 'why' }, why(station, unread)));
 }
 
-// The counts, in the report's sentence.
+// The counts, in the report's sentence, with the stations that were not asked and the lines that are refused.
 export function totals(portfolio, judged) {
-  const { stations } = portfolio, count = (test) => stations.filter(test).length, lines = judged.kept;
   if (!judged.lines.length) return [];
-  const of = (verdict) => lines.filter((line) => line.row.verdict === verdict).length, refused = judged.lines.length - lines.length;
-  const open = count((one) => one.released === undefined);
-  const gone = stations.reduce((sum, station) => sum + (station.released === undefined ? 0 : station.missing.length), 0);
-  return [h('b', {}, `${stations.length} station${stations.length > 1 ? 's' : ''}: `),
-    h('b', { class: 'green' }, `${count((one) => one.released)} released`), ', ',
-    h('b', { class: 'red' }, `${count((one) => one.released === false)} held`), open ? `, ${open} not asked` : '', '. ',
-    `${lines.length} season line${lines.length === 1 ? '' : 's'}: ${of(1)} safe, ${of(2)} unsafe, ${of(3)} undecided; `,
-    gone ? `${gone} season${gone > 1 ? 's' : ''} without a line.` : 'every season has a line.',
+  const said = counted(portfolio), refused = judged.lines.length - judged.kept.length, none = portfolio.stations.every((one) => one.outside);
+  return [...(none ? [] : [h('b', {}, said.stations), ' ', h('b', { class: 'green' }, said.released), ', ', h('b', { class: 'red' }, said.held),
+    said.open ? `, ${said.open} not asked` : '', `. ${said.lines}; ${said.missing}`]),
     refused ? h('b', { class: 'red' }, ` ${refused} line${refused > 1 ? 's are' : ' is'} refused.`) : ''];
 }
 
@@ -85,8 +90,8 @@ function head() {
   h('tr', {}, SEASONS.map((season) => h('th', { scope: 'col', class: 's' }, String(season)))));
 }
 
-const GROUPS = [['Held', (one) => one.released === false], ['Not asked', (one) => one.released === undefined],
-  ['Released', (one) => one.released]];
+const GROUPS = [['Held', (one) => one.released === false], ['Not asked', (one) => one.released === undefined && !one.outside],
+  ['Released', (one) => one.released], ['Not in the licence', (one) => one.outside]];
 
 // The table; `choose` is called with the line of a chosen station that is nearest its limit.
 export function draw(portfolio, top, choose, chosen) {
@@ -97,7 +102,7 @@ export function draw(portfolio, top, choose, chosen) {
       list.map((one) => row(one, top, portfolio.unread, choose, chosen))) : '';
   });
   const box = byId('stations'), caption = h('caption', { class: 'vh' }, 'Decision for each station');
-  redraw(box, () => show(box, portfolio.stations.length ? [h('table', { class: 'pf' }, caption, head(), bodies),
-    h('p', { class: 'key' }, KEY)]
+  redraw(box, () => show(box, portfolio.stations.length ? [h('table', { class: 'pf' }, caption, head(), bodies), wireNames(),
+    h('p', { class: 'key' }, notes(portfolio).map((one) => `${one} `), KEY)]
     : h('p', { class: 'key' }, 'No station yet: type or paste lines first.')));
 }

@@ -13,13 +13,16 @@ import { at, choose, onMove, paint, range } from './select.js';
 import { portfolio as asked } from '../judging/stations.js';
 import { sha256 } from '../sheet/digest.js';
 import * as site from './siteview.js';
+import { anyRefused } from '../sheet/granting.js';
+import { reading } from '../sheet/amounts.js';
 import * as store from '../sheet/store.js';
 import { sheetText, word } from '../sheet/writing.js';
-import * as whatif from './whatifview.js';
+import * as varied from './varied.js';
+import { follow } from './whatifview.js';
 import { margin, meaning, refusal, refusedPlace, verdict } from '../words/words.js';
 
 const VIEWS = ['lines', 'stations', 'site'];
-let judged, portfolio, top, queued = 0, view = 'lines', quiet = 0;
+let judged, portfolio, top, queued = 0, view = 'lines', quiet = 0, moves = 0; // moves of the chosen cell since the last change
 
 // A word on what was done; what was refused or left out stays until the next one.
 function say(words, stays = false) {
@@ -34,7 +37,9 @@ const chosen = () => judged.at.get(at.row);
 // For those who listen: what is now answered of the chosen line.
 function tellLine() {
   const line = chosen();
-  const words = !line ? '' : line.refused ? `${refusedPlace(line)}: ${refusal(line, judged.lines)}`
+  const open = line?.refused ? reading(line.cells, at.column) : null;
+  const words = !line ? '' : open?.number ? `${open.said}${open.digits ? `; Enter writes ${open.digits}` : ''}`
+    : line.refused ? `${refusedPlace(line)}: ${refusal(line, judged.lines)}`
     : `line ${line.number} ${verdict(line)}, ${line.nearest.limit} ${margin(line.nearest)}`;
   if (byId('live').textContent !== words) byId('live').textContent = words;
 }
@@ -52,7 +57,7 @@ function lower() {
   if (view === 'stations' || matchMedia('print').matches) listing.draw(portfolio, top, pick, chosen()?.row?.station);
   if (view === 'site') drawSite();
   detail.draw(chosen(), judged, portfolio, top, () => grid.cellAt(at.row, at.column));
-  grid.callout(chosen(), judged.lines);
+  grid.callout(chosen(), judged.lines, at, moves < 2);
   byId('hint').textContent = hint();
 }
 
@@ -73,15 +78,15 @@ function upper() {
   top = scaleOf(judged.kept);
   const typed = draft && judged.at.get(draft.row);
   if (typed?.refused) typed.typing = true;
-  grid.draw(rows, judged, top);
-  byId('name').textContent = (now.name || 'new sheet') + (store.unsaved() ? ' (not saved)' : '');
+  grid.draw(rows, judged, top, now.made);
+  byId('name').textContent = (now.name || 'new sheet') + (store.unsaved() || anyRefused() ? ' (not saved)' : '');
   byId('undo').disabled = !store.canUndo();
   byId('redo').disabled = !store.canRedo();
 }
 
 // What a print is of: the sheet and its SHA-256, the library and the date; and the command that makes the formal report.
 function printedHead() {
-  const { now } = store.store, name = now.name || files.UNNAMED, licence = now.licence.size ? ' --licence licence.csv' : '';
+  const { now } = store.store, name = now.name || files.UNNAMED, licence = now.licence.size ? ` --licence ${word(now.licenceName)}` : '';
   const today = new Date().toLocaleDateString('en-GB', { day: 'numeric', month: 'long', year: 'numeric' });
   return [
     `${name}${store.unsaved() ? ' (not saved)' : ''}, SHA-256 ${sha256(sheetText(now.rows))}`,
@@ -136,7 +141,7 @@ function wire() {
   addEventListener('keydown', (event) => {
     if (!(event.ctrlKey || event.metaKey) || event.altKey) return;
     const act = { s: 'save', o: 'open', p: '', z: event.shiftKey ? 'redo' : 'undo', y: 'redo' }[event.key.toLowerCase()];
-    if (!act || (keys.editing() && act !== 'save') || (act.endsWith('do') && event.target.closest('#site'))) return;
+    if (!act || (keys.editing() && act !== 'save') || (act.endsWith('do') && event.target.closest('#site, input.own'))) return;
     event.preventDefault();
     keys.finish(true); // what is typed is saved too
     byId(act).click();
@@ -165,18 +170,20 @@ async function begin() {
   byId('sheet').prepend(...grid.head());
   detail.guide();
   for (const one of [keys, files]) { one.onSay(say); one.wire(); }
-  whatif.onTaken(say);
+  varied.onTaken(say);
   site.onTaken(say);
   site.wire(drawSite);
   files.onOpened(() => { byId('pane').scrollTo(0, 0); choose(0, 0, false, view === 'lines'); });
+  grid.onAccept((row, column) => { keys.accept(row, column); choose(row, column); });
   store.listen((kind) => {
+    if (kind === 'change') moves = 0;
     upper();
     if (kind === 'change') { paint(); tellLine(); }
     later();
   });
   upper();
   wire();
-  onMove(() => { whatif.follow(NAMES[at.column]); later(); });
+  onMove(() => { moves++; follow(NAMES[at.column]); later(); });
   choose(0, 0, false, false);
   lower();
   document.body.dataset.ready = String(Math.round(performance.now()));

@@ -1,8 +1,8 @@
-// 'What if': one input of the chosen line varied, drawn from the library's answers; a click takes a value over.
-import { COLUMN, data } from '../library/data.js';
-import { byId, h, redraw, show } from './dom.js';
+// One input of the chosen line varied, drawn from the library's answers; a click takes a value over.
+import { data } from '../library/data.js';
+import { byId, chip, h, redraw, show } from './dom.js';
 import { plot, readout } from './plots.js';
-import { change, store, withCells } from '../sheet/store.js';
+import { linesFor, taken } from './taking.js';
 import { value } from '../words/words.js';
 import { VARIED, alongWith, cannot, cells, curve, isWide } from '../judging/whatif.js';
 
@@ -17,19 +17,9 @@ export function follow(name) {
   return true;
 }
 
-// The lines that a value is put into: the yard's columns go into every line of the station, since its lines must agree on them.
-function linesFor(name, line, station) {
-  return data.yard.includes(name) ? station.lines : [line];
-}
-
 function take(line, station, number) {
-  const { name } = kept, own = linesFor(name, line, station);
-  const set = own.flatMap((one) => Object.entries(cells(name, number, one.case)).map(([column, text]) =>
-    [one.place, COLUMN[column], String(text)]));
-  if (set.every(([row, column, text]) => store.now.rows[row][column] === text)) return;
-  change(`${name} of ${own.length > 1 ? `${own.length} lines` : 'a line'}`, { rows: withCells(set) });
-  const where = own.length > 1 ? `, in ${own.length} lines of station ${station.station}` : '';
-  say(`${data.labels[name].label} ${value(name, number)}, was ${value(name, line.case[name])}${where}`);
+  const { name } = kept, where = taken([name], (one) => cells(name, number, one), line, station);
+  if (where) say(`${data.labels[name].label} ${value(name, number)}, was ${value(name, line.case[name])}${where.words}`);
 }
 
 // A run of values in words; where it goes on past the drawing only its one edge is told.
@@ -51,26 +41,22 @@ function said(drawn) {
   return [...parts, '. ', h('span', { class: 'sub' }, asked)];
 }
 
-function button(on, word, act, more = {}) {
-  return h('button', { type: 'button', class: 'chip', 'aria-pressed': String(on), onclick: act, ...more }, word);
-}
-
 export function draw(line, station) {
   const one = line.case, { name } = kept,
     set = (more) => () => { Object.assign(kept, more); redraw(byId('whatif'), () => draw(line, station)); };
   const place = kept.place ?? (line.nearest.limit === 'touch' ? 0 : 1), why = cannot(name, one);
-  const chips = VARIED.map((other) => button(other === name, other, set({ name: other }),
+  const chips = VARIED.map((other) => chip(other === name, other, set({ name: other }),
     { 'data-key': other, title: data.labels[other].label }));
-  const limits = ['touch', 'step'].map((limit, i) => button(place === i, limit, set({ place: i }), { 'data-key': `l${limit}` }));
+  const limits = ['touch', 'step'].map((limit, i) => chip(place === i, limit, set({ place: i }), { 'data-key': `l${limit}` }));
   const spans = isWide(name) ? [['near', false], ['whole range', true]] : [];
-  const ranges = spans.map(([word, whole]) => button(kept.whole === whole, word, set({ whole }), { 'data-key': `r${word}` }));
+  const ranges = spans.map(([word, whole]) => chip(kept.whole === whole, word, set({ whole }), { 'data-key': `r${word}` }));
   const told = h('p', { class: 'readout', 'aria-hidden': 'true' });
   const top = [h('div', { class: 'chips', role: 'group', 'aria-label': 'Input that is varied' }, chips),
     h('div', { class: 'chips low' }, h('span', { role: 'group', 'aria-label': 'Limit' }, limits),
       ranges.length ? h('span', { role: 'group', 'aria-label': 'Values' }, ranges) : '', told)];
   const box = byId('whatif');
   if (why) return show(box, ...top, h('p', { class: 'sub pad' }, `Not varied: ${why}.`));
-  const drawn = curve(name, one, kept.whole), own = linesFor(name, line, station).length;
+  const drawn = curve(name, one, kept.whole), own = linesFor([name], line, station).length;
   if (!drawn.points.length) return show(box, ...top);
   const idle = [h('span', { class: 'sub' }, `Click a value to take it over${own > 1 ? `, in all ${own} lines of the station` : ''}`)];
   show(told, ...idle);

@@ -5,11 +5,10 @@ import { grouped, metres, share, tenths } from './decimals.js';
 const LONGEST = 40;
 const cut = (text) => (text.length <= LONGEST ? text : `${text.slice(0, LONGEST)}…`);
 
-// the kinds of text that the product's `forms` tells apart, in its order
+// the kinds of text that the product's `forms` tells apart, in its order; a digit and a letter are those of any script
 const KINDS = [
-  ['empty', /^$/], ['point', /^\d+[.]0*$/], ['fraction', /^\d*[.]\d+$/], ['zero', /^0\d+$/], ['digits', /^[0-9]{7,}$/],
-    ['sign', /^[-+\u2212]\d+$/],
-  ['letters', /^[\d.]+ ?[\p{L}].*$/u], ['other', /^/],
+  ['empty', /^$/], ['point', /^\p{Nd}+[.]0*$/u], ['fraction', /^\p{Nd}*[.]\p{Nd}+$/u], ['zero', /^0\p{Nd}+$/u], ['digits', /^[0-9]{7,}$/],
+  ['sign', /^[-+\u2212]\p{Nd}+$/u], ['letters', /^[\p{Nd}.]+ ?[\p{L}\p{Nl}\p{No}][^\n]*$/u], ['other', /^/],
 ];
 
 function wrongForm(name, text) {
@@ -18,8 +17,8 @@ function wrongForm(name, text) {
     return fill(data.refusals.ambiguous, { text, joined: two[1] + two[2], parted: `${two[1]}.${two[2]}` });
   }
   const [kind] = KINDS.find(([, form]) => form.test(text));
-  return fill(data.refusals.form[name][kind],
-    { text: cut(text), whole: text.replace(/[.].*$/, '').replace(/^0+(?=\d)/, ''), count: text.length });
+  const whole = kind === 'point' ? cut(text.split('.')[0]) : text.replace(/^0+(?=.)/, '');
+  return fill(data.refusals.form[name][kind], { text: cut(text), whole, count: text.length });
 }
 
 // What is refused, without its place.

@@ -101,6 +101,7 @@ def _fewest(parser: argparse.ArgumentParser) -> None:
     parser.add_argument("--station", type=int, metavar="N", help="the station whose line is taken, of a sheet with more lines")
     parser.add_argument("--season", type=int, metavar="N", help="the season whose line is taken")
     parser.add_argument("--rodlen", metavar="LENGTH", help="the length of the rods that are tried, as 3m; without it the rodlen of the line")
+    parser.add_argument("--list", action="store_true", help="also list every yard that was tried, with its verdict and its nearest limit")
 
 
 def _wenner(parser: argparse.ArgumentParser) -> None:

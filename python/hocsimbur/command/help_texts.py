@@ -117,7 +117,7 @@ COMMANDS: Dict[str, Text] = {
         "the fewest conductors and rods for a square yard",
         "The fewest conductors each way, then rods at the perimeter, with which a square yard of a side is safe; all else is as in\n"
         "the one line of the sheet, or the line chosen by --station and --season.\n"
-        "With --csv: found, conductors, rods, yards tried; or none, yards tried.",
+        "With --csv: found, conductors, rods, yards tried; or none, yards tried; with --list too: a line for each yard tried.",
         """  $ hocsimbur fewest examples/rods.csv --station 303 --side 60m
   9 conductors each way, 7.5 m apart, and 28 rods at the perimeter; 63 yards tried
 """),
