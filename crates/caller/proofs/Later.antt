@@ -7,7 +7,7 @@ use Rattle.hocsimbur.proofs.{Answers.{row-told, row-sound}, LessFault.{row-stay
 use Rattle.caller.specs.{Release.{Released}, Later.{StaysReleased}}
 
 module _ {c : Case} {fault : ℕ} where
-  -- nothing is answered of a current that is out of range or higher
+  -- nothing is claimed for a current that is out of range or higher
   pub not-less : (100 ≤ fault → fault ≤ c .fault → ⊥) → StaysReleased c fault false
   not-less n =
       record { safe = λ e. clash cc; none-held-back = λ low less row e s. absurd (n low less) }

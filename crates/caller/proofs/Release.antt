@@ -1,4 +1,4 @@
--- §3.2: a right row that is safe is so of the exact values; what is not a safe row is not released.
+-- §3.2: a right row that is safe is safe for the exact values; what is not a safe row is not released.
 use Prim.Native.Nat.{ℕ}
 use mathlib.Core.{Path.{_≡_, refl, sym, _∙_}, Bool.{true, false}}
 use Rattle.text.proofs.Clash.{clash}

@@ -27,7 +27,7 @@ pub fn may_release(c: Case) -> bool
 const LEAST_FAULT: u32 = 100;
 
 // Whether a yard may be released and stays so with the fault current of a later study, all else equal. It is not computed again: less
-// current cannot turn it red, and of more nothing is answered.
+// current cannot make it unsafe, and for more current nothing is claimed.
 pub fn stays_released(c: Case, fault: u32) -> bool
     ensures { λ r. ⌜ StaysReleased c fault r ⌝ }
 {

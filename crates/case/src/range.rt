@@ -133,7 +133,7 @@ pub fn place(form: Form, k: usize) -> usize
     }
 }
 
-// Whether every value of today's form is in its range. Where it is not, the values are looked through again for the column.
+// Whether every value of today's form is in its range. Where it is not, the values are searched again for the column.
 fn present_in_range(v: &[u32]) -> bool
     requires { ⌜ length (now v) ≡ nameCount ⌝ }
     ensures { λ r. ⌜ (r ≡ true → InRanges columns (now (v .entry))) ⌝ }

@@ -66,7 +66,7 @@ pub data Fitting (side : ℕ) : (first n many : ℕ) → Type 0 where
 
 -- ---- the answers
 
--- "a yard answered safe", by the question for its row; and truly so
+-- "a yard answered safe", by the question for its row, and safe for its exact voltages
 pub record SafeYard (y : Case) : Type 0 where
   pub answered : {r : RowAnswer} → RowAnswered y r → AnsweredWith Safe r
   pub truly : TrulySafe y

@@ -27,7 +27,7 @@ joined true false s t = absurd t
 joined false q s t = absurd s
 
 module _ (t l m s : Interval) where
-  -- safe just where mesh and step voltage are not above what is tolerable
+  -- safe exactly where mesh and step voltage are not above what is tolerable
   pub safe-ends : verdict t l m s ≡ Safe → (m .upper ≤ℤ t .lower) × (s .upper ≤ℤ l .lower)
   unfolding verdict safe
   safe-ends e =

@@ -1,6 +1,6 @@
 // What a table or a buffer holds before it is lent, and how much of it is as it was.
 
-// The places after which what is held comes again.
+// The number of places after which the pattern repeats.
 const PLACES: usize = 65536;
 
 // What place i of a table holds: -1 - i, which no neighbouring place holds.

@@ -1,4 +1,4 @@
-// Writing to standard output. A write that fails is passed over: what is missing is missing from the stored answers too.
+// Writing to standard output. A write that fails is ignored: what is missing is missing from the stored answers too.
 use crate::lists::natural;
 use libc::STDOUT_FILENO;
 

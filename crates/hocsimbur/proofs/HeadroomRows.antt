@@ -11,7 +11,7 @@ use Rattle.hocsimbur.specs.{declared.RowAnswer.{RowAnswer}, Asked.{RowAn
 use Rattle.hocsimbur.specs.declared.RowAnswer.the-variants as row
 use Rattle.hocsimbur.proofs.Answers.{sound-answered}
 
--- a yard that is answered, is answered safe just where its row is safe
+-- a yard that is answered is answered safe exactly where its row is safe
 module _ {y : Case} {a : RowAnswer} (yard : AnsweredYard y) (h : RowAnswered y a) where
   answered-safe : AnsweredWith Safe a → rowOf y .verdict ≡ Safe
   answered-safe w =

@@ -9,8 +9,8 @@ pub use conversion::carry_back;
 use decrement::factor_ends;
 pub use headroom::Room;
 pub use headroom::headroom;
-// A pair of ends, offered for its two numbers. Its methods, which ask conditions of their arguments, are for the crates below and not among
-// the operations offered.
+// A pair of ends, offered for its two numbers. Its methods, which require conditions on their arguments, are for the crates below and not
+// among the operations offered.
 pub use interval::Interval;
 pub use interval::Pair;
 ghost use Rattle.hocsimbur.specs.Asked.{FactorAnswered, SizeAnswered, TolerableAnswered, ResistanceAnswered, RowAnswered};

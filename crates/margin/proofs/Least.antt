@@ -1,4 +1,4 @@
--- A margin is the smallest whole number that is enough, and at most 0 just where the voltage is at most what is tolerable.
+-- A margin is the smallest whole number that is enough, and at most 0 exactly where the voltage is at most what is tolerable.
 use Prim.Native.Nat.{ℕ, _+_, _*_, _≤_, _<_}
 use mathlib.Core.Path.{_≡_, ap}
 use native.Mathlib.{Omega.{arith}, Nat.{mul-le-mul-left, mul-le-mul-right}}

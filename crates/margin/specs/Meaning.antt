@@ -22,7 +22,7 @@ pub record IsMargin (voltage tolerable : ℕ) (m : ℤ) : Type 0 where
 unfoldable pub share : ℤ → Fraction
 share m = record { plus = whole + plus m; minus = minus m; den = whole; positive = zero-lt-suc 999 }
 
--- the exact voltages are at or below that share of what is tolerable, and the row is safe just where neither margin is above 0
+-- the exact voltages are at or below that share of what is tolerable, and the row is safe exactly where neither margin is above 0
 pub record RightMargins (c : Case) (mesh step : ℤ) : Type 0 where
   pub mesh-below : AtOrBelow (Mesh.mesh c) (exactly (share mesh) ·x tolerableTouch c)
   pub step-below : AtOrBelow (Step.step c) (exactly (share step) ·x tolerableStep c)

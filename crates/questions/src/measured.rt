@@ -13,10 +13,10 @@ use hocsimbur::SplitAnswer;
 use hocsimbur::soil;
 use hocsimbur::split;
 
-// The most readings of a line: more than a list may have, so that too many are refused.
+// The greatest number of readings of a line: more than a list may have, so that too many are refused.
 const READINGS: usize = 160;
 
-// The most parts of a line: more than a test may have.
+// The greatest number of parts of a line: more than a test may have.
 const PARTS: usize = 64;
 
 // More than the size of a part may be.

@@ -26,7 +26,7 @@ near : (g i L U X Z : ℕ) → 10000 * U ≤ 10001 * L + 10000 * 2 → 5100 ≤ 
 near g i L U X Z h k m j l u = omega (arith, mul-le-mul-right g h, mul-le-mul-right g k, mul-le-mul-left U j, m, l, u)
 
 module _ {c : Case} (b : Bounds c) where
-  -- code works resistance times IG
+  -- the code computes resistance times IG
   pub rise-encloses : Encloses (potentialRise c) mV (riseEnds c)
   unfolding potentialRise riseEnds mV μΩ μA ten _·x_
   rise-encloses =

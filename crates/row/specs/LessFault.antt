@@ -4,8 +4,8 @@ use Prim.Native.Nat.{_≤_}
 use mathlib.Core.Path.{_≡_}
 use Rattle.case.specs.{declared.Case.{Case}, Fault.{withFault}, Key.{underKey}}
 
--- d is "the same case with a lower fault current, all else equal" as c. Station and season may differ, as they must for two lines of one
--- sheet.
+-- Compared with c, d is "the same case with a lower fault current, all else equal". Station and season may differ, as they must for two
+-- lines of one sheet.
 pub record LessFault (c d : Case) : Type 0 where
   pub all-else : d ≡ underKey (d .station) (d .season) (withFault (d .fault) c)
   pub less : d .fault ≤ c .fault

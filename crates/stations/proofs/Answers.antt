@@ -49,7 +49,7 @@ module _ (cs : List Case) {zeros own : List ℤ} (before : List ℤ) (f : Filled
         rest = drop-at (take (rowLength * length cs) own) (drop (rowLength * length cs) before) (rowLength * length cs) front;
       }
 
--- ---- the sheet's own question answered with a count of rows, in a table with room for the most
+-- ---- the sheet's own question answered with a count of rows, in a table with room for the greatest number of rows
 
 module _ {s : List ℕ} {zeros own : List ℤ} {r : Answer} {n : ℕ} (told : Answered s zeros own r) (q : r ≡ sheet.Rows n)
     (whole : length zeros ≡ rowLength * mostLines) where

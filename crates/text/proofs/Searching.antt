@@ -1,4 +1,4 @@
--- The search for a byte: what holds while it has not been met before index i.
+-- The search for a byte: what holds while it has not been found before index i.
 use Prim.Native.Nat.{ℕ, zero, suc, _+_, _≤_, _<_}
 use mathlib.Core.{Path.{_≡_, refl, sym, ap, _∙_}, Bool.{Bool, true, false, cond, _||_}, List.{List, [], _∷_}}
 use native.Mathlib.{Numerals.{add-one}, Omega.{arith}}

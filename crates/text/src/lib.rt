@@ -50,7 +50,7 @@ fn holds(s: &[u8], b: u8) -> bool
     found
 }
 
-// An index before which no byte of s is b: blocks of 16 bytes without b are passed over.
+// An index before which no byte of s is b: blocks of 16 bytes without b are skipped.
 fn pass_blocks(s: &[u8], b: u8) -> usize
     ensures { λ r. ⌜ Passed b (now (s .entry)) r ⌝ }
 {

@@ -1,4 +1,4 @@
--- `may_release` answers true of a safe row alone, and a right row that is safe is so of the exact values.
+-- `may_release` answers true only for a safe row, and a right row that is safe is safe for the exact values.
 use Rattle.decision.specs.declared.Verdict.the-variants.{Unsafe, Undecided}
 use Rattle.caller.proofs.Release.{refused-held, verdict-held, released, not-unsafe, not-undecided}
 use Rattle.caller.proofs.may_release.Statement.{statement}

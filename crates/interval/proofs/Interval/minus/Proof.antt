@@ -17,7 +17,7 @@ magnitude≤ (negsuc n) = omega arith
 small : (z : ℤ) → natAbs z < 2 ^ 63 → SFits w64 z
 small z h = record { sfits = omega (arith, magnitude≤ z) }
 
--- 0 − z, as the code works it
+-- 0 − z, as the code computes it
 module _ (z : ℤ) (h : natAbs z < 2 ^ 63) where
   subtracted : pos 0 -ℤ toZ w64 (ofZ w64 z) ≡ negℤ z
   subtracted = rw (toZ-ofZ (small z h), +ℤ-idl)

@@ -1,4 +1,4 @@
--- `measured` works the grid's two parts and the split by the two squares.
+-- `measured` computes the grid's two parts and the split by the two squares.
 use mathlib.Core.Path.{_≡_}
 use native.Mathlib.Omega.{arith}
 use lib.{IntN.{pos}, ListN.{getD, drop}}
