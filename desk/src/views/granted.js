@@ -11,7 +11,7 @@ export const wireNames = () => h('datalist', { id: WIRES }, Object.keys(data.wir
 
 function field(station, kind, label, more) {
   const { station: number, outside } = station, bad = refusedAt(number, kind), id = `${kind}-${number}-refused`;
-  const typed = (event) => enter(number, kind, event.target.value);
+  const typed = (event) => { event.target.value = event.target.value.trim(); enter(number, kind, event.target.value); };
   const keys = (event) => { if (event.key === 'Escape') { event.target.value = station[kind]; giveUp(number, kind); } };
   const input = h('input', { class: `own ${kind}`, value: bad?.text ?? station[kind], 'data-key': `${number} ${kind}`, 'aria-label': label,
     'aria-invalid': bad ? 'true' : null, 'aria-describedby': bad ? id : null, disabled: outside, spellcheck: 'false', autocomplete: 'off',
