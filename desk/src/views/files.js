@@ -65,7 +65,8 @@ function open(found, name) {
   const taken = imported(wide, everyCell(wide), sign), left = leftWords(wide, taken.left);
   notes.push(...taken.told, ...(left ? [left] : []));
   forget();
-  change(`${name} opened`, { rows: taken.rows, made: taken.made, licence: new Map(), name, licenceName: LICENCE }); // a licence belongs to its sheet: it is opened after it
+  // a licence belongs to its sheet: it is opened after it
+  change(`${name} opened`, { rows: taken.rows, made: taken.made, licence: new Map(), name, licenceName: LICENCE });
   if (!notes.length) markSaved({ sheet: name, licence: true });
   opened();
   return say([`${name}: ${wide.length} line${wide.length === 1 ? '' : 's'}`, ...notes].join('; '), notes.length > 0);

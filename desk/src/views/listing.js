@@ -49,9 +49,9 @@ function wireCell(station) {
 
 // A station outside the licence comes into it with the seasons that have a line.
 function addTo(station) {
-  const seasons = station.lines.map((line) => line.row.season);
-  const act = () => grant(station.station, { seasons });
-  return seasons.length ? h('div', {}, h('button', { type: 'button', 'data-key': `add ${station.station}`, onclick: act }, 'Add to the licence')) : '';
+  const seasons = station.lines.map((line) => line.row.season), act = () => grant(station.station, { seasons });
+  const button = { type: 'button', 'data-key': `add ${station.station}`, onclick: act };
+  return seasons.length ? h('div', {}, h('button', button, 'Add to the licence')) : '';
 }
 
 function why(station, unread) {
@@ -77,9 +77,10 @@ function row(station, top, unread, choose, chosen) {
 // The counts, in the report's sentence, with the stations that were not asked and the lines that are refused.
 export function totals(portfolio, judged) {
   if (!judged.lines.length) return [];
-  const said = counted(portfolio), refused = judged.lines.length - judged.kept.length, none = portfolio.stations.every((one) => one.outside);
-  return [...(none ? [] : [h('b', {}, said.stations), ' ', h('b', { class: 'green' }, said.released), ', ', h('b', { class: 'red' }, said.held),
-    said.open ? `, ${said.open} not asked` : '', `. ${said.lines}; ${said.missing}`]),
+  const said = counted(portfolio), refused = judged.lines.length - judged.kept.length;
+  const counts = [h('b', {}, said.stations), ' ', h('b', { class: 'green' }, said.released), ', ', h('b', { class: 'red' }, said.held),
+    said.open ? `, ${said.open} not asked` : '', `. ${said.lines}; ${said.missing}`];
+  return [...(portfolio.stations.every((one) => one.outside) ? [] : counts),
     refused ? h('b', { class: 'red' }, ` ${refused} line${refused > 1 ? 's are' : ' is'} refused.`) : ''];
 }
 
@@ -97,7 +98,8 @@ const GROUPS = [['Held', (one) => one.released === false], ['Not asked', (one) =
 let rows = new Map(), parts = null;
 
 function keyOf(station, top, unread, here) {
-  const { name, seasons, wire, area, outside, answer } = station, refused = ['name', 'wire'].map((field) => refusedAt(station.station, field));
+  const { name, seasons, wire, area, outside, answer } = station;
+  const refused = ['name', 'wire'].map((field) => refusedAt(station.station, field));
   return JSON.stringify([top, here, unread.map((line) => line.number), name, seasons, wire, area, outside, answer, refused,
     station.lines.map((line) => [line.place, line.text]), station.refused.map((line) => [line.number, line.cells[1]])]);
 }
