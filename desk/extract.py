@@ -121,5 +121,6 @@ def data():
         "refusals": refusals(), "margins": margins(), "told": told(), "current": current(), "differences": differences(),
         "asides": asides(),
         "released": {str(licensed): [released(count, licensed) for count in (1, 2, 3, 4)] for licensed in (True, False)},
-        "tried": tried(), "advised": advised(), "site": site_words(), "cells": cell_words(), "licences": licences(), "totals": totals(), "proved": pages.PROVED,
+        "tried": tried(), "advised": advised(), "site": site_words(), "cells": cell_words(), "licences": licences(),
+        "totals": totals(), "proved": pages.PROVED,
     }

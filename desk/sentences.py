@@ -193,7 +193,8 @@ def licences():
         "name": of("7,a\x07,1,", line="line 2"), "again": of("4242,a,1,", "4242,b,1,", line="line 3", earlier="line 2", station="4242"),
         "none": of("7,a,,", line="line 2"), "season": of("7,a,1 42,", line="line 2", text="42"),
         "twice": of("7,a,3 3,", line="line 2", text="3 3"), "wire": of("7,a,1,42x", line="line 2", text="42x"), "no_station": of(),
-        "counted": template(*licence.wires(licence.Licence((licence.Licensed(7, "", (1,), wire="42x", area=424242),))), wire="42x", area="424242"),
+        "counted": template(*licence.wires(licence.Licence((licence.Licensed(7, "", (1,), wire="42x", area=424242),))), wire="42x",
+                            area="424242"),
     }
 
 
@@ -219,7 +220,8 @@ def totals():
         return reasons.notes(Fake(licensed=licensed, unlicensed=others, seasons=(1, 2, 3, 4)))[0]
     few, many = range(41, 43), range(1001, 1001 + reasons.NAMED + 42)
     return {**found, "named": reasons.NAMED, "notes": {
-        "no_licence": notes(False), "outside": [template(notes(True, 4242), list="4242"),
-                                                template(notes(True, *few), count="2 stations", list="41 and 42").replace("{count}", "{count} stations")],
+        "no_licence": notes(False),
+        "outside": [template(notes(True, 4242), list="4242"),
+                    template(notes(True, *few), count="2 stations", list="41 and 42").replace("{count}", "{count} stations")],
         "more": template(notes(True, *many)[-len("1020 and 42 more."):], last="1020", count="42").replace("{last}", "").removesuffix("."),
     }}

@@ -1,8 +1,8 @@
 """What the command says to a thousand inputs of each kind, as JSON for words.mjs: python3 desk/tests/expected.py
 
 Where the page and the command both have logic of their own (decimals, the mending of numbers, kinds of wrong form, decisions and their
-order, candidates for what to change, licences and the names of wires), both are asked the same, and words.mjs compares them word for
-word."""
+order, candidates for what to change, licences and the names of wires, cells with units and what is rounded of them), both are asked the
+same, and words.mjs compares them word for word."""
 from __future__ import annotations
 
 import json
@@ -215,11 +215,13 @@ def licences(rng: random.Random):
         yield [text, found]
 
 
-UNITS = ["", "", "mm", "cm", "m", "in", "inch", "inches", '"', "ft", "feet", "'", "ms", "s", "sec", "cycles", "cyc", "cycle", "kg", "A", "kA", "amps", "%", "‰",
-         "per mille", "percent", "Hz", "hz", "ohm m", "Ω·m", "Ωm", "ohm-m", "kΩm", "ohm cm", "ohm.metres", "kcmil", "mm2", "lb", "x", "é", "½", "e5x"]
-TEXTS = ["23ft", "18in", "8.7kA", "0.5s", "30 cycles", "4/0", "187.5", "#2", "250 kcmil", "95 mm2", "96 mm2", "60%", "62 ohm m", "4in", "7m", "16.2",
-         "5/0", "0000", "#9", "-5", "-0.4", "--5", "+7.5", "1e3", "1e-3", "9e99", ".5", "5.", "1,5", "1.234", "1,234", "1,234.5kA", "1 234,5", "٣", "٣mm",
-         "0x10", "1e", "1e5", "1.5e1mm", "7 ' ", "5'6\"", "=1+1", "constructor", "1 constructor", "2 __proto__", "1toString", "m" * 60, "4" * 60, "1 " + "k" * 60]
+UNITS = ["", "", "mm", "cm", "m", "in", "inch", "inches", '"', "ft", "feet", "'", "ms", "s", "sec", "cycles", "cyc", "cycle", "kg", "A", "kA",
+         "amps", "%", "‰", "per mille", "percent", "Hz", "hz", "ohm m", "Ω·m", "Ωm", "ohm-m", "kΩm", "ohm cm", "ohm.metres", "kcmil", "mm2",
+         "lb", "x", "é", "½", "e5x"]
+TEXTS = ["23ft", "18in", "8.7kA", "0.5s", "30 cycles", "4/0", "187.5", "#2", "250 kcmil", "95 mm2", "96 mm2", "60%", "62 ohm m", "4in", "7m",
+         "16.2", "5/0", "0000", "#9", "-5", "-0.4", "--5", "+7.5", "1e3", "1e-3", "9e99", ".5", "5.", "1,5", "1.234", "1,234", "1,234.5kA",
+         "1 234,5", "٣", "٣mm", "0x10", "1e", "1e5", "1.5e1mm", "7 ' ", "5'6\"", "=1+1", "constructor", "1 constructor", "2 __proto__",
+         "1toString", "m" * 60, "4" * 60, "1 " + "k" * 60]
 
 
 def cells(rng: random.Random):
@@ -230,13 +232,15 @@ def cells(rng: random.Random):
         shape = rng.choice(shapes).format(rng.randint(0, 10 ** rng.randint(1, 4)), rng.randint(0, 10 ** rng.randint(1, 3)))
         text = rng.choice(TEXTS) if place % 4 == 0 else shape + rng.choice(("", " ", "\u00a0")) + rng.choice(UNITS)
         if rng.random() < 0.6 and name in units.UNITS:
-            text = shape + rng.choice(("", " ")) + rng.choice(list(units.UNITS[name]) + (["cycles"] if name in ("shock", "clear", "wire") else []))
+            own = [*units.UNITS[name], *(["cycles"] if name in ("shock", "clear", "wire") else [])]
+            text = shape + rng.choice(("", " ")) + rng.choice(own)
         text = text.strip(" \t\n\u00a0\u202f\u2007\ufeff")
-        line = dict(zip(NAMES, SOUND), layer=str(rng.choice((0, 100, 2500))), soil=str(rng.choice((100, 400, 4000))), hz=rng.choice(("50", "60", "55")))
+        line = dict(zip(NAMES, SOUND), layer=str(rng.choice((0, 100, 2500))), soil=str(rng.choice((100, 400, 4000))))
+        line["hz"] = rng.choice(("50", "60", "55"))
         line[name] = text
         sign = rng.choice(",,,;\t")
-        context = {"sign": sign, "hertz": int(line["hz"]) if line["hz"] in ("50", "60") else 0, "layer": int(line["layer"]) if name != "layer" else 0,
-                   "soil": int(line["soil"]) if name != "soil" else 0}
+        context = {"sign": sign, "hertz": int(line["hz"]) if line["hz"] in ("50", "60") else 0,
+                   "layer": int(line["layer"]) if name != "layer" else 0, "soil": int(line["soil"]) if name != "soil" else 0}
         if text:
             yield [text, name, context, cell_words(line, name, sign, False), cell_words(line, name, sign, True)]
 
@@ -252,9 +256,10 @@ def cell_words(line: Dict[str, str], name: str, sign: str, cautious: bool):
     return [layout.cells(layout.lines(made.sheet)[1])[NAMES.index(name)], told_, made.rounded]
 
 
-WELL = {"soil": ["62 ohm m", "400.0", "0.1 kohm m"], "layer": ["2.5 kΩm"], "thick": ["10cm", "0.1m", "102 mm"], "shock": ["0.5s", "30 cycles", "6 cyc"],
-        "clear": ["0.25 s", "15 cycles"], "wire": ["1 s"], "body": ["70kg"], "fault": ["8.7kA", "3180 A", "3180.0", "3.18E+03", "3 180"], "split": ["60%", "600‰"],
-        "space": ["7m", "700 cm"], "depth": ["0.5m", "500.00"], "dia": ["4/0", "#2", "95 mm2", "1cm", "250 kcmil"], "rodlen": ["3m"], "hz": ["60 Hz", "50hz"]}
+WELL = {"soil": ["62 ohm m", "400.0", "0.1 kohm m"], "layer": ["2.5 kΩm"], "thick": ["10cm", "0.1m", "102 mm"],
+        "shock": ["0.5s", "30 cycles", "6 cyc"], "clear": ["0.25 s", "15 cycles"], "wire": ["1 s"], "body": ["70kg"],
+        "fault": ["8.7kA", "3180 A", "3180.0", "3.18E+03", "3 180"], "split": ["60%", "600‰"], "space": ["7m", "700 cm"],
+        "depth": ["0.5m", "500.00"], "dia": ["4/0", "#2", "95 mm2", "1cm", "250 kcmil"], "rodlen": ["3m"], "hz": ["60 Hz", "50hz"]}
 
 
 def imports(rng: random.Random):
@@ -270,8 +275,8 @@ def imports(rng: random.Random):
         yield [rows, [layout.cells(line) for line in layout.lines(made.sheet)[1:]], told_ + made.rounded]
 
 
-WIRES = ["4/0", "250 kcmil", "95 mm2", "95 mm\u00b2", "211 kcmil", "2000 kcmil", "2001 kcmil", "0 kcmil", "4", "#4", "AWG 4", "no. 2", "0000",
-         "00 awg", "70 sq mm", "70sqmm", "300MCM", "1kcmil", "250", "x", "5/0", "mm2", "185 MM^2", "96 mm2", "<b>", "W" * 60, "4/0 copper"]
+WIRES = ["4/0", "250 kcmil", "95 mm2", "95 mm\u00b2", "211 kcmil", "2000 kcmil", "2001 kcmil", "0 kcmil", "4", "#4", "AWG 4", "no. 2",
+         "0000", "00 awg", "70 sq mm", "70sqmm", "300MCM", "1kcmil", "250", "x", "5/0", "mm2", "185 MM^2", "96 mm2", "<b>", "W" * 60, "4/0 copper"]
 CALLED = ["Ashgrove", "Elm, west", 'say "so"', "a;b", "a\u00a0b", "a\u200bb", "\u202eevil", "\u00e9", "Кировск", "W" * 300, "=1+1", "a\tb"]
 
 
@@ -381,7 +386,8 @@ def square_words(case, text):
 
 
 KINDS = {"shown": shown, "shares": shares, "mended": mended, "ambiguous": ambiguous, "refused": refused, "portfolios": portfolios,
-         "licences": licences, "outside": outside, "fields": fields, "cells": cells, "imports": imports, "soils": soils, "splits": splits, "squares": squares}
+         "licences": licences, "outside": outside, "fields": fields, "cells": cells, "imports": imports, "soils": soils,
+         "splits": splits, "squares": squares}
 
 if __name__ == "__main__":
     json.dump({kind: list(make(random.Random(number))) for number, (kind, make) in enumerate(KINDS.items())}, sys.stdout)

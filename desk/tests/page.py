@@ -11,7 +11,7 @@ import sys
 from common import NAMES, PAGE, ROOT, cell, plain, same, told, wrong
 from devtools import Browser
 from hands import drawn, hostile, keys, many_lines, opened, paste, printed, ranges, site
-from panels import licensing, mapped, outside, units
+from panels import by_keys, licensing, mapped, outside, units
 from hocsimbur.portfolio import advice, decision, licence, lines, reasons
 from hocsimbur.portfolio.compared import NOT_PARTED, margin as margin_of
 from hocsimbur.sheets import checking, layout, names
@@ -131,7 +131,7 @@ def judge():
     b = Browser()
     try:
         b.open(PAGE)
-        for part in (keys, ranges, paste, units, drawn, mapped, site, stations, outside, licensing, opened, many, refusals, printed, hostile, many_lines):
+        for part in (keys, ranges, paste, units, drawn, mapped, site, stations, outside, licensing, by_keys, opened, many, refusals, printed, hostile, many_lines):
             before = len(wrong)
             part(b)
             print(f"browser: desk page, {part.__name__}: {'as it should be' if len(wrong) == before else 'WRONG'}")

@@ -5,6 +5,7 @@ import time
 from pathlib import Path
 
 from common import NAMES, ROOT, cell, plain, same, told
+from hands import dropped
 from hocsimbur import core
 from hocsimbur.core import Refused
 from hocsimbur.portfolio import decision, licence, reasons
@@ -67,6 +68,13 @@ def units(b):
     b.click(cell(4, "soil")), b.key("Enter"), b.click(cell(4, "thick")), b.key("Enter"), b.settle()
     same("one after the other", [shown(b, 4, name) for name in ("soil", "thick")], ["188", "101"])
     same("judged", told(b)[4][0], "safe")
+    folder = Path(tempfile.mkdtemp(prefix="desk-"))
+    sheet = (ROOT / "examples/portfolio.csv").read_text().replace(",8900,", ",8.9kA,")
+    (folder / "units.csv").write_text(sheet)
+    count = sheet.count("8.9kA")
+    same("opened", dropped(b, folder / "units.csv"), f"units.csv: 36 lines; {count} values: kA made A (line 2, fault, 8.9kA is 8900)")
+    same("not as in its file", text(b, "#name"), "units.csv (not saved)")
+    same("no warning", b.run("document.getElementById('said').className"), "")
     b.click("#sample"), b.settle()
 
 
@@ -211,3 +219,42 @@ def mapped(b):
     b.size(375, 812), b.settle()
     same("as wide as the screen", b.run("document.documentElement.scrollWidth <= innerWidth"), True)
     b.size(1280, 900), b.settle(), chosen(b, 0, "rods"), chosen(b, 1, "space"), b.click("#varied [data-key='one input']"), b.settle()
+
+
+def reached(b, most=400):
+    """What Tab reaches from where the focus is, one after the other, up to the end of the page."""
+    found = []
+    for _ in range(most):
+        b.key("Tab")
+        found.append(b.run("(e => e.dataset.key || e.id || e.tagName)(document.activeElement)"))
+        if found[-1] == "BODY":
+            break
+    return found
+
+
+def by_keys(b):
+    """Keys alone reach every control that is new, and each has a name."""
+    b.click("#sample"), b.click(cell(5, "rods")), b.key("Escape")
+    there = reached(b)
+    same("the choice", [key in there for key in ("one input", "two inputs", "rods")], [True] * 3)
+    b.run("document.querySelector('#varied [data-key=\"two inputs\"]').focus()"), b.key("Enter"), b.settle()
+    there = reached(b)
+    same("the map", [one for one in there if one.startswith(("map ", "yard "))], ["map 0", "map 1", "yard 20,7000"])
+    b.run("document.querySelector('#varied [data-key=\"one input\"]').focus()"), b.key("Enter"), b.settle()
+    b.run("document.getElementById('view-stations').focus()"), b.key("Enter"), b.settle()
+    there = reached(b)
+    same("the licence", [key in there for key in ("104", "104 name", "104-1", "104 wire", "licence")], [True] * 5)
+    b.run("document.getElementById('view-site').focus()"), b.key("Enter"), b.settle()
+    for place, said in (("readings", "1 10.4"), ("currents", "1000 0\n400 0"), ("side", "60")):
+        b.run(f"document.getElementById('{place}').focus()"), b.call("Input.insertText", text=said), b.settle()
+    b.run("document.getElementById('view-site').focus()")
+    there = reached(b)
+    same("the site", [key in there for key in ("readings", "soil", "save readings", "currents", "split", "save currents", "side", "yard", "tried")],
+         [True] * 9)
+    unnamed = """JSON.stringify([...document.querySelectorAll('button, input, select, textarea, summary, [role=grid], [role=gridcell]')]
+      .filter(e => e.getClientRects().length && !(e.labels?.length || e.getAttribute('aria-label') || e.textContent.trim()))
+      .filter(e => !e.closest('#sheet')).map(e => e.outerHTML.slice(0, 80)))"""
+    for view in ("lines", "stations", "site"):
+        b.click(f"#view-{view}"), b.settle()
+        same(f"without a name, {view}", json.loads(b.run(unnamed)), [])
+    b.run(EMPTIED), b.click("#view-lines"), b.click("#new"), b.settle()

@@ -75,7 +75,7 @@ export function becomes(text, name, line) {
   };
 }
 
-const plain = (text) => /^(0|[1-9]\d*)$/.test(text);
+export const plain = (text) => /^(0|[1-9]\d*)$/.test(text);
 const hertzOf = (text) => Number(/^(50|60)(?:\.0*)?\s*(?:hz)?$/.exec(text.toLowerCase())?.[1] ?? 0);
 
 // A whole number of a row's cell, as it is or as `import` reads it; nothing where it is none.
@@ -84,8 +84,8 @@ function wholeOf(row, name, hertz) {
   return found.digits && !found.rounded ? Number(found.digits) : null;
 }
 
-// What the text of a row's cell becomes; nothing where it is empty or a whole number already. The thickness of a layer is rounded only where
-// layer and soil are known, since its cautious side goes by them.
+// What the text of a row's cell becomes; nothing where it is empty or a whole number already. The thickness of a layer is rounded only
+// where layer and soil are known, since its cautious side goes by them.
 export function reading(row, column, sign) {
   const text = row?.[column] ?? '', name = NAMES[column];
   if (!text || plain(text)) return null;
@@ -97,7 +97,8 @@ export function reading(row, column, sign) {
 }
 
 // The sentence of a change with the count of its kind, as `import` reports it.
-export const changeWords = ({ kind, tokens }, where, count = 1) => fill(data.cells.changes[kind][count > 1 ? 1 : 0], { ...tokens, where, count });
+export const changeWords = ({ kind, tokens }, where, count = 1) => fill(data.cells.changes[kind][count > 1 ? 1 : 0],
+  { ...tokens, where, count });
 
 // The note that a wire's own area is not in the sheet.
 export function wireNote({ name, dia, kcmil }) {

@@ -1,7 +1,7 @@
 // Cells that are typed, pasted or opened become whole numbers where `import` would make them ones without rounding; each kind of change is
 // counted and told with its first example, and each cell that was changed keeps what was done to it until the next change.
 import { COLUMN, NAMES } from '../library/data.js';
-import { changeWords, reading, wireNote } from './amounts.js';
+import { changeWords, plain, reading, wireNote } from './amounts.js';
 import { lineNumber } from './store.js';
 
 export const cellKey = (row, column) => `${row},${column}`;
@@ -31,8 +31,8 @@ export function imported(rows, places, sign) {
   return { rows: after, told, made, left };
 }
 
-// Every cell that is filled, as a place.
-export const everyCell = (rows) => rows.flatMap((row, i) => row.flatMap((text, j) => (text && !/^(0|[1-9]\d*)$/.test(text) ? [[i, j]] : [])));
+// The places of the cells that are filled and no whole numbers yet.
+export const everyCell = (rows) => rows.flatMap((row, i) => row.flatMap((text, j) => (text && !plain(text) ? [[i, j]] : [])));
 
 // What was left as it is, by its first cell; '' where nothing was.
 export function leftWords(rows, left) {

@@ -63,12 +63,13 @@ function open(found, name) {
   if (rows.some((row) => row.length > NAMES.length)) notes.push('values past the last column were left out');
   if (!header) notes.push('no line of names: the columns were taken in the order of the sheet');
   const taken = imported(wide, everyCell(wide), sign), left = leftWords(wide, taken.left);
-  notes.push(...taken.told, ...(left ? [left] : []));
+  if (left) notes.push(left);
   forget();
-  change(`${name} opened`, { rows: taken.rows, made: taken.made, licence: new Map(), name, licenceName: LICENCE }); // a licence belongs to its sheet: it is opened after it
-  if (!notes.length) markSaved({ sheet: name, licence: true });
+  // a licence belongs to its sheet: it is opened after it
+  change(`${name} opened`, { rows: taken.rows, made: taken.made, licence: new Map(), name, licenceName: LICENCE });
+  if (!notes.length && !taken.told.length) markSaved({ sheet: name, licence: true });
   opened();
-  return say([`${name}: ${wide.length} line${wide.length === 1 ? '' : 's'}`, ...notes].join('; '), notes.length > 0);
+  return say([`${name}: ${wide.length} line${wide.length === 1 ? '' : 's'}`, ...taken.told, ...notes].join('; '), notes.length > 0);
 }
 
 export function sample() {

@@ -11,15 +11,17 @@ export const wireNames = () => h('datalist', { id: WIRES }, Object.keys(data.wir
 
 function field(station, kind, label, more) {
   const { station: number, outside } = station, bad = refusedAt(number, kind), id = `${kind}-${number}-refused`;
-  const typed = (event) => enter(number, kind, event.target.value);
+  const typed = (event) => { event.target.value = event.target.value.trim(); enter(number, kind, event.target.value); };
   const keys = (event) => { if (event.key === 'Escape') { event.target.value = station[kind]; giveUp(number, kind); } };
   const input = h('input', { class: `own ${kind}`, value: bad?.text ?? station[kind], 'data-key': `${number} ${kind}`, 'aria-label': label,
     'aria-invalid': bad ? 'true' : null, 'aria-describedby': bad ? id : null, disabled: outside, spellcheck: 'false', autocomplete: 'off',
     onchange: typed, onkeydown: keys, ...more });
-  return [input, h('span', { class: 'printed-only' }, station[kind]), bad ? h('small', { class: 'red', id, role: 'alert' }, bad.words) : ''];
+  return [input, h('span', { class: 'printed-only' }, station[kind]),
+    bad ? h('small', { class: 'red', id, role: 'alert' }, bad.words) : ''];
 }
 
-export const nameField = (station) => field(station, 'name', `Name of station ${station.station}`, { placeholder: 'name', title: station.name });
+export const nameField = (station) => field(station, 'name', `Name of station ${station.station}`,
+  { placeholder: 'name', title: station.name });
 
 export function wireField(station) {
   const { wire, area } = station, title = wire ? fill(data.licences.counted, { wire, area })

@@ -254,7 +254,8 @@ export function callout(line, all, at = null, fresh = false) {
   box.style.left = '0'; // its width is measured where nothing narrows it
   const left = Math.min(td.offsetLeft, pane.scrollLeft + pane.clientWidth - box.offsetWidth - 8), under = td.offsetTop + td.offsetHeight;
   const room = under + box.offsetHeight < pane.scrollTop + pane.clientHeight, over = td.offsetTop - box.offsetHeight - 3;
-  const below = said.kind === 'made' ? over < pane.scrollTop + 60 : room || td.offsetTop < box.offsetHeight + 60; // not over what is typed next
+  // what was done to a cell stands above it, and so not over what is typed next
+  const below = said.kind === 'made' ? over < pane.scrollTop + 60 : room || td.offsetTop < box.offsetHeight + 60;
   box.style.left = `${Math.max(0, left)}px`;
   box.style.top = `${below ? under + 3 : over}px`;
 }

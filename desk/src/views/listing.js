@@ -1,12 +1,12 @@
 // All stations with their decisions, held ones first, as on the first page of the report.
 import { SEASONS } from '../library/data.js';
 import { grouped, share } from '../words/decimals.js';
-import { byId, h, redraw, show } from './dom.js';
+import { arrange, byId, h, redraw, show } from './dom.js';
 import { badge, bar, seasonMark } from './drawing.js';
 import { decision, greatest, now, told } from '../judging/sentences.js';
 import { notes, totals as counted } from '../judging/totals.js';
 import { nameField, wireField, wireNames } from './granted.js';
-import { grant, tick } from '../sheet/granting.js';
+import { grant, refusedAt, tick } from '../sheet/granting.js';
 import { margin } from '../words/words.js';
 
 const FAULT = 'Greatest fault current still safe', WIRE = 'Wire needed of own, kcmil', COLUMNS = 10;
@@ -49,9 +49,9 @@ function wireCell(station) {
 
 // A station outside the licence comes into it with the seasons that have a line.
 function addTo(station) {
-  const seasons = station.lines.map((line) => line.row.season);
-  const act = () => grant(station.station, { seasons });
-  return seasons.length ? h('div', {}, h('button', { type: 'button', 'data-key': `add ${station.station}`, onclick: act }, 'Add to the licence')) : '';
+  const seasons = station.lines.map((line) => line.row.season), act = () => grant(station.station, { seasons });
+  const button = { type: 'button', 'data-key': `add ${station.station}`, onclick: act };
+  return seasons.length ? h('div', {}, h('button', button, 'Add to the licence')) : '';
 }
 
 function why(station, unread) {
@@ -77,9 +77,10 @@ function row(station, top, unread, choose, chosen) {
 // The counts, in the report's sentence, with the stations that were not asked and the lines that are refused.
 export function totals(portfolio, judged) {
   if (!judged.lines.length) return [];
-  const said = counted(portfolio), refused = judged.lines.length - judged.kept.length, none = portfolio.stations.every((one) => one.outside);
-  return [...(none ? [] : [h('b', {}, said.stations), ' ', h('b', { class: 'green' }, said.released), ', ', h('b', { class: 'red' }, said.held),
-    said.open ? `, ${said.open} not asked` : '', `. ${said.lines}; ${said.missing}`]),
+  const said = counted(portfolio), refused = judged.lines.length - judged.kept.length;
+  const counts = [h('b', {}, said.stations), ' ', h('b', { class: 'green' }, said.released), ', ', h('b', { class: 'red' }, said.held),
+    said.open ? `, ${said.open} not asked` : '', `. ${said.lines}; ${said.missing}`];
+  return [...(portfolio.stations.every((one) => one.outside) ? [] : counts),
     refused ? h('b', { class: 'red' }, ` ${refused} line${refused > 1 ? 's are' : ' is'} refused.`) : ''];
 }
 
@@ -93,16 +94,42 @@ function head() {
 const GROUPS = [['Held', (one) => one.released === false], ['Not asked', (one) => one.released === undefined && !one.outside],
   ['Released', (one) => one.released], ['Not in the licence', (one) => one.outside]];
 
+// Rows by station, and the parts of the table: of a station that is as it was its row is left alone.
+let rows = new Map(), parts = null;
+
+function keyOf(station, top, unread, here) {
+  const { name, seasons, wire, area, outside, answer } = station;
+  const refused = ['name', 'wire'].map((field) => refusedAt(station.station, field));
+  return JSON.stringify([top, here, unread.map((line) => line.number), name, seasons, wire, area, outside, answer, refused,
+    station.lines.map((line) => [line.place, line.text]), station.refused.map((line) => [line.number, line.cells[1]])]);
+}
+
+function tableParts() {
+  const bodies = GROUPS.map(() => h('tbody', {}, h('tr', { class: 'grp' }, h('th', { colspan: COLUMNS, scope: 'rowgroup' }))));
+  return { bodies, table: h('table', { class: 'pf' }), heads: [h('caption', { class: 'vh' }, 'Decision for each station'), head()],
+    names: wireNames(), key: h('p', { class: 'key' }) };
+}
+
 // The table; `choose` is called with the line of a chosen station that is nearest its limit.
-export function draw(portfolio, top, choose, chosen) {
-  const bodies = GROUPS.map(([word, test]) => {
-    const list = portfolio.stations.filter(test);
-    return list.length ? h('tbody', {}, h('tr', { class: 'grp' },
-      h('th', { colspan: COLUMNS, scope: 'rowgroup' }, `${word} (${list.length})`)),
-      list.map((one) => row(one, top, portfolio.unread, choose, chosen))) : '';
+function fill(portfolio, top, choose, chosen) {
+  parts ??= tableParts();
+  const now = new Map(portfolio.stations.map((station) => {
+    const key = keyOf(station, top, portfolio.unread, chosen === station.station), had = rows.get(station.station);
+    return [station.station, had?.key === key ? had : { key, tr: row(station, top, portfolio.unread, choose, chosen) }];
+  }));
+  rows = now;
+  const filled = GROUPS.flatMap(([word, test], i) => {
+    const list = portfolio.stations.filter(test), body = parts.bodies[i], [group] = body.rows;
+    group.firstChild.textContent = `${word} (${list.length})`;
+    arrange(body, [group, ...list.map((one) => now.get(one.station).tr)]);
+    return list.length ? [body] : [];
   });
-  const box = byId('stations'), caption = h('caption', { class: 'vh' }, 'Decision for each station');
-  redraw(box, () => show(box, portfolio.stations.length ? [h('table', { class: 'pf' }, caption, head(), bodies), wireNames(),
-    h('p', { class: 'key' }, notes(portfolio).map((one) => `${one} `), KEY)]
-    : h('p', { class: 'key' }, 'No station yet: type or paste lines first.')));
+  arrange(parts.table, [...parts.heads, ...filled]);
+  show(parts.key, notes(portfolio).map((one) => `${one} `), KEY);
+  arrange(byId('stations'), [parts.table, parts.names, parts.key]);
+}
+
+export function draw(portfolio, top, choose, chosen) {
+  const box = byId('stations'), none = () => h('p', { class: 'key' }, 'No station yet: type or paste lines first.');
+  redraw(box, () => (portfolio.stations.length ? fill(portfolio, top, choose, chosen) : show(box, none())));
 }

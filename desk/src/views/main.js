@@ -160,7 +160,7 @@ function wire() {
   }, { passive: true });
   byId('sheet').addEventListener('pointerover', (event) => {
     const td = event.target.closest('td.bad, td.todo');
-    if (td) grid.callout(judged.at.get(Number(td.dataset.r)), judged.lines);
+    if (td) grid.callout(judged.at.get(Number(td.dataset.r)), judged.lines, { row: Number(td.dataset.r), column: Number(td.dataset.c) });
   });
 }
 

@@ -47,8 +47,9 @@ function told(names, yard, one) {
 
 function cell(names, yard) {
   const words = `${pairWords(names, yard.pair)}: ${wordOf(yard)}${yard.now ? ', the present values' : ''}`;
-  return h('td', { role: 'gridcell', class: `${yard.refused ? 'refused' : kindOf(yard)}${yard.now ? ' now' : ''}`, tabindex: -1, title: words,
-    'aria-label': words, 'data-key': `yard ${yard.pair}` }, mark(kindOf(yard)));
+  const kind = `${yard.refused ? 'refused' : kindOf(yard)}${yard.now ? ' now' : ''}`;
+  return h('td', { role: 'gridcell', class: kind, tabindex: -1, title: words, 'aria-label': words, 'data-key': `yard ${yard.pair}` },
+    mark(kindOf(yard)));
 }
 
 // The values over the map are turned, so that a column is no wider than its sign.
@@ -59,8 +60,8 @@ function grid(drawn, one) {
   const unit = (name) => label(name) + (data.labels[name].unit ? `, ${data.labels[name].unit}` : '');
   const rows = drawn.down.map((y, i) => h('tr', {}, head(down, y, 'row'), yards.slice(i * wide, (i + 1) * wide).map((yard) =>
     cell(drawn.names, yard))));
-  return h('table', { class: 'map', role: 'grid', 'aria-label': `Verdicts over ${label(right)} and ${label(down)}: arrows move, Enter takes `
-    + 'both values over' },
+  const words = `Verdicts over ${label(right)} and ${label(down)}: arrows move, Enter takes both values over`;
+  return h('table', { class: 'map', role: 'grid', 'aria-label': words },
   h('thead', {}, h('tr', {}, h('th', { class: 'axes' }, h('span', {}, `→ ${unit(right)}`), h('span', {}, `↓ ${unit(down)}`)),
     drawn.right.map((x) => head(right, x, 'col')))),
   h('tbody', {}, rows));
@@ -110,8 +111,8 @@ export function draw(box, line, station) {
   const spans = names.some(isWide) ? [['near', false], ['whole range', true]] : [];
   const ranges = spans.map(([word, on]) => chip(whole === on, word, () => { kept.whole = on; again(); }, { 'data-key': `map ${word}` }));
   const readout = h('p', { class: 'readout', 'aria-hidden': 'true' });
-  const top = h('div', { class: 'chips low' }, selects(again), ranges.length ? h('span', { role: 'group', 'aria-label': 'Values' }, ranges) : '',
-    readout);
+  const top = h('div', { class: 'chips low' }, selects(again),
+    ranges.length ? h('span', { role: 'group', 'aria-label': 'Values' }, ranges) : '', readout);
   const why = cannotBoth(names, one);
   if (why) return show(box, top, h('p', { class: 'sub pad' }, `Not varied: ${why}.`));
   const width = box.clientWidth || 500, most = Math.max(8, Math.min(MOST_RIGHT, Math.floor((width - HEAD) / LEAST)));

@@ -76,8 +76,9 @@ function measured(id, found, heads, name, line) {
   if (!text) return '';
   if (found.wrong) return wrong(found.wrong);
   const into = line ? `Put ${found.value} into ${name} of line ${line.number}` : '';
-  return [h('p', {}, h('b', {}, found.column)), found.fits ? taking(line ? [line.place] : [], { [name]: found.value }, into, name) : '', ' ',
-    saving(id), notes(found.notes), table(heads, found.rows), name === 'soil' ? plot(found.points) : ''];
+  const put = found.fits ? taking(line ? [line.place] : [], { [name]: found.value }, into, name) : '';
+  return [h('p', {}, h('b', {}, found.column)), put, ' ', saving(id), notes(found.notes), table(heads, found.rows),
+    name === 'soil' ? plot(found.points) : ''];
 }
 
 function yards(line, station) {
@@ -101,7 +102,8 @@ function triedList(one, found, again) {
   const heads = data.site.fewest.head;
   const row = ([lines, space, rods, verdict, near]) => h('tr', { class: verdict }, h('th', { scope: 'row' }, lines),
     h('td', { class: 'num' }, space), h('td', { class: 'num' }, rods), h('td', {}, withWord(verdict)), h('td', {}, near));
-  return h('details', { class: 'tried', open: listing.open, ontoggle: toggle }, h('summary', { 'data-key': 'tried' }, `The ${found.count} tried`),
+  return h('details', { class: 'tried', open: listing.open, ontoggle: toggle },
+    h('summary', { 'data-key': 'tried' }, `The ${found.count} tried`),
     listing.open ? h('div', { class: 'scroll', tabindex: 0, role: 'region', 'aria-label': 'Yards tried' }, h('table', { class: 'data' },
       h('thead', {}, h('tr', {}, heads.map((word, i) => h('th', { scope: 'col', class: i === 1 || i === 2 ? 'num' : '' }, word)))),
       h('tbody', {}, triedTable(one, found).map(row)))) : '');
