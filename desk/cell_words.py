@@ -51,7 +51,10 @@ def refusals():
         raise SystemExit(f"extract: '{bare}' does not end with '{TAIL}'")
     head, tail = template(bare.removesuffix(TAIL), text="424.5", own=whole["soil"], side="up", whole="425").split("; ")
     neither = made(depth="424.5")
+    out = made(split="0.42").removeprefix(template(head, text="{text}", own="{own}").format(text="0.42", own=whole["split"]))
+    outside, other = out.split("; ")
     return {
+        "outside": template(outside, range="1..1000"), "other_unit": "; " + template(other, name="split", allowed=units.allowed("split")),
         "whole": whole, "no_number": template(made(soil="x4242"), text="x4242", own=whole["soil"]),
         "unit": template(made(fault="42 qqq"), text="42 qqq", unit="qqq", name="fault", allowed=units.allowed("fault")),
         "cycles": template(made(shock="42 cycles", hz="55"), text="42 cycles"), "below": template(made(soil="-42"), text="-42"),

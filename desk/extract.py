@@ -27,7 +27,7 @@ def said(number, column, **values):
 
 
 FORMS = {  # a text of each kind that `forms` tells apart, and what of it is quoted
-    "fraction": "42.42", "point": "4242.00", "zero": "04242", "digits": "4242424", "sign": "-4242", "letters": "4242 kA", "other": "x4242",
+    "point": "4242.00", "zero": "04242", "digits": "4242424", "sign": "-4242", "letters": "4242 kA", "other": "x4242",
 }
 
 
@@ -47,6 +47,9 @@ def refusals():
         range_[name] = template(said(5, column, **{name: 424242}), value=424242)
         forms_[name] = {kind: form(column, name, kind, text) for kind, text in FORMS.items()}
         forms_[name]["empty"] = said(3, column, **{name: ""})
+        # a fraction in the column's range, and one above every range
+        forms_[name]["fraction"] = form(column, name, "fraction", f"{names.BY_NAME[name].low}.42")
+        forms_[name]["outside"] = form(column, name, "outside", "424242.42")
     sheet = "\n".join([",".join(HEADER), *[",".join(["4141", "3"] + ["7"] * 20)] * 2, ""]).encode()
     repeated = words.refusal(Refused(7, 3, 0), words.Asked(sheet, line_numbers=[1, 5151, 6161])).split(": ", 1)[1]
     many = words.Asked(b"x\n" + b"1\n" * 300)

@@ -234,6 +234,10 @@ def cells(rng: random.Random):
         if rng.random() < 0.6 and name in units.UNITS:
             own = [*units.UNITS[name], *(["cycles"] if name in ("shock", "clear", "wire") else [])]
             text = shape + rng.choice(("", " ")) + rng.choice(own)
+        if place % 4 == 1:  # in the column's range, where there may be a cautious side
+            text = f"{rng.randint(names.BY_NAME[name].low, names.BY_NAME[name].high)}.{rng.randint(1, 999)}"
+        if place % 32 == 2:
+            name, text = "dia", rng.choice(WELL["dia"])
         text = text.strip(" \t\n\u00a0\u202f\u2007\ufeff")
         line = dict(zip(NAMES, SOUND), layer=str(rng.choice((0, 100, 2500))), soil=str(rng.choice((100, 400, 4000))))
         line["hz"] = rng.choice(("50", "60", "55"))

@@ -144,6 +144,9 @@ class Rounded(unittest.TestCase):
             "line 2, soil (column 3): 187.5 is not a whole number of Ω·m, 10..5000; the cautious side is up",
             "line 2, depth (column 16): 457.2 is not a whole number of mm, 250..2500; no side is cautious: give whole millimetres",
             "line 2, rods (column 18): 1.5 is not a whole number, 0..200"])
+        self.assertEqual(run("check", "-", stdin=changed(split="0.6", xr="40.2")).out.split("\n")[:2], [
+            "line 2, split (column 11): 0.6 is not a whole number per mille, 1..1000; is it in another unit? `hocsimbur import` takes ‰ or %",
+            "line 2, xr (column 12): 40.2 is not a whole number, 1..40"])
 
     def test_command(self):
         done = run("import", "-", "--round", "cautious", stdin=changed(soil="187.5"))

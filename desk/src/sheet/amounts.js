@@ -56,6 +56,12 @@ function sideOf(name, { layer = 0, soil = 0 }) {
   return side === data.cells.by_layer ? (layer > soil ? data.cells.down : data.cells.up) : side;
 }
 
+// Whether a number that is no whole number is out of its column's range: it is probably in another unit, so no side of it is cautious.
+export function outside(name, [upper, lower]) {
+  const { low, high } = BY_NAME[name];
+  return upper < BigInt(low) * lower || upper > BigInt(high) * lower;
+}
+
 // What a cell that is no plain whole number becomes, as `import` has it of a line with this frequency, layer and soil:
 // { digits, change } where it is a whole number of the column's unit; { said, digits, why, side } where it would be rounded to that, with
 // `rounded`, the sentence that reports it; { said } where it cannot be taken.
@@ -67,6 +73,10 @@ export function becomes(text, name, line) {
   if (isWhole(number)) return { digits: String(below(number)), change: changeOf(text, name, value), wire: value.wire };
   const tokens = { text, number: shown(number), unit: BY_NAME[name].unit, own: say.whole[name] }, kind = unit ? 'with_unit' : 'bare';
   const amount = fill(say[kind], tokens), side = sideOf(name, line), { why, advice } = SIDES[name] ?? {};
+  if (outside(name, number)) {
+    const { allowed: range } = BY_NAME[name], other = ALLOWED[name] ? fill(say.other_unit, { name, allowed: ALLOWED[name] }) : '';
+    return { said: `${amount}${fill(say.outside, { range })}${other}`, number: true };
+  }
   if (side === data.cells.neither) return { said: advice ? `${amount}; ${advice}` : amount, number: true };
   const digits = String(below(number) + (side === data.cells.up ? 1n : 0n));
   return {

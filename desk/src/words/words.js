@@ -1,5 +1,6 @@
 // Refusals, margins and values in the product's words.
 import { BY_NAME, NAMES, data, fill } from '../library/data.js';
+import { outside } from '../sheet/amounts.js';
 import { grouped, metres, share, tenths } from './decimals.js';
 
 const LONGEST = 40;
@@ -11,12 +12,18 @@ const KINDS = [
   ['sign', /^[-+\u2212]\p{Nd}+$/u], ['letters', /^[\p{Nd}.]+ ?[\p{L}\p{Nl}\p{No}][^\n]*$/u], ['other', /^/],
 ];
 
+// A text of digits and a point whose number is out of its column's range.
+function isOutside(name, text) {
+  const [before, behind] = text.split('.');
+  return /^[\d.]+$/.test(text) && outside(name, [BigInt(before + behind), 10n ** BigInt(behind.length)]);
+}
+
 function wrongForm(name, text) {
   const two = /^(\d{1,3})[.,](\d{3})$/.exec(text);
   if (two && text.includes(',')) {
     return fill(data.refusals.ambiguous, { text, joined: two[1] + two[2], parted: `${two[1]}.${two[2]}` });
   }
-  const [kind] = KINDS.find(([, form]) => form.test(text));
+  const [form] = KINDS.find(([, one]) => one.test(text)), kind = form === 'fraction' && isOutside(name, text) ? 'outside' : form;
   const whole = kind === 'point' ? cut(text.split('.')[0]) : text.replace(/^0+(?=.)/, '');
   return fill(data.refusals.form[name][kind], { text: cut(text), whole, count: text.length });
 }

@@ -6,7 +6,7 @@ from __future__ import annotations
 import re
 from typing import List, Sequence, Tuple
 
-from . import rounding
+from . import rounding, units
 from .names import BY_NAME
 
 CARRY = "`hocsimbur carry` makes today's sheet of it"
@@ -122,6 +122,9 @@ def _number(text: str, name: str, unit: str, allowed: str) -> str:
         return f"{short(text)} has a decimal point; write {short(text.split('.')[0])}, or let `hocsimbur import` do so"
     if re.fullmatch(r"\d*[.]\d+", text):
         advice = rounding.advice(name)
+        if text.isascii() and units.outside(name, text):
+            taken = units.allowed(name)
+            advice = f"is it in another unit? `hocsimbur import` takes {taken}" if taken else ""
         return f"{short(text)} is not {whole}" + (f"; {advice}" if advice else "")
     if re.fullmatch(r"0\d+", text):
         return f"{short(text)} starts with 0; write {text.lstrip('0') or '0'}"

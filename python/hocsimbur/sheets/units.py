@@ -3,7 +3,7 @@ from __future__ import annotations
 
 import re
 from fractions import Fraction
-from typing import Dict, Optional
+from typing import Dict, Optional, Union
 
 from .names import BY_NAME
 
@@ -55,9 +55,9 @@ def allowed(name: str) -> str:
     return SHOWN.get(name, "")
 
 
-def outside(name: str, number: Fraction) -> str:
+def outside(name: str, number: Union[Fraction, str]) -> str:
     """What is said of a value that is no whole number and out of its column's range, '' of one in the range.
 
     It is mostly in another unit (a split of 0.6, a diameter of 10.5 mm), so no side of it is cautious: 0.6 is not 1 per mille."""
     column = BY_NAME.get(name)
-    return "" if column is None or column.low <= number <= column.high else f"it is not in {column.allowed}"
+    return "" if column is None or column.low <= Fraction(number) <= column.high else f"it is not in {column.allowed}"
