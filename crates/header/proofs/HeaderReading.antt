@@ -8,7 +8,7 @@ use Rattle.text.specs.{Text.{fieldsOf}, declared.Columns.{Columns, the-variants
 use Rattle.text.proofs.{Clash.{clash}, LeftmostWrong.{WrongAt, none-wrong, one-wrong, right-columns, wrong-column}}
 use Rattle.case.specs.{Columns.{Form, nameIndex}, Bounds.{Placed}, Order.{Ordered}}
 use Rattle.header.specs.Header.{noColumns, fresh, wrongName, namesFound, columnsFrom, columnsOf}
-use Rattle.header.specs.{declared.names.Found.the-variants.{At, Nothing}, Parts.{Header, foundName}}
+use Rattle.header.specs.{declared.names.Found.{Found, the-variants.{At, Nothing}}, Parts.{Header, foundName}}
 use Rattle.header.proofs.FreeNames.{free, free-zeros, free-set, free-none, set-under}
 
 -- what the search for a name says of its index
@@ -84,6 +84,14 @@ module _ {form : Form} {all : List (List ℕ)} {at : List ℕ} {fs : List (List 
           wrong-left = a .wrong-left ∙ rw (next, index-is .0, index-is .1, eq-eqb _ 0 e, add-one);
           columns-left = a .columns-left ∙ rw (next, index-is .1, add-one);
         }
+
+  -- past the last column every name has one, so that a further name is unknown or stands further left
+  pub header-surplus : length form < c → wrongName form 1 (noColumns form) all ≡ c
+  header-surplus h = by-search (foundName form t) refl
+    where
+      by-search : (f : Found) → foundName form t ≡ f → wrongName form 1 (noColumns form) all ≡ c
+      by-search Nothing e = header-unknown e
+      by-search (At k) e = header-again e (λ z. omega (arith, header-room e z))
 
 -- no field is left
 module _ {form : Form} {all : List (List ℕ)} {at : List ℕ} {c : ℕ} (a : HeaderAt form all at [] c) where

@@ -1,12 +1,12 @@
 // The names of the columns.
 ghost use mathlib.Core.Path.{_≡_};
 ghost use mathlib.Core.List.{map};
-ghost use Prim.Native.Nat.{_≤_};
+ghost use Prim.Native.Nat.{_≤_, _<_};
 ghost use lib.ListN.{length, take};
 ghost use Rattle.text.specs.Text.{same as sameText};
 ghost use Rattle.case.specs.Columns.{allColumns};
 ghost use Rattle.case.specs.Parts.{formOf};
-ghost use Rattle.header.specs.Parts.{inCode, foundName};
+ghost use Rattle.header.specs.Parts.{nameAt, Spells, inCode, foundName};
 use case::ALL_NAMES;
 use case::Form;
 use case::name_count;
@@ -57,27 +57,25 @@ pub fn all_names() -> [Name; ALL_NAMES]
     TEXTS
 }
 
-// Whether a field is a name, byte for byte.
+// Whether a field is a name, byte for byte. The bytes of a name of another length are not looked at.
 fn is_name(name: Name, s: &[u8]) -> bool
     requires { ⌜ name .1 ≤ length (name .0) ⌝ }
     ensures { λ r. ⌜ r ≡ sameText (now (s .entry)) (take (name .1) (name .0)) ⌝ }
 {
-    let text = name.0;
     let len = name.1;
+    if s.len() != len {
+        return false;
+    }
+    let text = name.0;
     same(s, &text[..len])
 }
 
-// The index of a field's name. The one that is expected is tried first: sheets mostly have the names in the order of the table.
-pub fn name_of(form: Form, expected: usize, s: &[u8]) -> Found
+// The index of a field's name, by a search through the form.
+fn search(form: Form, s: &[u8]) -> Found
     ensures { λ r. ⌜ r ≡ foundName (formOf form) (now (s .entry)) ⌝ }
 {
     let names = all_names();
     let n = name_count(form);
-    if expected < n {
-        if is_name(names[place(form, expected)], s) {
-            return Found::At(expected);
-        }
-    }
     let mut k = 0;
     while k < n {
         if is_name(names[place(form, k)], s) {
@@ -86,4 +84,17 @@ pub fn name_of(form: Form, expected: usize, s: &[u8]) -> Found
         k += 1;
     }
     Found::Nothing
+}
+
+// The index of a field's name. The one that is expected, with index k, is tried first: sheets mostly have the names in the order of the
+// table.
+pub fn name_of(form: Form, expected: Name, k: usize, s: &[u8]) -> Found
+    requires { ⌜ k < length (formOf form) ⌝ }
+    requires { ⌜ Spells (expected .0) (expected .1) (nameAt (formOf form) k) ⌝ }
+    ensures { λ r. ⌜ r ≡ foundName (formOf form) (now (s .entry)) ⌝ }
+{
+    if is_name(expected, s) {
+        return Found::At(k);
+    }
+    search(form, s)
 }
