@@ -9,7 +9,7 @@ square {c} b e =
     record {
       n-is = kept.n-whole c e;
       side = kept.s-side c e;
-      conductor-length = kept.conductors c e;
+      lc = kept.conductors c e;
       na-is = kept.na-whole c e b;
       diagonal-is = kept.diagonal-square c e;
       Kii = kept.weight-root c e;

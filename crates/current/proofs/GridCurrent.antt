@@ -11,8 +11,8 @@ use Rattle.enclosure.{specs.Enclosure.{Encloses}, proofs.{Basics.{encloses-outw
 use Rattle.case.specs.{declared.Case.{Case}, Bounds.{Between, Bounds}}
 use Rattle.formulas.{specs.{Current.{IG}, Width.{μA, billionths, currentWidth}}, proofs.Decrement.{consistent-Df}}
 use Rattle.formulas.proofs.Quantities.{quantity-IG}
-use Rattle.decrement.{specs.Ends.{factorEnds}, proofs.{Widths.{factor-span}, Right.{encloses-Df}}}
-use Rattle.current.specs.Ends.{currentEnds, upperFactor}
+use Rattle.decrement.{specs.Ends.{dfEnds}, proofs.{Widths.{factor-span}, Right.{encloses-Df}}}
+use Rattle.current.specs.Ends.{igEnds, upperFactor}
 
 -- a to b, from 10^9 and at most 500 apart, times k over 10^6 and rounded to L and U
 near : (k a b L U : ℕ) → b ≤ a + 500 → 1000000000 ≤ a → U * 10 ^ 6 < b * k + 10 ^ 6 → a * k < L * 10 ^ 6 + 10 ^ 6
@@ -41,26 +41,26 @@ module _ {c : Case} (b : Bounds c) where
   pub entering-bounds : Between 100 (c .fault * c .split) 80000000
   entering-bounds = record { low = mul-le-mul (b .fault .low) (b .split .low); high = mul-le-mul (b .fault .high) (b .split .high) }
 
-  pub entering-span : Span (scaledOf (factorEnds c) (c .fault * c .split)) 100000000000 178885440000000000 40000000000
+  pub entering-span : Span (scaledOf (dfEnds c) (c .fault * c .split)) 100000000000 178885440000000000 40000000000
   entering-span =
       let k = entering-bounds in
       span-wider (span-scaled (c .fault * c .split) (factor-span b)) (omega (arith, k .low)) (omega (arith, k .high))
       (omega (arith, k .high))
 
-  pub current-encloses : Encloses (IG c) μA (currentEnds c)
-  unfolding IG currentEnds μA billionths ten
+  pub current-encloses : Encloses (IG c) μA (igEnds c)
+  unfolding IG igEnds μA billionths ten
   current-encloses =
       encloses-outward {u = ten 12} (ten 6) (10 ^ 6) refl
       (encloses-multiple (c .fault * c .split) (ten 3) (ten 12) refl (entering-is (c .fault) (c .split)) (consistent-Df b) (encloses-Df b))
 
   -- from 0.1 A to 178,885.44 A
-  pub current-span : Span (currentEnds c) 100000 178885440000 40001
-  unfolding currentEnds
+  pub current-span : Span (igEnds c) 100000 178885440000 40001
+  unfolding igEnds
   current-span = numeral-outward (10 ^ 6) 100000 178885440000 40000 (lits tt) entering-span
 
   -- the ends are at most 1/2,000,000 of the lower end and 2 apart
-  pub current-relative : Relative (currentEnds c) 2000000 2
-  unfolding currentEnds
+  pub current-relative : Relative (igEnds c) 2000000 2
+  unfolding igEnds
   current-relative =
       let s = factor-span b in
       let k = c .fault * c .split in
@@ -71,7 +71,7 @@ module _ {c : Case} (b : Bounds c) where
         near = near k (s .a) (s .b) _ _ (s .near) (s .from) (ceilDiv-below (s .b * k) (lit< tt)) (floorDiv-above (s .a * k) (lit< tt));
       }
 
-  pub current-reports : Reports (IG c) μA currentWidth (currentEnds c)
+  pub current-reports : Reports (IG c) μA currentWidth (igEnds c)
   current-reports =
       let r = current-relative in
       reports currentWidth (quantity-IG b .consistent) current-encloses (rw (r .is) (within-allowed (r .a) (r .b) (r .near)))

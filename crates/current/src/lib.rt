@@ -3,7 +3,7 @@ mod grid;
 mod metal;
 mod size;
 
-pub use grid::grid_current;
+pub use grid::ig;
 pub use metal::Constant;
 pub use metal::Metal;
 pub use size::conductor_size;

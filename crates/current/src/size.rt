@@ -3,7 +3,7 @@ ghost use mathlib.Core.Path.{_≡_};
 ghost use Prim.Native.Nat.{_*_, _≤_, _<_, _^_};
 ghost use Rattle.case.specs.Bounds.{Bounds};
 ghost use Rattle.formulas.specs.Size.{duty, size};
-ghost use Rattle.decrement.specs.Ends.{factorEnds};
+ghost use Rattle.decrement.specs.Ends.{dfEnds};
 ghost use Rattle.current.specs.Ends.{upperFactor};
 ghost use Rattle.current.specs.Size.{carriedOf, squareOf, Parts, squareLoad, IsSmallest};
 use crate::metal::Constant;
@@ -15,7 +15,7 @@ use interval::root::isqrt;
 // I in 10^-9 A, by the upper end of the case's decrement factor.
 fn fault_current(c: Case, factor: Interval) -> u64
     requires { ⌜ Bounds c ⌝ }
-    requires { ⌜ factor ≡ factorEnds c ⌝ }
+    requires { ⌜ factor ≡ dfEnds c ⌝ }
     ensures { λ r. ⌜ r ≡ c .fault * upperFactor c ⌝ }
 {
     (c.fault as u64) * (factor.upper as u64)
@@ -24,7 +24,7 @@ fn fault_current(c: Case, factor: Interval) -> u64
 // I·Kf in units of 10^-14.
 fn load(c: Case, factor: Interval) -> u64
     requires { ⌜ Bounds c ⌝ }
-    requires { ⌜ factor ≡ factorEnds c ⌝ }
+    requires { ⌜ factor ≡ dfEnds c ⌝ }
     ensures { λ r. ⌜ r ≡ duty c (upperFactor c) ⌝ }
 {
     let current = fault_current(c, factor);
@@ -91,7 +91,7 @@ fn smallest_square(t: u64) -> u64
 // The conductor size in kcmil, for the case's decrement factor.
 pub fn conductor_size(c: Case, factor: Interval) -> u64
     requires { ⌜ Bounds c ⌝ }
-    requires { ⌜ factor ≡ factorEnds c ⌝ }
+    requires { ⌜ factor ≡ dfEnds c ⌝ }
     ensures { λ r. ⌜ r ≡ size c (upperFactor c) ⌝ }
 {
     smallest_square(square_load(load(c, factor), c.wire as u64))

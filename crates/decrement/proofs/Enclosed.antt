@@ -25,7 +25,7 @@ use Rattle.formulas.specs.Decrement.{Ta, tf, Df}
 use Rattle.formulas.proofs.Decrement.{exponent, ratio, rest, offset, underRoot, two-pos, xr-pos, tf-pos, twice-pos, quantity-turns}
 use Rattle.formulas.proofs.Decrement.{quantity-Ta, quantity-ratio, quantity-exponent, consistent-power, consistent-rest, consistent-offset}
 use Rattle.formulas.proofs.Quantities.{one}
-use Rattle.decrement.specs.Ends.{exponentEnds, ratioEnds, restEnds, squareEnds, factorEnds}
+use Rattle.decrement.specs.Ends.{exponentEnds, ratioEnds, restEnds, squareEnds, dfEnds}
 
 -- ---- a divisor that is itself a quotient
 
@@ -189,6 +189,6 @@ module _ {c : Case} (b : Bounds c) where
     unfolding squareEnds ten
     square-encloses = encloses-sum (one .consistent) (consistent-offset b) (encloses-whole 1 (ten 9) refl) offset-encloses
 
-    pub factor-encloses : {l′ h′ w′ : ℕ} → Span (squareEnds c) l′ h′ w′ → Encloses (Df c) (ten 9) (factorEnds c)
-    unfolding Df factorEnds
+    pub factor-encloses : {l′ h′ w′ : ℕ} → Span (squareEnds c) l′ h′ w′ → Encloses (Df c) (ten 9) (dfEnds c)
+    unfolding Df dfEnds
     factor-encloses t = root-encloses t square-encloses

@@ -7,7 +7,7 @@ use Rattle.exact.specs.{Fraction.{decimal, _+f_, neg, _−f_}, Reported.{ten, o
 use Rattle.enclosure.{specs.Enclosure.{Encloses}, proofs.Reporting.{reports}}
 use Rattle.case.specs.{declared.Case.{Case}, Bounds.{Bounds}}
 use Rattle.formulas.{specs.{Decrement.{Df}, Width.{billionths, factorWidth}}, proofs.Decrement.{consistent-Df}}
-use Rattle.decrement.specs.Ends.{factorEnds}
+use Rattle.decrement.specs.Ends.{dfEnds}
 use Rattle.decrement.proofs.{Enclosed.{factor-encloses}, Spans.{exponent-span}, Widths.{square-span, factor-span}}
 
 within-allowed : (a b : ℕ) → b ≤ a + 500 → AtMost (factorWidth (reported billionths (natural a b))) (reported billionths (natural a b))
@@ -15,11 +15,11 @@ unfolding factorWidth billionths reported ten over natural decimal _+f_ _−f_ n
 within-allowed a b h = record { apart = record { le = omega arith } }
 
 module _ {c : Case} (b : Bounds c) where
-  pub encloses-Df : Encloses (Df c) billionths (factorEnds c)
+  pub encloses-Df : Encloses (Df c) billionths (dfEnds c)
   unfolding billionths
   encloses-Df = factor-encloses b (lit≤ tt) (lit≤ tt) (lit≤ tt) (exponent-span b) (square-span b)
 
-  pub factor-reports : Reports (Df c) billionths factorWidth (factorEnds c)
+  pub factor-reports : Reports (Df c) billionths factorWidth (dfEnds c)
   factor-reports =
       let s = factor-span b in
       reports factorWidth (consistent-Df b) encloses-Df (rw (s .is) (within-allowed (s .a) (s .b) (s .near)))

@@ -11,7 +11,7 @@ use Rattle.enclosure.{specs.SquareRoot.{squareRoot}, proofs.SquareRoot.{square-
 use Rattle.exponential.specs.Ends.{billion, unit, large, halvingsOf, argumentOf, nestedOf, seriesOf, inverseOf, squaredOf, endOf}
 use Rattle.exponential.proofs.Sizes.{halvings-reach, halvings-least, nested-size, series-least}
 use Rattle.case.specs.{declared.Case.{Case}, Bounds.{Bounds}}
-use Rattle.decrement.specs.Ends.{ratioEnds, restEnds, squareEnds, factorEnds}
+use Rattle.decrement.specs.Ends.{ratioEnds, restEnds, squareEnds, dfEnds}
 use Rattle.decrement.proofs.Spans.{exponentLow, exponentHigh, ratioHigh, powerWidth, restHigh, low-to, low-high, ends-near}
 use Rattle.decrement.proofs.Spans.{ratio-high, ratio-most, ratio-span, power-width, rest-high-is, rest-high-span, rest-most}
 
@@ -130,8 +130,8 @@ module _ {c : Case} (h : Bounds c) where
   square-span = numeral-wider (span-sum (numeral-point billion {l = billion} {h = billion} (lits tt)) product-span) (lits tt)
 
   -- from 1 to √5, and at most 500 billionths wide
-  pub factor-span : Span (factorEnds c) billion 2236068000 500
-  unfolding factorEnds natural
+  pub factor-span : Span (dfEnds c) billion 2236068000 500
+  unfolding dfEnds natural
   factor-span =
       let s = square-span in
       let r = square-root (s .a * 10 ^ 9) in

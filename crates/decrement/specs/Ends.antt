@@ -26,5 +26,5 @@ module _ (c : Case) where
   squareEnds = sumOf (point (pos (10 ^ 9))) (productOf restEnds ratioEnds (10 ^ 9))
 
   -- Df in 10^−9
-  unfoldable pub factorEnds : Interval
-  factorEnds = natural (squareRoot (natAbs (squareEnds .lower) * 10 ^ 9)) (squareRoot (natAbs (squareEnds .upper) * 10 ^ 9) + 1)
+  unfoldable pub dfEnds : Interval
+  dfEnds = natural (squareRoot (natAbs (squareEnds .lower) * 10 ^ 9)) (squareRoot (natAbs (squareEnds .upper) * 10 ^ 9) + 1)

@@ -1,7 +1,7 @@
 // The decrement factor by IEEE Std 80-2013, equation 84, as a pair of ends in billionths.
 ghost use mathlib.Core.Path.{_≡_};
 ghost use Rattle.case.specs.Bounds.{Bounds};
-ghost use Rattle.decrement.specs.Ends.{exponentEnds, squareEnds, factorEnds};
+ghost use Rattle.decrement.specs.Ends.{exponentEnds, squareEnds, dfEnds};
 use case::Case;
 use enclosure::pi;
 use exponential::exp_pair;
@@ -31,9 +31,9 @@ fn square(c: Case) -> Interval
 }
 
 // Df in 10^-9.
-pub fn factor_ends(c: Case) -> Interval
+pub fn df(c: Case) -> Interval
     requires { ⌜ Bounds c ⌝ }
-    ensures { λ r. ⌜ r ≡ factorEnds c ⌝ }
+    ensures { λ r. ⌜ r ≡ dfEnds c ⌝ }
 {
     let s = square(c);
     Interval::natural(

@@ -13,7 +13,7 @@ use Rattle.case.specs.{declared.Case.{Case}, Bounds.{Bounds}}
 use Rattle.formulas.{specs.{Lengths.{ρ, na}, Width.{μA, referenceKi}}, proofs.Positive.{decimal-nonneg, ρ-pos, na-pos}}
 use Rattle.effective_number.{specs.Counts.{spacings, halfPerimeter}, proofs.{Table.{number-known}, NumberSpans.{half-bounds}}}
 use Rattle.effective_number.proofs.NumberEnclosed.{counts, na-is}
-use Rattle.current.specs.Ends.{currentEnds}
+use Rattle.current.specs.Ends.{igEnds}
 use Rattle.drive.proofs.Spans.{currentLow, currentHigh, current-is, current-order, low, low-below}
 
 -- p/q
@@ -37,7 +37,7 @@ amperes-nonneg g = record { le = omega arith }
 module _ {c : Case} (b : Bounds c) where
   -- the upper end of the current, in amperes
   abbrev upperCurrent : Fraction
-  upperCurrent = reported μA (currentEnds c) .upper
+  upperCurrent = reported μA (igEnds c) .upper
 
   upper-is : upperCurrent ≡ over (pos (currentHigh b)) (ten 6)
   unfolding reported μA natural
@@ -90,7 +90,7 @@ module _ {c : Case} (b : Bounds c) where
     -- the width that §5.8 allows, from a share of the lower end over the length and an extra
     pub reference-width : {q share extra : Fraction} {A : Ends} → whole 0 ≤f share → share ·f decimal 124 2 ≤f decimal 1 5
         → extra ≤f decimal 10 3 → q ≤f over (pos (low b)) (ten 9) ÷f len → AtMost (share ·f q +f extra) A
-        → AtMost (decimal 1 5 ·f (ρ c ·f referenceKi c ·f reported μA (currentEnds c) .upper ÷f len) +f decimal 10 3) A
+        → AtMost (decimal 1 5 ·f (ρ c ·f referenceKi c ·f reported μA (igEnds c) .upper ÷f len) +f decimal 10 3) A
     unfolding reference
     reference-width {share = share} n s e h w =
         record {

@@ -8,10 +8,10 @@ use Rattle.interval.{specs.{Operations.{natural}, Span.{Span}, Wide.{Wide}}, pr
 use Rattle.interval.proofs.{Span.{floor≤ceil, span-natural, span-wider, span-scaled}, Relatives.{relative-ends, relative-span}}
 use Rattle.interval.proofs.WidePairs.{wide-fits}
 use Rattle.case.specs.{declared.Case.{Case}, Bounds.{Bounds}}
-use Rattle.effective_number.{specs.{Counts.{spacings}, Number.{KiEnds}}, proofs.Table.{nLow, nHigh, number-known}}
+use Rattle.effective_number.{specs.{Counts.{spacings}, Number.{kiEnds}}, proofs.Table.{nLow, nHigh, number-known}}
 use Rattle.effective_number.proofs.{NumberSpans.{Ki-is, Ki-span}, NumberEnclosed.{counts}}
-use Rattle.lengths.specs.Lengths.{sideOf, conductorLength}
-use Rattle.current.{specs.Ends.{currentEnds}, proofs.GridCurrent.{current-span, current-relative}}
+use Rattle.lengths.specs.Lengths.{sideOf, lcMm}
+use Rattle.current.{specs.Ends.{igEnds}, proofs.GridCurrent.{current-span, current-relative}}
 use Rattle.drive.specs.Ends.{numberOf, soilCurrent, driveEnds}
 
 -- Ki times ρ·IG, rounded to A and B: k x and l y, with Ki's ends k to l at most 1/31,000,000 apart and the current's at most 1/2,000,000
@@ -34,7 +34,7 @@ module _ {c : Case} (b : Bounds c) where
   pub currentHigh : ℕ
   currentHigh = current-span b .b
 
-  pub current-is : currentEnds c ≡ natural currentLow currentHigh
+  pub current-is : igEnds c ≡ natural currentLow currentHigh
   unfolding currentLow currentHigh
   current-is = current-span b .is
 
@@ -65,7 +65,7 @@ module _ {c : Case} (b : Bounds c) where
   unfolding currentHigh
   soil-current-most = mul-le-mul (current-span b .to) (b .soil .high)
 
-  pub drive-wide : Wide (KiEnds (numberOf c)) (soilCurrent c) (10 ^ 7)
+  pub drive-wide : Wide (kiEnds (numberOf c)) (soilCurrent c) (10 ^ 7)
   drive-wide = wide-fits (10 ^ 7) 89442720 (lit< tt) (lit< tt) (lit≤ tt) (lit< tt) (Ki-span (counts b)) soil-current-span
 
   -- ---- the ends
@@ -106,18 +106,18 @@ module _ {c : Case} (b : Bounds c) where
 
   -- ---- against the conductors: Ki is at most 0.235 of them in spacings
 
-  length-is : conductorLength c ≡ spacings (c .across) (c .along) * c .space
-  unfolding conductorLength sideOf spacings
+  length-is : lcMm c ≡ spacings (c .across) (c .along) * c .space
+  unfolding lcMm sideOf spacings
   length-is = omega arith
 
   -- Ki by the length of the conductors
-  Ki-by-length : l ≤ 940000 * conductorLength c
+  Ki-by-length : l ≤ 940000 * lcMm c
   unfolding l
   Ki-by-length =
       let p = spacings (c .across) (c .along) in
       omega (arith, number-known (counts b) .by-length, length-is, mul-le-mul-left p (b .space .low))
 
-  pub drive-by-length : high ≤ 84076156800 * (1000 * conductorLength c)
+  pub drive-by-length : high ≤ 84076156800 * (1000 * lcMm c)
   unfolding high
   drive-by-length = ceilDiv-by _ (lit< tt) (omega (arith, mul-le-mul Ki-by-length soil-current-most))
 
@@ -136,9 +136,9 @@ module _ {c : Case} (b : Bounds c) where
   drive-span = rw drive-is (span-natural low high (omega arith) drive-order drive-high (omega (arith, drive-high)))
 
   -- the ends are at most 1/1,870,000 of the lower end, 3, and 940 for each mm of the conductors apart
-  pub drive-near : 1870000 * high ≤ 1870001 * low + 1870000 * (3 + 940 * conductorLength c)
+  pub drive-near : 1870000 * high ≤ 1870001 * low + 1870000 * (3 + 940 * lcMm c)
   unfolding low high
   drive-near =
-      near k l (currentLow * c .soil) (currentHigh * c .soil) (c .soil) _ _ (conductorLength c) Ki-near
+      near k l (currentLow * c .soil) (currentHigh * c .soil) (c .soil) _ _ (lcMm c) Ki-near
       (omega (arith, mul-le-mul-right (c .soil) current-near)) (omega (arith, mul-le-mul Ki-by-length (b .soil .high)))
       (ceilDiv-below _ (lit< tt)) (floorDiv-above _ (lit< tt))

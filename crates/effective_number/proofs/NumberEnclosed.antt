@@ -17,7 +17,7 @@ use Rattle.case.specs.{declared.Case.{Case}, Bounds.{Bounds}}
 use Rattle.formulas.specs.Lengths.{D, Lx, Ly, Lc, Lp, area, √area, na, nb, n, Ki}
 use Rattle.formulas.proofs.{Conductors.{by-both, quantity-√area, quantity-divisor, quantity-nb, quantity-n}, Positive.{Lp-pos, na-pos}}
 use Rattle.effective_number.specs.Counts.{Counts, spacings, halfPerimeter, meshes}
-use Rattle.effective_number.specs.Number.{ratioLow, ratioHigh, meshRoot, nbEnds, productEnds, nEnds, KiEnds}
+use Rattle.effective_number.specs.Number.{ratioLow, ratioHigh, meshRoot, nbEnds, productEnds, nEnds, kiEnds}
 use Rattle.effective_number.proofs.{Table.{roots-known}, NumberSpans.{half-bounds, mesh-root-is}}
 
 pub counts : {c : Case} → Bounds c → Counts (c .across) (c .along)
@@ -184,8 +184,8 @@ module _ {c : Case} (b : Bounds c) where
 
   -- ---- Ki
 
-  pub Ki-encloses : Encloses (Ki c) (ten 10) (KiEnds (nEnds (c .across) (c .along)))
-  unfolding Ki KiEnds ten
+  pub Ki-encloses : Encloses (Ki c) (ten 10) (kiEnds (nEnds (c .across) (c .along)))
+  unfolding Ki kiEnds ten
   Ki-encloses =
       let q = quantity-n b in
       encloses-sum (consistent-exactly _) (consistent-product (consistent-exactly _) (q .consistent))

@@ -10,7 +10,7 @@ use Rattle.interval.proofs.Span.{span-natural}
 use Rattle.enclosure.proofs.SquareRoot.{square-root-is}
 use Rattle.case.specs.Bounds.{Between}
 use Rattle.effective_number.specs.Counts.{Counts, spacings, halfPerimeter}
-use Rattle.effective_number.specs.Number.{meshRoot, nbEnds, productEnds, nEnds, KiEnds}
+use Rattle.effective_number.specs.Number.{meshRoot, nbEnds, productEnds, nEnds, kiEnds}
 use Rattle.effective_number.proofs.Table.{rootAt, nbLow, nbHigh, nLow, nHigh, roots-known, number-known}
 
 module _ {a b : ℕ} (h : Counts a b) where
@@ -71,13 +71,13 @@ module _ {a b : ℕ} (h : Counts a b) where
 
   -- ---- Ki
 
-  pub Ki-is : KiEnds (nEnds a b) ≡ natural (6440000000 + nLow a b * 148) (6440000000 + nHigh a b * 148)
-  unfolding KiEnds
+  pub Ki-is : kiEnds (nEnds a b) ≡ natural (6440000000 + nLow a b * 148) (6440000000 + nHigh a b * 148)
+  unfolding kiEnds
   Ki-is =
       rw (n-is, natural-scaled (nLow a b) (nHigh a b) 148, point-natural 6440000000)
       (natural-sum 6440000000 6440000000 (nLow a b * 148) (nHigh a b * 148))
 
-  pub Ki-span : Span (KiEnds (nEnds a b)) 9400000000 43440000000 296
+  pub Ki-span : Span (kiEnds (nEnds a b)) 9400000000 43440000000 296
   Ki-span =
       let k = number-known h in
       rw Ki-is

@@ -35,5 +35,5 @@ module _ (a b : ℕ) where
   nEnds = cond (eqb a b) (point (pos (a * 10 ^ 7))) productEnds
 
 -- Ki in 10^−10
-unfoldable pub KiEnds : Interval → Interval
-KiEnds n = sumOf (point (pos 6440000000)) (scaledOf n 148)
+unfoldable pub kiEnds : Interval → Interval
+kiEnds n = sumOf (point (pos 6440000000)) (scaledOf n 148)

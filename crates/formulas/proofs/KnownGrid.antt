@@ -39,9 +39,9 @@ module _ (season soil across along rods rodlen place : ℕ) where
       (factor-500-10 (grid season soil across along rods rodlen place)) tt
 
   -- Kh
-  pub depth-factor : Known (Kh (grid season soil across along rods rodlen place)) (digits 12 1224744871391 1224744871392)
+  pub kh : Known (Kh (grid season soil across along rods rodlen place)) (digits 12 1224744871391 1224744871392)
   unfolding tests lengths Kh
-  depth-factor = known-root _ 1224744871391 1224744871392 (known-exactly _) tt
+  kh = known-root _ 1224744871391 1224744871392 (known-exactly _) tt
 
   -- ln G
   pub log-argument : Known (ln (exactly (G (grid season soil across along rods rodlen place)))) (digits 12 6571283042359 6571283042361)

@@ -8,7 +8,7 @@ use Rattle.formulas.specs.{Resistance.{resistance}, Yards.{grid, rectang
 use Rattle.formulas.proofs.Quantities.{consistent-logarithm, consistent-halvings}
 use Rattle.formulas.proofs.Known.{Known, digits, rounded, known-exactly, known-sum, known-difference, known-product, known-quotient}
 use Rattle.formulas.proofs.KnownFunctions.{known-root, known-ln-up, known-ln-down, known-exp-minus, known-π, tests}
-use Rattle.formulas.proofs.KnownGrid.{known-voltage, lengths, turn, root-20, current, depth-factor, log-argument}
+use Rattle.formulas.proofs.KnownGrid.{known-voltage, lengths, turn, root-20, current, kh, log-argument}
 
 -- ---- with any rods
 
@@ -66,7 +66,7 @@ Km-rods =
     known-quotient (digits 12 767493770347 767493770351)
     (known-sum (digits 12 4822305581199 4822305581215) (log-argument 1 400 10 13 38 10000 1)
     (known-product (minusEnds (digits 12 1748977461146 1748977461160))
-    (known-quotient (digits 12 816496580927 816496580929) (known-exactly _) (depth-factor 1 400 10 13 38 10000 1) tt)
+    (known-quotient (digits 12 816496580927 816496580929) (known-exactly _) (kh 1 400 10 13 38 10000 1) tt)
     (known-ln-down 3 (minusEnds (digits 12 2142051175721 2142051175731))
     (known-quotient (digits 12 117413759600 117413759601) (known-exactly _)
     (known-product (digits 12 68135114889335 68135114889487) known-π
@@ -129,7 +129,7 @@ Km-rodless b =
     known-quotient (digits 12 885316436840 885316436845)
     (known-sum (digits 12 5562607228163 5562607228184) (log-argument 1 400 10 13 0 0 0)
     (known-product (minusEnds (digits 12 1008675814177 1008675814196))
-    (known-quotient (digits 12 470892491090 470892491096) (Kii-rodless b) (depth-factor 1 400 10 13 0 0 0) tt)
+    (known-quotient (digits 12 470892491090 470892491096) (Kii-rodless b) (kh 1 400 10 13 0 0 0) tt)
     (known-ln-down 3 (minusEnds (digits 12 2142051175721 2142051175731))
     (known-quotient (digits 12 117413759600 117413759601) (known-exactly _)
     (known-product (digits 12 68135114889335 68135114889487) known-π

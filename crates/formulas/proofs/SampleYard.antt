@@ -7,7 +7,7 @@ use Rattle.formulas.specs.{Mesh.{innerWeight, Kii, Km, LM, mesh}, Step.{
 use Rattle.formulas.specs.Yards.{grid, sample, wet}
 use Rattle.formulas.proofs.Known.{Known, digits, rounded, known-exactly, known-sum, known-difference, known-product, known-quotient}
 use Rattle.formulas.proofs.KnownFunctions.{known-root, known-ln-down, known-π, tests}
-use Rattle.formulas.proofs.KnownGrid.{known-voltage, lengths, turn, root-20, current, depth-factor, log-argument}
+use Rattle.formulas.proofs.KnownGrid.{known-voltage, lengths, turn, root-20, current, kh, log-argument}
 
 -- ---- what the two lines of the sample sheet have in common
 
@@ -33,7 +33,7 @@ module _ (season soil : ℕ) where
       known-quotient (digits 12 889558591669 889558591673)
       (known-sum (digits 12 5589261473056 5589261473070) (log-argument season soil 11 11 0 0 0)
       (known-product (minusEnds (digits 12 982021569291 982021569303))
-      (known-quotient (digits 12 465454806527 465454806530) Kii-sample (depth-factor season soil 11 11 0 0 0) tt)
+      (known-quotient (digits 12 465454806527 465454806530) Kii-sample (kh season soil 11 11 0 0 0) tt)
       (known-ln-down 3 (minusEnds (digits 12 2109810781887 2109810781897))
       (known-quotient (digits 12 121260909022 121260909023) (known-exactly _)
       (known-product (digits 12 65973445725385 65973445725386) known-π

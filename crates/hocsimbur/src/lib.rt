@@ -6,7 +6,7 @@ use case::judge;
 pub use conversion::Carried;
 pub use conversion::carry;
 pub use conversion::carry_back;
-use decrement::factor_ends;
+use decrement::df;
 pub use headroom::Room;
 pub use headroom::headroom;
 // A pair of ends, offered for its two numbers. Its methods, which require conditions on their arguments, are for the crates below and not
@@ -64,7 +64,7 @@ pub fn decrement_factor(c: Case) -> Pair
     ensures { λ r. ⌜ FactorAnswered c r ⌝ }
 {
     match judge(c) {
-        Judged::Sound => Pair::Ends(factor_ends(c)),
+        Judged::Sound => Pair::Ends(df(c)),
         Judged::Refused(number, line, column) => Pair::Refused(number, line, column),
     }
 }
@@ -74,7 +74,7 @@ pub fn conductor_size(c: Case) -> SizeAnswer
     ensures { λ r. ⌜ SizeAnswered c r ⌝ }
 {
     match judge(c) {
-        Judged::Sound => SizeAnswer::Is(current::conductor_size(c, factor_ends(c))),
+        Judged::Sound => SizeAnswer::Is(current::conductor_size(c, df(c))),
         Judged::Refused(number, line, column) => SizeAnswer::Refused(number, line, column),
     }
 }

@@ -6,7 +6,7 @@ use Rattle.exact.{specs.Fraction.{Fraction, _≈f_, whole, decimal, _+f_, _·f_
 use Rattle.exact.proofs.Products.{cong·}
 use Rattle.case.specs.{declared.Case.{Case}, Bounds.{Between, Bounds, Rodless, Rodded}}
 use Rattle.formulas.specs.Lengths.{D, Lr, Lx, Ly, Lc, LR, LT}
-use Rattle.lengths.specs.Lengths.{sideOf, sideX, sideY, conductorLength, rodLength, totalLength}
+use Rattle.lengths.specs.Lengths.{sideOf, sideX, sideY, lcMm, lrMm, ltMm}
 
 -- ---- bounds
 
@@ -34,8 +34,8 @@ module _ {c : Case} (b : Bounds c) where
   pub along-bounds : Between 5000 (c .along * sideX c) 18000000
   along-bounds = part-bounds (b .along) x-bounds
 
-  pub conductor-bounds : Between 10000 (conductorLength c) 36000000
-  unfolding conductorLength
+  pub conductor-bounds : Between 10000 (lcMm c) 36000000
+  unfolding lcMm
   conductor-bounds =
       record { low = omega (arith, across-bounds .low, along-bounds .low); high = omega (arith, across-bounds .high, along-bounds .high) }
 
@@ -45,12 +45,12 @@ module _ {c : Case} (b : Bounds c) where
   pub rodlen-high : c .rodlen ≤ 10000
   rodlen-high = ⊎-elim (λ (r : Rodless c). omega (arith, r .rodlen)) (λ (r : Rodded c). r .rodlen .high) (b .rods)
 
-  pub rod-bound : rodLength c ≤ 2000000
-  unfolding rodLength
+  pub rod-bound : lrMm c ≤ 2000000
+  unfolding lrMm
   rod-bound = mul-le-mul rods-high rodlen-high
 
-  pub total-bounds : Between 10000 (totalLength c) 38000000
-  unfolding totalLength
+  pub total-bounds : Between 10000 (ltMm c) 38000000
+  unfolding ltMm
   total-bounds = record { low = omega (arith, conductor-bounds .low); high = omega (arith, conductor-bounds .high, rod-bound) }
 
 -- ---- the formulas' lengths
@@ -76,16 +76,16 @@ module _ (c : Case) where
   part-is : (count side : ℕ) {q : Fraction} → q ≈f decimal side 3 → whole count ·f q ≈f decimal (count * side) 3
   part-is count side e = trans≈ (cong· (refl≈ (whole count)) e) (times-decimal count side 3)
 
-  pub conductor-is : Lc c ≈f decimal (conductorLength c) 3
-  unfolding Lc conductorLength
+  pub conductor-is : Lc c ≈f decimal (lcMm c) 3
+  unfolding Lc lcMm
   conductor-is =
       trans≈ (cong+ (part-is (c .across) (sideY c) y-is) (part-is (c .along) (sideX c) x-is))
       (add-decimal (c .across * sideY c) (c .along * sideX c))
 
-  pub rod-is : LR c ≈f decimal (rodLength c) 3
-  unfolding LR Lr rodLength
+  pub rod-is : LR c ≈f decimal (lrMm c) 3
+  unfolding LR Lr lrMm
   rod-is = times-decimal (c .rods) (c .rodlen) 3
 
-  pub total-is : LT c ≈f decimal (totalLength c) 3
-  unfolding LT totalLength
-  total-is = trans≈ (cong+ conductor-is rod-is) (add-decimal (conductorLength c) (rodLength c))
+  pub total-is : LT c ≈f decimal (ltMm c) 3
+  unfolding LT ltMm
+  total-is = trans≈ (cong+ conductor-is rod-is) (add-decimal (lcMm c) (lrMm c))

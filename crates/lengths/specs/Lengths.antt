@@ -14,11 +14,11 @@ module _ (c : Case) where
   abbrev pub sideY : ℕ
   sideY = sideOf (c .along) (c .space)
 
-  unfoldable pub conductorLength : ℕ
-  conductorLength = c .across * sideY + c .along * sideX
+  unfoldable pub lcMm : ℕ
+  lcMm = c .across * sideY + c .along * sideX
 
-  unfoldable pub rodLength : ℕ
-  rodLength = c .rods * c .rodlen
+  unfoldable pub lrMm : ℕ
+  lrMm = c .rods * c .rodlen
 
-  unfoldable pub totalLength : ℕ
-  totalLength = conductorLength + rodLength
+  unfoldable pub ltMm : ℕ
+  ltMm = lcMm + lrMm

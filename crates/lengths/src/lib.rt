@@ -1,7 +1,7 @@
 // The lengths of a grid in whole millimetres, exact.
 ghost use mathlib.Core.Path.{_≡_};
 ghost use Rattle.case.specs.Bounds.{Bounds};
-ghost use Rattle.lengths.specs.Lengths.{sideOf, sideX, sideY, conductorLength, rodLength, totalLength};
+ghost use Rattle.lengths.specs.Lengths.{sideOf, sideX, sideY, lcMm, lrMm, ltMm};
 ghost use Rattle.case.specs.Bounds.{Between};
 use case::Case;
 
@@ -30,25 +30,25 @@ pub fn side_y(c: Case) -> u64
 }
 
 // All conductors.
-pub fn conductor_length(c: Case) -> u64
+pub fn lc(c: Case) -> u64
     requires { ⌜ Bounds c ⌝ }
-    ensures { λ r. ⌜ r ≡ conductorLength c ⌝ }
+    ensures { λ r. ⌜ r ≡ lcMm c ⌝ }
 {
     (c.across as u64) * side_y(c) + (c.along as u64) * side_x(c)
 }
 
 // All rods.
-pub fn rod_length(c: Case) -> u64
+pub fn lr(c: Case) -> u64
     requires { ⌜ Bounds c ⌝ }
-    ensures { λ r. ⌜ r ≡ rodLength c ⌝ }
+    ensures { λ r. ⌜ r ≡ lrMm c ⌝ }
 {
     (c.rods as u64) * (c.rodlen as u64)
 }
 
 // Conductors and rods.
-pub fn total_length(c: Case) -> u64
+pub fn lt(c: Case) -> u64
     requires { ⌜ Bounds c ⌝ }
-    ensures { λ r. ⌜ r ≡ totalLength c ⌝ }
+    ensures { λ r. ⌜ r ≡ ltMm c ⌝ }
 {
-    conductor_length(c) + rod_length(c)
+    lc(c) + lr(c)
 }

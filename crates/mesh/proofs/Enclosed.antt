@@ -17,10 +17,10 @@ use Rattle.formulas.proofs.{Consistent.{consistent-Km}, Positive.{LR-pos}}
 use Rattle.formulas.proofs.Quantities.{quantity-Ki, quantity-IG, quantity-diagonal, quantity-weight, quantity-LM, place-rodded}
 use Rattle.formulas.proofs.Conductors.{by-both}
 use Rattle.drive.proofs.Enclosed.{drive-consistent, drive-encloses}
-use Rattle.lengths.specs.Lengths.{sideX, sideY, conductorLength, rodLength, totalLength}
+use Rattle.lengths.specs.Lengths.{sideX, sideY, lcMm, lrMm, ltMm}
 use Rattle.lengths.proofs.Lengths.{x-is, y-is, conductor-is, rod-is, total-is}
-use Rattle.mesh.specs.Ends.{diagonalEnds, rodWeight, weighedLength, meshLength, drivenEnds, meshEnds}
-use Rattle.mesh.proofs.{LengthSpans.{diagonal-span, mesh-length-span, mesh-length-low}, FactorEnclosed.{factor-encloses}}
+use Rattle.mesh.specs.Ends.{diagonalEnds, rodWeight, weighedLength, lmEnds, drivenEnds, meshEnds}
+use Rattle.mesh.proofs.{LengthSpans.{diagonal-span, lm-span, lm-low}, FactorEnclosed.{factor-encloses}}
 
 -- ---- fractions as counts
 
@@ -65,24 +65,24 @@ module _ {c : Case} (b : Bounds c) where
   unfolding weighedLength ten
   weighed-encloses r =
       let weight = quantity-weight b r in
-      let rods = encloses-count (pos (rodLength c)) (ten 3) (trans≈ (rod-is c) (decimal-over (rodLength c) 3)) in
+      let rods = encloses-count (pos (lrMm c)) (ten 3) (trans≈ (rod-is c) (decimal-over (lrMm c) 3)) in
       encloses-sum (consistent-exactly _) (quantity-product weight (quantity-exactly (LR-pos r)) .consistent)
-      (length-encloses (conductorLength c) (conductor-is c))
+      (length-encloses (lcMm c) (conductor-is c))
       (encloses-product (ten 6) 1000000 refl (weight .consistent) (consistent-exactly _) weight-encloses rods)
 
-  pub mesh-length-encloses : Encloses (LM c) (ten 6) (meshLength c)
-  unfolding LM meshLength
-  mesh-length-encloses =
+  pub lm-encloses : Encloses (LM c) (ten 6) (lmEnds c)
+  unfolding LM lmEnds
+  lm-encloses =
       by-both (λ x i. Encloses x (ten 6) i) (eqb (c .place) 1) (λ e. weighed-encloses (place-rodded b e))
-      (λ e. length-encloses (totalLength c) (total-is c))
+      (λ e. length-encloses (ltMm c) (total-is c))
 
   -- ---- the mesh voltage
 
   pub driven-encloses : Encloses (exactly (ρ c) ·x Ki c ·x IG c ÷x LM c) mV (drivenEnds c)
   unfolding drivenEnds mV ten
   driven-encloses =
-      encloses-quotient (ten 3) 1 refl (span-divisor (omega (arith, mesh-length-low b)) (mesh-length-span b) .0) (drive-consistent b)
-      (quantity-LM b .consistent) (drive-encloses b) mesh-length-encloses
+      encloses-quotient (ten 3) 1 refl (span-divisor (omega (arith, lm-low b)) (lm-span b) .0) (drive-consistent b)
+      (quantity-LM b .consistent) (drive-encloses b) lm-encloses
 
   -- the code's order: (ρ·Ki·IG/LM)·Km
   pub mesh-encloses : Encloses (mesh c) mV (meshEnds c)

@@ -16,7 +16,7 @@ use Rattle.logarithm.proofs.LnEnds.{ln-encloses}
 use Rattle.case.specs.{declared.Case.{Case}, Bounds.{Bounds}}
 use Rattle.formulas.{specs.{Lengths.{n, h}, Mesh.{G, Kh, Kii, Km}}, proofs.MeshArgument.{G-pos}}
 use Rattle.formulas.proofs.{Quantities.{quantity-turn, quantity-Kh, quantity-Kii, quantity-spread}, Conductors.{by-both}}
-use Rattle.mesh.specs.Factor.{argumentLog, depthFactor, innerFactor, innerTerm, geometricFactor}
+use Rattle.mesh.specs.Factor.{argumentLog, khEnds, kiiEnds, innerTerm, kmEnds}
 use Rattle.mesh.proofs.{Argument.{top-inside, bottom-inside, G-is}, FactorSpans.{turn-span, depth-span}}
 use Rattle.conductors.proofs.WeightsEnclosed.{spread-encloses, inner-encloses}
 
@@ -38,14 +38,14 @@ module _ {c : Case} (b : Bounds c) where
   unfolding h whole decimal over ten _+f_
   depth-count = omega arith
 
-  pub depth-encloses : Encloses (Kh c) (ten 9) (depthFactor c)
-  unfolding Kh depthFactor ten
+  pub depth-encloses : Encloses (Kh c) (ten 9) (khEnds c)
+  unfolding Kh khEnds ten
   depth-encloses =
       encloses-sqrt-even (ten 9) {v = ten 3} (1000 + c .depth) 1000 refl (omega arith) (pair-ends ((1000 + c .depth) * 10 ^ 15))
       (encloses-count (pos (1000 + c .depth)) (ten 3) depth-count)
 
-  pub kii-encloses : Encloses (Kii c) (ten 9) (innerFactor c)
-  unfolding Kii innerFactor ten
+  pub kii-encloses : Encloses (Kii c) (ten 9) (kiiEnds c)
+  unfolding Kii kiiEnds ten
   kii-encloses = by-both (λ x i. Encloses x (ten 9) i) (eqb (c .place) 1) (λ e. encloses-whole 1 (ten 9) refl) (λ e. inner-encloses b)
 
   -- ---- Km
@@ -65,8 +65,8 @@ module _ {c : Case} (b : Bounds c) where
       (quantity-Kh b .consistent) kii-encloses depth-encloses)
       (spread-encloses b)
 
-  pub factor-encloses : Encloses (Km c) (ten 7) (geometricFactor c)
-  unfolding Km geometricFactor ten
+  pub factor-encloses : Encloses (Km c) (ten 7) (kmEnds c)
+  unfolding Km kmEnds ten
   factor-encloses =
       let log = consistent-ln (positive-exactly (G-pos b)) (consistent-exactly (G c)) in
       let term = consistent-product (ratio-consistent .consistent) log-consistent in

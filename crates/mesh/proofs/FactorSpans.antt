@@ -13,7 +13,7 @@ use Rattle.formulas.proofs.Conductors.{by-place}
 use Rattle.effective_number.proofs.NumberEnclosed.{counts}
 use Rattle.conductors.{specs.Weights.{eight, oddEnds, spreadEnds}, proofs.WeightWidths.{spread-span, inner-span}}
 use Rattle.drive.specs.Ends.{numberOf}
-use Rattle.mesh.specs.Factor.{argumentLog, depthFactor, perimeterRods, innerFactor, innerTerm, geometricFactor}
+use Rattle.mesh.specs.Factor.{argumentLog, khEnds, perimeterRods, kiiEnds, innerTerm, kmEnds}
 use Rattle.mesh.proofs.Logarithms.{argument-span}
 
 -- 2π
@@ -21,19 +21,19 @@ pub turn-span : Span (scaledOf πEnds 2) 6283185306 6283185308 2
 turn-span = span-scaled 2 π-span
 
 module _ {c : Case} (b : Bounds c) where
-  pub depth-span : Span (depthFactor c) 1118000000 1871000000 1
-  unfolding depthFactor
+  pub depth-span : Span (khEnds c) 1118000000 1871000000 1
+  unfolding khEnds
   depth-span = root-span ((1000 + c .depth) * 10 ^ 15) 1118000000 1871000000 (omega (arith, b .depth .low)) (omega (arith, b .depth .high))
 
-  pub inner-factor-span : Span (innerFactor c) 0 1000000000 610
-  unfolding innerFactor
-  inner-factor-span =
+  pub kii-span : Span (kiiEnds c) 0 1000000000 610
+  unfolding kiiEnds
+  kii-span =
       let one = numeral-point 1000000000 {l = 1000000000} {h = 1000000000} (lits tt) in
       by-place (λ i. Span i 0 1000000000 610) (perimeterRods c) (λ e. numeral-wider one (lits tt))
       (λ e. inner-span (counts b))
 
-  pub ratio-span : Span (quotientOf (innerFactor c) (depthFactor c) 1000000000) 0 894500000 915
-  ratio-span = numeral-quotient 1000000000 0 894500000 914 (lits tt) inner-factor-span depth-span
+  pub ratio-span : Span (quotientOf (kiiEnds c) (khEnds c) 1000000000) 0 894500000 915
+  ratio-span = numeral-quotient 1000000000 0 894500000 914 (lits tt) kii-span depth-span
 
   -- ---- (Kii/Kh)·ln(8/(π(2n−1))), below 0
 
@@ -46,7 +46,7 @@ module _ {c : Case} (b : Bounds c) where
   above-span = spread-span (counts b)
 
   share : Interval
-  share = productOf (quotientOf (innerFactor c) (depthFactor c) 1000000000) above 1000000000
+  share = productOf (quotientOf (kiiEnds c) (khEnds c) 1000000000) above 1000000000
 
   share-span : Span share 0 2650000000 2764
   unfolding share
@@ -68,6 +68,6 @@ module _ {c : Case} (b : Bounds c) where
   pub total-span : Span (sumOf (argumentLog c) (innerTerm c)) 0 11091000000 2775
   total-span = rw (term-is, sum-negated) (span-difference (lit≤ tt) (argument-span b) share-span)
 
-  pub factor-span : Span (geometricFactor c) 0 17652000 6
-  unfolding geometricFactor
+  pub factor-span : Span (kmEnds c) 0 17652000 6
+  unfolding kmEnds
   factor-span = numeral-quotient 10000000 0 17652000 5 (lits tt) total-span turn-span

@@ -7,9 +7,9 @@ use Rattle.interval.proofs.{Span.{span-point, span-wider, span-sum, span-produc
 use Rattle.interval.proofs.NumeralSpans.{numeral-point, numeral-quotient}
 use Rattle.case.specs.{declared.Case.{Case}, Bounds.{Between, Bounds}}
 use Rattle.formulas.proofs.Conductors.{by-place}
-use Rattle.lengths.specs.Lengths.{sideX, sideY, conductorLength, rodLength, totalLength}
+use Rattle.lengths.specs.Lengths.{sideX, sideY, lcMm, lrMm, ltMm}
 use Rattle.lengths.proofs.Lengths.{x-bounds, y-bounds, conductor-bounds, rodlen-high, rod-bound, total-bounds}
-use Rattle.mesh.specs.Ends.{diagonalEnds, rodWeight, weighedLength, meshLength}
+use Rattle.mesh.specs.Ends.{diagonalEnds, rodWeight, weighedLength, lmEnds}
 use Rattle.enclosure.proofs.RootSpan.{root-span}
 
 module _ {c : Case} (b : Bounds c) where
@@ -39,27 +39,27 @@ module _ {c : Case} (b : Bounds c) where
   unfolding rodWeight
   weight-span = span-sum (numeral-point _ {l = 1000000000} {h = 1550000000} (lits tt)) share-span
 
-  pub rods-point : Span (point (pos (rodLength c))) (rodLength c) 2000000 0
-  rods-point = span-point (rodLength c) (omega arith) (rod-bound b)
+  pub rods-point : Span (point (pos (lrMm c))) (lrMm c) 2000000 0
+  rods-point = span-point (lrMm c) (omega arith) (rod-bound b)
 
-  pub rods-span : Span (productOf (rodWeight c) (point (pos (rodLength c))) 1000000) (1000 * rodLength c) 10004000000 1957
-  rods-span = span-product 1000000 (1000 * rodLength c) 10004000000 1956 (lit< tt) (omega arith) (lit≤ tt) (lit≤ tt) weight-span rods-point
+  pub rods-span : Span (productOf (rodWeight c) (point (pos (lrMm c))) 1000000) (1000 * lrMm c) 10004000000 1957
+  rods-span = span-product 1000000 (1000 * lrMm c) 10004000000 1956 (lit< tt) (omega arith) (lit≤ tt) (lit≤ tt) weight-span rods-point
 
-  pub conductors-span : Span (point (pos (1000 * conductorLength c))) (1000 * conductorLength c) 36000000000 0
-  conductors-span = span-point (1000 * conductorLength c) (omega arith) (mul-le-mul-left 1000 (conductor-bounds b .high))
+  pub conductors-span : Span (point (pos (1000 * lcMm c))) (1000 * lcMm c) 36000000000 0
+  conductors-span = span-point (1000 * lcMm c) (omega arith) (mul-le-mul-left 1000 (conductor-bounds b .high))
 
-  pub weighed-span : Span (weighedLength c) (1000 * totalLength c) 46004000000 1957
-  unfolding weighedLength totalLength
+  pub weighed-span : Span (weighedLength c) (1000 * ltMm c) 46004000000 1957
+  unfolding weighedLength ltMm
   weighed-span = span-wider (span-sum conductors-span rods-span) (omega arith) (lit≤ tt) (lit≤ tt)
 
-  pub total-point : Span (point (pos (1000 * totalLength c))) (1000 * totalLength c) 38000000000 0
-  total-point = span-point (1000 * totalLength c) (omega arith) (mul-le-mul-left 1000 (total-bounds b .high))
+  pub total-point : Span (point (pos (1000 * ltMm c))) (1000 * ltMm c) 38000000000 0
+  total-point = span-point (1000 * ltMm c) (omega arith) (mul-le-mul-left 1000 (total-bounds b .high))
 
-  pub mesh-length-span : Span (meshLength c) (1000 * totalLength c) 46004000000 1957
-  unfolding meshLength
-  mesh-length-span =
-      by-place (λ i. Span i (1000 * totalLength c) 46004000000 1957) (eqb (c .place) 1) (λ e. weighed-span)
+  pub lm-span : Span (lmEnds c) (1000 * ltMm c) 46004000000 1957
+  unfolding lmEnds
+  lm-span =
+      by-place (λ i. Span i (1000 * ltMm c) 46004000000 1957) (eqb (c .place) 1) (λ e. weighed-span)
       (λ e. span-wider total-point (omega arith) (lit≤ tt) (lit≤ tt))
 
-  pub mesh-length-low : 10000000 ≤ 1000 * totalLength c
-  mesh-length-low = mul-le-mul-left 1000 (total-bounds b .low)
+  pub lm-low : 10000000 ≤ 1000 * ltMm c
+  lm-low = mul-le-mul-left 1000 (total-bounds b .low)

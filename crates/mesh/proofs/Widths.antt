@@ -9,8 +9,8 @@ use Rattle.exact.specs.{Fraction.{_≤f_, decimal, _+f_, neg, _−f_, _·f_, in
 use Rattle.exact.proofs.{Order.{trans≤, refl≈, sym≈}, Quotients.{clamped}, Divisors.{cong÷}}
 use Rattle.case.specs.{declared.Case.{Case}, Bounds.{Bounds}}
 use Rattle.formulas.{specs.{Lengths.{LT}, Width.{mV, μA, meshWidth}}, proofs.Positive.{decimal-pos, decimal-nonneg}}
-use Rattle.lengths.{specs.Lengths.{totalLength}, proofs.Lengths.{total-bounds, total-is}}
-use Rattle.current.specs.Ends.{currentEnds}
+use Rattle.lengths.{specs.Lengths.{ltMm}, proofs.Lengths.{total-bounds, total-is}}
+use Rattle.current.specs.Ends.{igEnds}
 use Rattle.drive.proofs.{Spans.{low}, Reference.{reference-width}}
 use Rattle.mesh.specs.Ends.{meshEnds}
 use Rattle.mesh.proofs.{FactorSpans.{factor-span}, DrivenWidths.{driven-ends}}
@@ -61,11 +61,11 @@ module _ {c : Case} (b : Bounds c) where
       (mesh-near (v .L) (v .U) (f .a) (f .b) _ _ (v .near) (v .order) (f .near) (f .to) (ceilDiv-below (v .U * f .b) p)
       (floorDiv-above (v .L * f .a) p)))
 
-  pub mesh-narrow : AtMost (meshWidth c (reported μA (currentEnds c))) (reported mV (meshEnds c))
+  pub mesh-narrow : AtMost (meshWidth c (reported μA (igEnds c))) (reported mV (meshEnds c))
   unfolding meshWidth
   mesh-narrow =
-      let t : 0 < totalLength c = omega (arith, total-bounds b .low) in
+      let t : 0 < ltMm c = omega (arith, total-bounds b .low) in
       let v = driven-ends b in
       reference-width b (LT c) (decimal-nonneg 21 7) share-less extra-less
-      (trans≤ (per-length (low b) (totalLength c) (v .L) t (v .below)) (cong÷ (decimal-pos 3 t) (refl≈ _) (sym≈ (total-is c)) .to))
+      (trans≤ (per-length (low b) (ltMm c) (v .L) t (v .below)) (cong÷ (decimal-pos 3 t) (refl≈ _) (sym≈ (total-is c)) .to))
       mesh-apart

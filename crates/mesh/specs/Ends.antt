@@ -7,8 +7,8 @@ use Rattle.interval.specs.{declared.Interval.{Interval}, Operations.{point, sum
 use Rattle.enclosure.specs.SquareRoot.{rootPair}
 use Rattle.case.specs.declared.Case.{Case}
 use Rattle.drive.specs.Ends.{driveEnds}
-use Rattle.lengths.specs.Lengths.{sideX, sideY, conductorLength, rodLength, totalLength}
-use Rattle.mesh.specs.Factor.{geometricFactor}
+use Rattle.lengths.specs.Lengths.{sideX, sideY, lcMm, lrMm, ltMm}
+use Rattle.mesh.specs.Factor.{kmEnds}
 
 module _ (c : Case) where
   -- √(Lx²+Ly²) in 10^−6 m
@@ -22,16 +22,16 @@ module _ (c : Case) where
   -- LM with rods along the perimeter, in 10^−6 m
   unfoldable pub weighedLength : Interval
   weighedLength =
-      sumOf (point (pos (1000 * conductorLength c))) (productOf rodWeight (point (pos (rodLength c))) 1000000)
+      sumOf (point (pos (1000 * lcMm c))) (productOf rodWeight (point (pos (lrMm c))) 1000000)
 
   -- LM in 10^−6 m
-  unfoldable pub meshLength : Interval
-  meshLength = cond (eqb (c .place) 1) weighedLength (point (pos (1000 * totalLength c)))
+  unfoldable pub lmEnds : Interval
+  lmEnds = cond (eqb (c .place) 1) weighedLength (point (pos (1000 * ltMm c)))
 
   -- ρ·Ki·IG/LM in mV
   unfoldable pub drivenEnds : Interval
-  drivenEnds = quotientOf (driveEnds c) meshLength 1
+  drivenEnds = quotientOf (driveEnds c) lmEnds 1
 
   -- the mesh voltage in mV
   unfoldable pub meshEnds : Interval
-  meshEnds = productOf drivenEnds (geometricFactor c) 10000000
+  meshEnds = productOf drivenEnds (kmEnds c) 10000000

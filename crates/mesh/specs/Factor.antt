@@ -22,21 +22,21 @@ module _ (c : Case) where
   argumentLog = lnEnds argumentTop argumentBottom
 
   -- Kh in 10^−9
-  unfoldable pub depthFactor : Interval
-  depthFactor = rootPair ((1000 + c .depth) * 10 ^ 15)
+  unfoldable pub khEnds : Interval
+  khEnds = rootPair ((1000 + c .depth) * 10 ^ 15)
 
   -- where Kii is 1
   abbrev pub perimeterRods : Bool
   perimeterRods = eqb (c .place) 1
 
   -- Kii in 10^−9
-  unfoldable pub innerFactor : Interval
-  innerFactor = cond perimeterRods (point (pos 1000000000)) (innerEnds (c .across) (c .along) (numberOf c))
+  unfoldable pub kiiEnds : Interval
+  kiiEnds = cond perimeterRods (point (pos 1000000000)) (innerEnds (c .across) (c .along) (numberOf c))
 
   -- (Kii/Kh)·ln(8/(π(2n−1))) in 10^−9
   unfoldable pub innerTerm : Interval
-  innerTerm = productOf (quotientOf innerFactor depthFactor 1000000000) (spreadEnds (numberOf c)) 1000000000
+  innerTerm = productOf (quotientOf kiiEnds khEnds 1000000000) (spreadEnds (numberOf c)) 1000000000
 
   -- Km in 10^−7
-  unfoldable pub geometricFactor : Interval
-  geometricFactor = quotientOf (sumOf argumentLog innerTerm) (scaledOf πEnds 2) 10000000
+  unfoldable pub kmEnds : Interval
+  kmEnds = quotientOf (sumOf argumentLog innerTerm) (scaledOf πEnds 2) 10000000

@@ -1,7 +1,7 @@
 // Km, the geometric factor of the mesh voltage.
 ghost use mathlib.Core.Path.{_≡_};
 ghost use Rattle.case.specs.Bounds.{Bounds};
-ghost use Rattle.mesh.specs.Factor.{argumentTop, argumentBottom, argumentLog, depthFactor, innerFactor, innerTerm, geometricFactor};
+ghost use Rattle.mesh.specs.Factor.{argumentTop, argumentBottom, argumentLog, khEnds, kiiEnds, innerTerm, kmEnds};
 ghost use Rattle.by_counts.specs.Ends.{byCountsOf};
 use by_counts::ByCounts;
 use case::Case;
@@ -36,18 +36,18 @@ fn argument_log(c: Case) -> Interval
 }
 
 // Kh in 10^-9.
-pub fn depth_factor(c: Case) -> Interval
+pub fn kh(c: Case) -> Interval
     requires { ⌜ Bounds c ⌝ }
-    ensures { λ r. ⌜ r ≡ depthFactor c ⌝ }
+    ensures { λ r. ⌜ r ≡ khEnds c ⌝ }
 {
     root_ends((1000 + (c.depth as u64)) * 1000000000000000)
 }
 
 // Kii in 10^-9, for what the case's counts give.
-pub fn inner_factor(c: Case, by: ByCounts) -> Interval
+pub fn kii(c: Case, by: ByCounts) -> Interval
     requires { ⌜ Bounds c ⌝ }
     requires { ⌜ by ≡ byCountsOf c ⌝ }
-    ensures { λ r. ⌜ r ≡ innerFactor c ⌝ }
+    ensures { λ r. ⌜ r ≡ kiiEnds c ⌝ }
 {
     if c.place == 1 {
         return Interval::point(1000000000);
@@ -61,16 +61,16 @@ fn inner_term(c: Case, by: ByCounts) -> Interval
     requires { ⌜ by ≡ byCountsOf c ⌝ }
     ensures { λ r. ⌜ r ≡ innerTerm c ⌝ }
 {
-    let ratio = inner_factor(c, by).quotient(depth_factor(c), 1000000000);
+    let ratio = kii(c, by).quotient(kh(c), 1000000000);
     let spread = by.spread;
     ratio.product(spread, 1000000000)
 }
 
 // Km in 10^-7.
-pub fn geometric_factor(c: Case, by: ByCounts) -> Interval
+pub fn km(c: Case, by: ByCounts) -> Interval
     requires { ⌜ Bounds c ⌝ }
     requires { ⌜ by ≡ byCountsOf c ⌝ }
-    ensures { λ r. ⌜ r ≡ geometricFactor c ⌝ }
+    ensures { λ r. ⌜ r ≡ kmEnds c ⌝ }
 {
     let turn = pi().scaled(2);
     argument_log(c)

@@ -1,15 +1,15 @@
 // LM, the length of conductors and rods that the mesh voltage counts.
 ghost use mathlib.Core.Path.{_≡_};
 ghost use Rattle.case.specs.Bounds.{Bounds};
-ghost use Rattle.mesh.specs.Ends.{diagonalEnds, rodWeight, weighedLength, meshLength};
+ghost use Rattle.mesh.specs.Ends.{diagonalEnds, rodWeight, weighedLength, lmEnds};
 use case::Case;
 use interval::Interval;
 use interval::root::root_ends;
-use lengths::conductor_length;
-use lengths::rod_length;
+use lengths::lc;
+use lengths::lr;
+use lengths::lt;
 use lengths::side_x;
 use lengths::side_y;
-use lengths::total_length;
 
 // √(Lx²+Ly²) in micrometres.
 fn diagonal(c: Case) -> Interval
@@ -35,17 +35,17 @@ fn weighed_length(c: Case) -> Interval
     requires { ⌜ Bounds c ⌝ }
     ensures { λ r. ⌜ r ≡ weighedLength c ⌝ }
 {
-    let rods = rod_weight(c).product(Interval::point(rod_length(c)), 1000000);
-    Interval::point(1000 * conductor_length(c)).sum(rods)
+    let rods = rod_weight(c).product(Interval::point(lr(c)), 1000000);
+    Interval::point(1000 * lc(c)).sum(rods)
 }
 
 // LM in micrometres.
-pub fn mesh_length(c: Case) -> Interval
+pub fn lm(c: Case) -> Interval
     requires { ⌜ Bounds c ⌝ }
-    ensures { λ r. ⌜ r ≡ meshLength c ⌝ }
+    ensures { λ r. ⌜ r ≡ lmEnds c ⌝ }
 {
     if c.place == 1 {
         return weighed_length(c);
     }
-    Interval::point(1000 * total_length(c))
+    Interval::point(1000 * lt(c))
 }

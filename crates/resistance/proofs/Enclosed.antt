@@ -14,7 +14,7 @@ use Rattle.enclosure.proofs.{Quotients.{encloses-quotient}, SquareRoot.{pair-en
 use Rattle.case.specs.{declared.Case.{Case}, Bounds.{Bounds}}
 use Rattle.formulas.specs.{Lengths.{ρ, h, area, LT, equalCounts, √area, s}, Resistance.{√20, resistance}, Width.{μΩ}}
 use Rattle.formulas.proofs.{Positive.{h-pos, LT-pos}, Quantities.{one}, Conductors.{by-both, quantity-s}, Consistent.{q20}}
-use Rattle.lengths.{specs.Lengths.{sideX, sideY, totalLength}, proofs.Lengths.{x-is, y-is, total-is}}
+use Rattle.lengths.{specs.Lengths.{sideX, sideY, ltMm}, proofs.Lengths.{x-is, y-is, total-is}}
 use Rattle.resistance.specs.Ends.{rootTwenty, sideEnds, depthEnds, shapeEnds, widthEnds, perSoilEnds, resistanceEnds}
 use Rattle.resistance.proofs.Spans.{side-span, depth-span, width-span, total-span}
 
@@ -84,11 +84,11 @@ module _ {c : Case} (b : Bounds c) where
   q-total : Quantity (exactly (LT c))
   q-total = quantity-exactly (LT-pos b)
 
-  first-encloses : Encloses (oneX ÷x exactly (LT c)) (ten 9) (quotientOf (point (pos 1)) (point (pos (totalLength c))) (10 ^ 12))
+  first-encloses : Encloses (oneX ÷x exactly (LT c)) (ten 9) (quotientOf (point (pos 1)) (point (pos (ltMm c))) (10 ^ 12))
   unfolding ten
   first-encloses =
       encloses-quotient (ten 9) (10 ^ 12) refl (span-divisor (lit≤ tt) (total-span b) .0) (one .consistent) (q-total .consistent)
-      (encloses-whole 1 (ten 0) refl) (encloses-count (pos (totalLength c)) (ten 3) (trans≈ (total-is c) (decimal-over (totalLength c) 3)))
+      (encloses-whole 1 (ten 0) refl) (encloses-count (pos (ltMm c)) (ten 3) (trans≈ (total-is c) (decimal-over (ltMm c) 3)))
 
   second-encloses : Encloses ((oneX +x oneX ÷x (oneX +x exactly (h c) ·x √20 ÷x s c)) ÷x (s c ·x √20)) (ten 9)
       (quotientOf (shapeEnds c) (widthEnds c) (10 ^ 9))

@@ -12,7 +12,7 @@ use Rattle.enclosure.{specs.Enclosure.{Encloses}, proofs.{Basics.{encloses-same
 use Rattle.case.specs.{declared.Case.{Case}, Bounds.{Bounds}}
 use Rattle.formulas.specs.{Current.{IG}, Resistance.{resistance, potentialRise}, Width.{mV, μΩ, μA, riseWidth}}
 use Rattle.formulas.proofs.{Quantities.{quantity-IG}, Consistent.{quantity-resistance}}
-use Rattle.current.{specs.Ends.{currentEnds}, proofs.GridCurrent.{current-span, current-relative, current-encloses}}
+use Rattle.current.{specs.Ends.{igEnds}, proofs.GridCurrent.{current-span, current-relative, current-encloses}}
 use Rattle.resistance.specs.Ends.{resistanceEnds, riseEnds}
 use Rattle.resistance.proofs.{Spans.{resistance-span}, Enclosed.{resistance-encloses}, Widths.{resistance-near}}
 
@@ -34,7 +34,7 @@ module _ {c : Case} (b : Bounds c) where
       (encloses-product (ten 3) (10 ^ 9) refl (quantity-resistance b .consistent) (quantity-IG b .consistent) (resistance-encloses b)
       (current-encloses b))
 
-  pub rise-wide : Wide (resistanceEnds c) (currentEnds c) (10 ^ 9)
+  pub rise-wide : Wide (resistanceEnds c) (igEnds c) (10 ^ 9)
   rise-wide = wide-fits (10 ^ 9) 179 (lit< tt) (lit< tt) (lit≤ tt) (lit< tt) (resistance-span b) (current-span b)
 
   pub rise-near : Relative (riseEnds c) 2000 10

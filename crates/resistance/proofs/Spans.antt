@@ -9,7 +9,7 @@ use Rattle.interval.proofs.NumeralSpans.{numeral-natural, numeral-outward, nume
 use Rattle.enclosure.{specs.SquareRoot.{rootPair}, proofs.RootSpan.{root-span}}
 use Rattle.case.specs.{declared.Case.{Case}, Bounds.{Bounds}}
 use Rattle.formulas.{specs.Lengths.{equalCounts}, proofs.Conductors.{by-place}}
-use Rattle.lengths.{specs.Lengths.{sideX, totalLength}, proofs.Lengths.{x-bounds, y-bounds, total-bounds}}
+use Rattle.lengths.{specs.Lengths.{sideX, ltMm}, proofs.Lengths.{x-bounds, y-bounds, total-bounds}}
 use Rattle.resistance.specs.Ends.{rootTwenty, sideEnds, depthEnds, shapeEnds, widthEnds, perSoilEnds, resistanceEnds}
 
 pub twenty-span : Span rootTwenty 4472135954 4472135955 1
@@ -89,12 +89,12 @@ module _ {c : Case} (b : Bounds c) where
   second-near : Relative (quotientOf (shapeEnds c) (widthEnds c) (10 ^ 9)) 200000 2
   second-near = relative-divided (10 ^ 9) 400000 1000000 200000 (lits tt) shape-span width-span
 
-  pub total-span : Span (point (pos (totalLength c))) 10000 38000000 0
-  total-span = span-point (totalLength c) (total-bounds b .low) (total-bounds b .high)
+  pub total-span : Span (point (pos (ltMm c))) 10000 38000000 0
+  total-span = span-point (ltMm c) (total-bounds b .low) (total-bounds b .high)
 
-  pub first-span : Span (quotientOf (point (pos 1)) (point (pos (totalLength c))) (10 ^ 12)) 0 100000000 1
+  pub first-span : Span (quotientOf (point (pos 1)) (point (pos (ltMm c))) (10 ^ 12)) 0 100000000 1
   first-span =
-      span-divide (totalLength c) (10 ^ 12) 0 100000000 0 (omega (arith, total-bounds b .low)) (omega arith)
+      span-divide (ltMm c) (10 ^ 12) 0 100000000 0 (omega (arith, total-bounds b .low)) (omega arith)
       (omega (arith, total-bounds b .low)) (omega arith) (numeral-point 1 {l = 1} {h = 1} (lits tt))
 
   pub per-soil-span : Span (perSoilEnds c) 510000 300000000 54002

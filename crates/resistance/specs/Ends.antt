@@ -7,8 +7,8 @@ use Rattle.interval.specs.{declared.Interval.{Interval}, Operations.{natural, p
 use Rattle.enclosure.specs.SquareRoot.{rootPair}
 use Rattle.case.specs.declared.Case.{Case}
 use Rattle.formulas.specs.Lengths.{equalCounts}
-use Rattle.current.specs.Ends.{currentEnds}
-use Rattle.lengths.specs.Lengths.{sideX, sideY, totalLength}
+use Rattle.current.specs.Ends.{igEnds}
+use Rattle.lengths.specs.Lengths.{sideX, sideY, ltMm}
 
 -- √20 in 10^−9
 unfoldable pub rootTwenty : Interval
@@ -33,7 +33,7 @@ module _ (c : Case) where
 
   -- 1/LT + (1 + 1/(1 + h·√20/s))/(√20·s), in 10^−9 per metre
   unfoldable pub perSoilEnds : Interval
-  perSoilEnds = sumOf (quotientOf (point (pos 1)) (point (pos (totalLength c))) (10 ^ 12)) (quotientOf shapeEnds widthEnds (10 ^ 9))
+  perSoilEnds = sumOf (quotientOf (point (pos 1)) (point (pos (ltMm c))) (10 ^ 12)) (quotientOf shapeEnds widthEnds (10 ^ 9))
 
   -- resistance in micro-ohms
   unfoldable pub resistanceEnds : Interval
@@ -41,4 +41,4 @@ module _ (c : Case) where
 
   -- IG times resistance, in mV
   unfoldable pub riseEnds : Interval
-  riseEnds = productOf resistanceEnds (currentEnds c) (10 ^ 9)
+  riseEnds = productOf resistanceEnds (igEnds c) (10 ^ 9)

@@ -1,14 +1,14 @@
 // Resistance of the grid and ground potential rise, by whole-number intervals.
 ghost use mathlib.Core.Path.{_≡_};
 ghost use Rattle.case.specs.Bounds.{Bounds};
-ghost use Rattle.current.specs.Ends.{currentEnds};
+ghost use Rattle.current.specs.Ends.{igEnds};
 ghost use Rattle.resistance.specs.Ends.{rootTwenty, sideEnds, depthEnds, shapeEnds, widthEnds, perSoilEnds, resistanceEnds, riseEnds};
 use case::Case;
 use interval::Interval;
 use interval::root::root_ends;
+use lengths::lt;
 use lengths::side_x;
 use lengths::side_y;
-use lengths::total_length;
 
 // √20 in 10^-9.
 fn root_twenty() -> Interval
@@ -63,7 +63,7 @@ fn per_soil(c: Case) -> Interval
     requires { ⌜ Bounds c ⌝ }
     ensures { λ r. ⌜ r ≡ perSoilEnds c ⌝ }
 {
-    let total = Interval::point(total_length(c));
+    let total = Interval::point(lt(c));
     let first = Interval::point(1).quotient(total, 1000000000000);
     first.sum(shape_term(c).quotient(width_term(c), 1000000000))
 }
@@ -80,7 +80,7 @@ pub fn resistance(c: Case) -> Interval
 pub fn potential_rise(c: Case, ohms: Interval, current: Interval) -> Interval
     requires { ⌜ Bounds c ⌝ }
     requires { ⌜ ohms ≡ resistanceEnds c ⌝ }
-    requires { ⌜ current ≡ currentEnds c ⌝ }
+    requires { ⌜ current ≡ igEnds c ⌝ }
     ensures { λ r. ⌜ r ≡ riseEnds c ⌝ }
 {
     ohms.wide_product(current, 1000000000)

@@ -7,16 +7,16 @@ use Rattle.interval.{specs.declared.Interval.{Interval}, proofs.Below.{Below, b
 use Rattle.case.specs.{declared.Case.{Case}, Bounds.{Bounds}, Key.{underKey}, Eased.{eased}}
 use Rattle.tolerable.specs.Ends.{layered, layerEnds, bodyFactor, timeRoot, topEnds, tolerableEnds, touchEnds, stepEnds}
 use Rattle.tolerable.proofs.NoWorse.{tolerable-touch-rises, tolerable-step-rises}
-use Rattle.lengths.specs.Lengths.{conductorLength, rodLength, totalLength}
+use Rattle.lengths.specs.Lengths.{lcMm, lrMm, ltMm}
 use Rattle.decision.{specs.{declared.Verdict.the-variants.{Safe}, Verdict.{verdict}}, proofs.Verdicts.{safe-ends, ends-safe}}
-use Rattle.decrement.specs.Ends.{exponentEnds, ratioEnds, restEnds, squareEnds, factorEnds}
-use Rattle.current.specs.Ends.{currentEnds}
+use Rattle.decrement.specs.Ends.{exponentEnds, ratioEnds, restEnds, squareEnds, dfEnds}
+use Rattle.current.specs.Ends.{igEnds}
 use Rattle.drive.specs.Ends.{soilCurrent, driveEnds}
 use Rattle.step.specs.Ends as Step
-use Rattle.step.specs.Ends.{powerOfTwo, shareEnds, reach, spacingSum, spacingFactor, stepLength, stepVoltageEnds}
+use Rattle.step.specs.Ends.{powerOfTwo, shareEnds, reach, spacingSum, ksEnds, lsTwentieths, stepVoltageEnds}
 use Rattle.step.proofs.NoWorse.{step-below}
-use Rattle.mesh.specs.Factor.{argumentTop, argumentBottom, argumentLog, depthFactor, innerFactor, innerTerm, geometricFactor}
-use Rattle.mesh.{specs.Ends.{diagonalEnds, rodWeight, weighedLength, meshLength, meshEnds}, proofs.NoWorse.{mesh-below}}
+use Rattle.mesh.specs.Factor.{argumentTop, argumentBottom, argumentLog, khEnds, kiiEnds, innerTerm, kmEnds}
+use Rattle.mesh.{specs.Ends.{diagonalEnds, rodWeight, weighedLength, lmEnds, meshEnds}, proofs.NoWorse.{mesh-below}}
 use Rattle.mesh.specs.Ends as Mesh
 use Rattle.row.specs.{Ends.{caseVerdict}, NoWorse.{NoWorse}}
 
@@ -32,10 +32,10 @@ safe-eases {t} {l} {m} {s} {t′} {l′} {m′} {s′} p q f g e =
 
 same-verdict : (station season : ℕ) (c : Case) → caseVerdict (underKey station season c) ≡ caseVerdict c
 unfolding caseVerdict touchEnds stepEnds tolerableEnds topEnds timeRoot bodyFactor layerEnds layered
-    driveEnds soilCurrent currentEnds factorEnds squareEnds restEnds ratioEnds exponentEnds conductorLength rodLength totalLength
-    meshEnds Mesh.drivenEnds meshLength weighedLength rodWeight diagonalEnds
-    geometricFactor innerTerm innerFactor depthFactor argumentLog argumentTop argumentBottom
-    stepVoltageEnds Step.drivenEnds stepLength spacingFactor spacingSum shareEnds powerOfTwo reach
+    driveEnds soilCurrent igEnds dfEnds squareEnds restEnds ratioEnds exponentEnds lcMm lrMm ltMm
+    meshEnds Mesh.drivenEnds lmEnds weighedLength rodWeight diagonalEnds
+    kmEnds innerTerm kiiEnds khEnds argumentLog argumentTop argumentBottom
+    stepVoltageEnds Step.drivenEnds lsTwentieths ksEnds spacingSum shareEnds powerOfTwo reach
 same-verdict station season c = refl
 
 -- ---- no worse

@@ -4,8 +4,8 @@ use Rattle.case.specs.declared.Case.{Case}
 use Rattle.formulas.specs.Size as Size
 use Rattle.tolerable.specs.Ends.{touchEnds, stepEnds}
 use Rattle.decision.specs.{declared.Verdict.{Verdict}, Verdict.{verdict}}
-use Rattle.decrement.specs.Ends.{factorEnds}
-use Rattle.current.specs.Ends.{currentEnds, upperFactor}
+use Rattle.decrement.specs.Ends.{dfEnds}
+use Rattle.current.specs.Ends.{igEnds, upperFactor}
 use Rattle.resistance.specs.Ends.{resistanceEnds, riseEnds}
 use Rattle.step.specs.Ends.{stepVoltageEnds}
 use Rattle.mesh.specs.Ends.{meshEnds}
@@ -22,8 +22,8 @@ rowOf c =
       season = pos (c .season);
       verdict = caseVerdict c;
       size = pos (Size.size c (upperFactor c));
-      current = currentEnds c;
-      factor = factorEnds c;
+      current = igEnds c;
+      factor = dfEnds c;
       «tolerable_touch» = touchEnds c;
       «tolerable_step» = stepEnds c;
       mesh = meshEnds c;

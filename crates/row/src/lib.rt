@@ -64,11 +64,11 @@ pub struct Fixed {
     // n, 10^-7
     pub number: Interval,
     // LM, micrometres, and Km, 10^-7
-    pub mesh_length: Interval,
-    pub mesh_factor: Interval,
+    pub lm: Interval,
+    pub km: Interval,
     // LS, twentieths of a millimetre, and Ks, 10^-7 per metre
-    pub step_length: u64,
-    pub step_factor: Interval,
+    pub ls: u64,
+    pub ks: Interval,
 }
 
 // What its fault current drives.

@@ -11,7 +11,7 @@ pub fn fixed_parts(c: Case) -> Fixed
     requires { ⌜ Bounds c ⌝ }
     ensures { λ r. ⌜ r ≡ fixedOf c ⌝ }
 {
-    let factor = decrement::factor_ends(c);
+    let factor = decrement::df(c);
     let tolerable = tolerable::touch_and_step(c);
     let tolerable_touch = tolerable.touch;
     let tolerable_step = tolerable.step;
@@ -22,10 +22,10 @@ pub fn fixed_parts(c: Case) -> Fixed
         tolerable_touch,
         tolerable_step,
         number,
-        mesh_length: mesh::mesh_length(c),
-        mesh_factor: mesh::geometric_factor(c, by),
-        step_length: step::step_length(c),
-        step_factor: step::spacing_factor(c, by),
+        lm: mesh::lm(c),
+        km: mesh::km(c, by),
+        ls: step::ls(c),
+        ks: step::ks(c, by),
     }
 }
 
@@ -35,11 +35,11 @@ pub fn driven_parts(c: Case, fixed: Fixed) -> Driven
     requires { ⌜ fixed ≡ fixedOf c ⌝ }
     ensures { λ r. ⌜ r ≡ drivenOf c ⌝ }
 {
-    let current = current::grid_current(c, fixed.factor);
+    let current = current::ig(c, fixed.factor);
     let drive = drive::drive(c, fixed.number, current);
     Driven {
         current,
-        mesh: mesh::mesh_voltage(c, fixed.mesh_length, fixed.mesh_factor, drive),
-        step: step::step_voltage(c, fixed.step_length, fixed.step_factor, drive),
+        mesh: mesh::mesh_voltage(c, fixed.lm, fixed.km, drive),
+        step: step::step_voltage(c, fixed.ls, fixed.ks, drive),
     }
 }

@@ -3,7 +3,7 @@ ghost use mathlib.Core.Path.{_≡_};
 ghost use lib.IntN.{pos};
 ghost use Rattle.case.specs.Bounds.{Bounds};
 ghost use Rattle.formulas.specs.Size as Size;
-ghost use Rattle.decrement.specs.Ends.{factorEnds};
+ghost use Rattle.decrement.specs.Ends.{dfEnds};
 ghost use Rattle.current.specs.Ends.{upperFactor};
 ghost use Rattle.row.specs.Ends.{rowOf};
 use crate::Row;
@@ -15,7 +15,7 @@ use interval::Interval;
 
 fn size_number(c: Case, factor: Interval) -> i64
     requires { ⌜ Bounds c ⌝ }
-    requires { ⌜ factor ≡ factorEnds c ⌝ }
+    requires { ⌜ factor ≡ dfEnds c ⌝ }
     ensures { λ r. ⌜ r ≡ pos (Size.size c (upperFactor c)) ⌝ }
 {
     let size = current::conductor_size(c, factor);

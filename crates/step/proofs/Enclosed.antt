@@ -12,9 +12,9 @@ use Rattle.enclosure.proofs.Quotients.{encloses-quotient}
 use Rattle.case.specs.{declared.Case.{Case}, Bounds.{Bounds}}
 use Rattle.formulas.{specs.{Lengths.{ρ, Ki}, Current.{IG}, Step.{LS, step}, Width.{mV}}, proofs.Positive.{LS-pos}}
 use Rattle.formulas.proofs.{Quantities.{quantity-Ki, quantity-IG}, Consistent.{consistent-Ks}}
-use Rattle.lengths.{specs.Lengths.{conductorLength, rodLength}, proofs.Lengths.{conductor-is, rod-is}}
+use Rattle.lengths.{specs.Lengths.{lcMm, lrMm}, proofs.Lengths.{conductor-is, rod-is}}
 use Rattle.drive.proofs.Enclosed.{drive-consistent, drive-encloses}
-use Rattle.step.specs.Ends.{stepLength, drivenEnds, stepVoltageEnds}
+use Rattle.step.specs.Ends.{lsTwentieths, drivenEnds, stepVoltageEnds}
 use Rattle.step.proofs.{Spans.{length-span}, FactorEnclosed.{factor-encloses}}
 
 weighted : (m k : ℕ) → decimal 75 2 ·f decimal m 3 +f decimal 85 2 ·f decimal k 3 ≈f decimal (50 * (15 * m + 17 * k)) 6
@@ -22,18 +22,18 @@ unfolding decimal _·f_ _+f_
 weighted m k = omega arith
 
 -- LS in micrometres
-pub length-is : (c : Case) → LS c ≈f over (pos (50 * stepLength c)) (ten 6)
-unfolding LS stepLength
+pub length-is : (c : Case) → LS c ≈f over (pos (50 * lsTwentieths c)) (ten 6)
+unfolding LS lsTwentieths
 length-is c =
     trans≈ (cong+ (cong· (refl≈ (decimal 75 2)) (conductor-is c)) (cong· (refl≈ (decimal 85 2)) (rod-is c)))
-    (trans≈ (weighted (conductorLength c) (rodLength c)) (decimal-over _ 6))
+    (trans≈ (weighted (lcMm c) (lrMm c)) (decimal-over _ 6))
 
 module _ {c : Case} (b : Bounds c) where
   driven-encloses : Encloses (exactly (ρ c) ·x Ki c ·x IG c ÷x exactly (LS c)) mV (drivenEnds c)
   unfolding drivenEnds mV ten
   driven-encloses =
       encloses-quotient (ten 3) 1 refl (span-divisor (lit≤ tt) (length-span b) .0) (drive-consistent b) (consistent-exactly (LS c))
-      (drive-encloses b) (encloses-count (pos (50 * stepLength c)) (ten 6) (length-is c))
+      (drive-encloses b) (encloses-count (pos (50 * lsTwentieths c)) (ten 6) (length-is c))
 
   -- the code's order: (ρ·Ki·IG/LS)·Ks
   pub step-encloses : Encloses (step c) mV (stepVoltageEnds c)

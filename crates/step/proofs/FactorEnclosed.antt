@@ -16,7 +16,7 @@ use Rattle.case.specs.{declared.Case.{Case}, Bounds.{Bounds}}
 use Rattle.formulas.{specs.{Lengths.{D, h, equalCounts}, Step.{halfPower, Ks}}, proofs.{Positive.{decimal-pos}, Conductors.{by-both}}}
 use Rattle.formulas.proofs.{Quantities.{one, consistent-half-exponent}, Consistent.{consistent-share}}
 use Rattle.conductors.proofs.WeightsEnclosed.{half-encloses}
-use Rattle.step.specs.Ends.{perMetre, powerOfTwo, shareEnds, reach, spacingSum, spacingFactor}
+use Rattle.step.specs.Ends.{perMetre, powerOfTwo, shareEnds, reach, spacingSum, ksEnds}
 use Rattle.step.proofs.{FactorSpans.{power-bounds, space-span}, Ratios.{inverse-is, counted, counted-point, sum-point}}
 
 -- a fraction between the ends of a pair
@@ -97,8 +97,8 @@ module _ {c : Case} (b : Bounds c) where
       by-both (λ x i. Encloses ((exactly (whole 1) −x x) ÷x exactly (D c)) (ten 9) i) (equalCounts c) (λ e. square-encloses)
       (λ e. rest-encloses (consistent-exp (consistent-minus (consistent-half-exponent b))) (half-encloses b e))
 
-  pub factor-encloses : Encloses (Ks c) (ten 7) (spacingFactor c)
-  unfolding Ks spacingFactor spacingSum ten
+  pub factor-encloses : Encloses (Ks c) (ten 7) (ksEnds c)
+  unfolding Ks ksEnds spacingSum ten
   factor-encloses =
       let share = consistent-share b in
       encloses-quotient {u = ten 9} {v = ten 9} (ten 7) (10 ^ 7) refl (span-divisor (lit≤ tt) π-span .0)

@@ -11,7 +11,7 @@ use Rattle.formulas.{specs.Lengths.{equalCounts}, proofs.Conductors.{by-place}}
 use Rattle.effective_number.proofs.NumberEnclosed.{counts}
 use Rattle.conductors.{specs.Weights.{halfPowerEnds}, proofs.WeightWidths.{half-span}}
 use Rattle.drive.specs.Ends.{numberOf}
-use Rattle.step.specs.Ends.{perMetre, powerOfTwo, shareEnds, reach, spacingSum, spacingFactor}
+use Rattle.step.specs.Ends.{perMetre, powerOfTwo, shareEnds, reach, spacingSum, ksEnds}
 
 per-metre-span : (a d high : ℕ) → 0 < d → a * 10 ^ 12 ≤ high * d → Span (perMetre a d) 0 high 1
 unfolding perMetre
@@ -65,6 +65,6 @@ module _ {c : Case} (b : Bounds c) where
   unfolding spacingSum
   sum-span = span-sum (span-sum depth-span reach-span) share-span
 
-  pub factor-span : Span (spacingFactor c) 0 10000000 4
-  unfolding spacingFactor
+  pub factor-span : Span (ksEnds c) 0 10000000 4
+  unfolding ksEnds
   factor-span = numeral-quotient (10 ^ 7) 0 10000000 3 (lits tt) sum-span π-span

@@ -5,18 +5,18 @@ use mathlib.Core.Path.{_≡_, refl}
 use lib.Dec.{lit≤, lit<}
 use Rattle.interval.proofs.Below.{Below, below-times, below-quotient}
 use Rattle.case.specs.{declared.Case.{Case}, Bounds.{Bounds}, Eased.{eased}}
-use Rattle.lengths.specs.Lengths.{conductorLength, rodLength}
+use Rattle.lengths.specs.Lengths.{lcMm, lrMm}
 use Rattle.drive.proofs.NoWorse.{drive-below}
-use Rattle.step.specs.Ends.{powerOfTwo, shareEnds, reach, spacingSum, spacingFactor, stepLength, drivenEnds, stepVoltageEnds}
+use Rattle.step.specs.Ends.{powerOfTwo, shareEnds, reach, spacingSum, ksEnds, lsTwentieths, drivenEnds, stepVoltageEnds}
 use Rattle.step.proofs.{FactorSpans.{factor-span}, Spans.{length-span}}
 
 module _ {c : Case} (b : Bounds c) (fault split shock body : ℕ) (enters : fault * split ≤ c .fault * c .split) where
-  same-length : stepLength (eased fault split shock body c) ≡ stepLength c
-  unfolding stepLength conductorLength rodLength
+  same-length : lsTwentieths (eased fault split shock body c) ≡ lsTwentieths c
+  unfolding lsTwentieths lcMm lrMm
   same-length = refl
 
-  same-factor : spacingFactor (eased fault split shock body c) ≡ spacingFactor c
-  unfolding spacingFactor spacingSum shareEnds powerOfTwo reach
+  same-factor : ksEnds (eased fault split shock body c) ≡ ksEnds c
+  unfolding ksEnds spacingSum shareEnds powerOfTwo reach
   same-factor = refl
 
   pub step-below : Below (stepVoltageEnds (eased fault split shock body c)) (stepVoltageEnds c)

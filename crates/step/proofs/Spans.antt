@@ -7,9 +7,9 @@ use Rattle.whole.{specs.Whole.{ceilDiv}, proofs.Rounding.{floorDiv-below, floor
 use Rattle.interval.{specs.{Operations.{natural, point}, Span.{Span}}, proofs.Natural.{point-natural, natural-quotient}}
 use Rattle.interval.proofs.Span.{floor≤ceil, span-natural, span-point}
 use Rattle.case.specs.{declared.Case.{Case}, Bounds.{Between, Bounds}}
-use Rattle.lengths.{specs.Lengths.{conductorLength}, proofs.Lengths.{conductor-bounds, rod-bound}}
+use Rattle.lengths.{specs.Lengths.{lcMm}, proofs.Lengths.{conductor-bounds, rod-bound}}
 use Rattle.drive.proofs.Spans.{low, high, drive-is, drive-order, drive-near, drive-by-length}
-use Rattle.step.specs.Ends.{stepLength, drivenEnds}
+use Rattle.step.specs.Ends.{lsTwentieths, drivenEnds}
 
 -- x to y, at most 1/1,870,000, 3 and 940 k apart, over m and rounded to L and U
 near : (x y k m L U : ℕ) → 1870000 * y ≤ 1870001 * x + 1870000 * (3 + 940 * k) → 7500000 ≤ m → 750 * k ≤ m → U * m < y + m → x < L * m + m
@@ -19,50 +19,50 @@ near x y k m L U h p q u l = le-of-suc-le-suc (lt-of-mul-lt-mul-right m (omega (
 module _ {c : Case} (b : Bounds c) where
   -- ---- LS
 
-  pub length-bounds : Between 150000 (stepLength c) 574000000
-  unfolding stepLength
+  pub length-bounds : Between 150000 (lsTwentieths c) 574000000
+  unfolding lsTwentieths
   length-bounds =
       let l = conductor-bounds b in
       record { low = omega (arith, l .low); high = omega (arith, l .high, rod-bound b) }
 
-  pub length-pos : 0 < 50 * stepLength c
+  pub length-pos : 0 < 50 * lsTwentieths c
   length-pos = omega (arith, length-bounds .low)
 
-  pub length-span : Span (point (pos (50 * stepLength c))) 7500000 28700000000 0
-  length-span = span-point (50 * stepLength c) (mul-le-mul-left 50 (length-bounds .low)) (mul-le-mul-left 50 (length-bounds .high))
+  pub length-span : Span (point (pos (50 * lsTwentieths c))) 7500000 28700000000 0
+  length-span = span-point (50 * lsTwentieths c) (mul-le-mul-left 50 (length-bounds .low)) (mul-le-mul-left 50 (length-bounds .high))
 
-  length-from : 15 * conductorLength c ≤ stepLength c
-  unfolding stepLength
+  length-from : 15 * lcMm c ≤ lsTwentieths c
+  unfolding lsTwentieths
   length-from = omega arith
 
   -- ---- ρ·Ki·IG/LS
 
   -- its ends, in mV
   pub drivenLow : ℕ
-  drivenLow = low b * 1 / (50 * stepLength c)
+  drivenLow = low b * 1 / (50 * lsTwentieths c)
 
   pub drivenHigh : ℕ
-  drivenHigh = ceilDiv (high b * 1) (50 * stepLength c)
+  drivenHigh = ceilDiv (high b * 1) (50 * lsTwentieths c)
 
   pub driven-is : drivenEnds c ≡ natural drivenLow drivenHigh
   unfolding drivenEnds drivenLow drivenHigh
-  driven-is = rw (drive-is b, point-natural (50 * stepLength c)) (natural-quotient (low b) (high b) 1 length-pos (omega arith))
+  driven-is = rw (drive-is b, point-natural (50 * lsTwentieths c)) (natural-quotient (low b) (high b) 1 length-pos (omega arith))
 
-  pub driven-below : drivenLow * (50 * stepLength c) ≤ low b
+  pub driven-below : drivenLow * (50 * lsTwentieths c) ≤ low b
   unfolding drivenLow
-  driven-below = omega (arith, floorDiv-below (low b * 1) (50 * stepLength c))
+  driven-below = omega (arith, floorDiv-below (low b * 1) (50 * lsTwentieths c))
 
   pub driven-near : 1870000 * drivenHigh ≤ 1870001 * drivenLow + 1870000 * 4
   unfolding drivenLow drivenHigh
   driven-near =
-      near (low b * 1) (high b * 1) (conductorLength c) (50 * stepLength c) _ _ (omega (arith, drive-near b))
+      near (low b * 1) (high b * 1) (lcMm c) (50 * lsTwentieths c) _ _ (omega (arith, drive-near b))
       (omega (arith, length-bounds .low))
       (omega (arith, length-from))
       (ceilDiv-below (high b * 1) length-pos) (floorDiv-above (low b * 1) length-pos)
 
   pub driven-order : drivenLow ≤ drivenHigh
   unfolding drivenLow drivenHigh
-  driven-order = floor≤ceil (low b * 1) (high b * 1) (50 * stepLength c) length-pos (omega (arith, drive-order b))
+  driven-order = floor≤ceil (low b * 1) (high b * 1) (50 * lsTwentieths c) length-pos (omega (arith, drive-order b))
 
   driven-most : drivenHigh ≤ 112101542400
   unfolding drivenHigh

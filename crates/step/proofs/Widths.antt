@@ -8,7 +8,7 @@ use Rattle.exact.specs.{Fraction.{_≤f_, decimal, _+f_, neg, _−f_, _·f_, _�
 use Rattle.exact.proofs.{Order.{trans≤, refl≈}, Divisors.{cong÷}, Reported.{quotient-low}}
 use Rattle.case.specs.{declared.Case.{Case}, Bounds.{Bounds}}
 use Rattle.formulas.{specs.{Step.{LS}, Width.{mV, μA, stepWidth}}, proofs.Positive.{decimal-nonneg, LS-pos}}
-use Rattle.current.specs.Ends.{currentEnds}
+use Rattle.current.specs.Ends.{igEnds}
 use Rattle.drive.proofs.{Spans.{low}, Reference.{reference-width}}
 use Rattle.step.specs.Ends.{stepVoltageEnds}
 use Rattle.step.proofs.FactorSpans.{factor-span}
@@ -54,6 +54,6 @@ module _ {c : Case} (b : Bounds c) where
       (near a h (t .a) (t .b) _ _ (driven-near b) (t .near) (t .to) (floorDiv-above (a * t .a) {d = 10 ^ 7} (lit< tt))
       (ceilDiv-below (h * t .b) {d = 10 ^ 7} (lit< tt))))
 
-  pub step-narrow : AtMost (stepWidth c (reported μA (currentEnds c))) (reported mV (stepVoltageEnds c))
+  pub step-narrow : AtMost (stepWidth c (reported μA (igEnds c))) (reported mV (stepVoltageEnds c))
   unfolding stepWidth
   step-narrow = reference-width b (LS c) (decimal-nonneg 10 7) share-less extra-less driven-low step-near

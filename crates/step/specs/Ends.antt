@@ -6,7 +6,7 @@ use Rattle.interval.specs.{declared.Interval.{Interval}, Operations.{point, sum
 use Rattle.enclosure.specs.Pi.{πEnds}
 use Rattle.case.specs.declared.Case.{Case}
 use Rattle.formulas.specs.Lengths.{equalCounts}
-use Rattle.lengths.specs.Lengths.{conductorLength, rodLength}
+use Rattle.lengths.specs.Lengths.{lcMm, lrMm}
 use Rattle.conductors.specs.Weights.{halfPowerEnds}
 use Rattle.drive.specs.Ends.{numberOf, driveEnds}
 
@@ -34,17 +34,17 @@ module _ (c : Case) where
   spacingSum = sumOf (sumOf (perMetre 1 (2 * c .depth)) (perMetre 1 reach)) shareEnds
 
   -- Ks, in 10^−7 per metre
-  unfoldable pub spacingFactor : Interval
-  spacingFactor = quotientOf spacingSum πEnds (10 ^ 7)
+  unfoldable pub ksEnds : Interval
+  ksEnds = quotientOf spacingSum πEnds (10 ^ 7)
 
   -- LS, in twentieths of a millimetre
-  unfoldable pub stepLength : ℕ
-  stepLength = 15 * conductorLength c + 17 * rodLength c
+  unfoldable pub lsTwentieths : ℕ
+  lsTwentieths = 15 * lcMm c + 17 * lrMm c
 
   -- ρ·Ki·IG/LS, in mV
   unfoldable pub drivenEnds : Interval
-  drivenEnds = quotientOf (driveEnds c) (point (pos (50 * stepLength))) 1
+  drivenEnds = quotientOf (driveEnds c) (point (pos (50 * lsTwentieths))) 1
 
   -- step voltage, in mV
   unfoldable pub stepVoltageEnds : Interval
-  stepVoltageEnds = productOf drivenEnds spacingFactor (10 ^ 7)
+  stepVoltageEnds = productOf drivenEnds ksEnds (10 ^ 7)

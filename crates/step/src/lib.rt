@@ -4,14 +4,14 @@ ghost use Prim.Native.Nat.{_<_, _^_};
 ghost use Rattle.case.specs.Bounds.{Bounds};
 ghost use Rattle.drive.specs.Ends.{driveEnds};
 ghost use Rattle.by_counts.specs.Ends.{byCountsOf};
-ghost use Rattle.step.specs.Ends.{perMetre, powerOfTwo, shareEnds, spacingSum, spacingFactor, stepLength, drivenEnds};
+ghost use Rattle.step.specs.Ends.{perMetre, powerOfTwo, shareEnds, spacingSum, ksEnds, lsTwentieths, drivenEnds};
 ghost use Rattle.step.specs.Ends.{stepVoltageEnds};
 use by_counts::ByCounts;
 use case::Case;
 use enclosure::pi;
 use interval::Interval;
-use lengths::conductor_length;
-use lengths::rod_length;
+use lengths::lc;
+use lengths::lr;
 
 // a / d per millimetre, in 10^-9 per metre.
 fn per_metre(a: u64, d: u64) -> Interval
@@ -59,26 +59,26 @@ fn spacing_sum(c: Case, by: ByCounts) -> Interval
 }
 
 // Ks in 10^-7 per metre.
-pub fn spacing_factor(c: Case, by: ByCounts) -> Interval
+pub fn ks(c: Case, by: ByCounts) -> Interval
     requires { ⌜ Bounds c ⌝ }
     requires { ⌜ by ≡ byCountsOf c ⌝ }
-    ensures { λ r. ⌜ r ≡ spacingFactor c ⌝ }
+    ensures { λ r. ⌜ r ≡ ksEnds c ⌝ }
 {
     spacing_sum(c, by).quotient(pi(), 10000000)
 }
 
 // LS in twentieths of a millimetre.
-pub fn step_length(c: Case) -> u64
+pub fn ls(c: Case) -> u64
     requires { ⌜ Bounds c ⌝ }
-    ensures { λ r. ⌜ r ≡ stepLength c ⌝ }
+    ensures { λ r. ⌜ r ≡ lsTwentieths c ⌝ }
 {
-    15 * conductor_length(c) + 17 * rod_length(c)
+    15 * lc(c) + 17 * lr(c)
 }
 
 // ρ·Ki·IG/LS in mV, for the case's LS and ρ·Ki·IG.
 fn driven(c: Case, length: u64, drive: Interval) -> Interval
     requires { ⌜ Bounds c ⌝ }
-    requires { ⌜ length ≡ stepLength c ⌝ }
+    requires { ⌜ length ≡ lsTwentieths c ⌝ }
     requires { ⌜ drive ≡ driveEnds c ⌝ }
     ensures { λ r. ⌜ r ≡ drivenEnds c ⌝ }
 {
@@ -88,8 +88,8 @@ fn driven(c: Case, length: u64, drive: Interval) -> Interval
 // Step voltage in mV, for the case's LS, Ks and ρ·Ki·IG.
 pub fn step_voltage(c: Case, length: u64, factor: Interval, drive: Interval) -> Interval
     requires { ⌜ Bounds c ⌝ }
-    requires { ⌜ length ≡ stepLength c ⌝ }
-    requires { ⌜ factor ≡ spacingFactor c ⌝ }
+    requires { ⌜ length ≡ lsTwentieths c ⌝ }
+    requires { ⌜ factor ≡ ksEnds c ⌝ }
     requires { ⌜ drive ≡ driveEnds c ⌝ }
     ensures { λ r. ⌜ r ≡ stepVoltageEnds c ⌝ }
 {

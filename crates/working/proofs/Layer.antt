@@ -14,7 +14,7 @@ use Rattle.formulas.specs.{Lengths.{ρ}, Tolerable.{ρs, hs, Q}}
 use Rattle.formulas.proofs.Surface.{quotient-is, divisor, thickness, thickness-pos, effect, effect-is}
 use Rattle.tolerable.proofs.Layer.{by-surface}
 use Rattle.step.proofs.Ratios.{ratio, counted, counted-point}
-use Rattle.working.specs.{Surface.{Cs, surface}, Ends.{derated, full, layerFactor}}
+use Rattle.working.specs.{Surface.{Cs, surface}, Ends.{derated, full, csEnds}}
 
 module _ (soil layer thick : ℕ) (p : 0 < layer) where
   below : 0 < layer * (2 * thick + 90)
@@ -80,8 +80,8 @@ module _ {c : Case} (b : Bounds c) where
       let q = point-same (derating-is (c .soil) (c .layer) (c .thick) p) (between (c .soil) (c .layer) (c .thick) p) in
       encloses-exactly (q .low) (q .high)
 
-  pub factor-encloses : Encloses (exactly (Cs c)) (ten 9) (layerFactor c)
-  unfolding Cs layerFactor ten
+  pub factor-encloses : Encloses (exactly (Cs c)) (ten 9) (csEnds c)
+  unfolding Cs csEnds ten
   factor-encloses =
       ⊎-elim (λ (z : Bare c). rw (eq-eqb (c .layer) 0 (z .layer)) (encloses-whole 1 (ten 9) refl))
       (λ (l : Layered c). rw (ne-eqb (c .layer) 0 (λ e. omega (arith, l .layer .low))) (layered-encloses l)) (b .surface)
@@ -120,8 +120,8 @@ module _ {c : Case} (b : Bounds c) where
   unfolding derated full
   derated-least l = omega (arith, mul-le-mul-left (c .layer) (l .thick .low))
 
-  pub factor-span : Span (layerFactor c) 300000000 6450000000000000 1
-  unfolding layerFactor
+  pub factor-span : Span (csEnds c) 300000000 6450000000000000 1
+  unfolding csEnds
   factor-span =
       by-surface (λ i. Span i 300000000 6450000000000000 1) (b .surface)
       (λ z. numeral-wider (numeral-point (10 ^ 9) {l = 10 ^ 9} {h = 10 ^ 9} (lits tt)) (lits tt))

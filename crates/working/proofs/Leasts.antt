@@ -15,9 +15,9 @@ use Rattle.case.specs.{declared.Case.{Case}, Bounds.{Bounds}}
 use Rattle.formulas.proofs.Conductors.{by-place}
 use Rattle.effective_number.{specs.{Counts.{Counts}, Number.{nEnds}}, proofs.NumberEnclosed.{counts}}
 use Rattle.conductors.{specs.Weights.{innerEnds}, proofs.{LineRoots.{line-root-span}, WeightWidths.{exponent-span, inner-span}}}
-use Rattle.step.specs.Ends.{perMetre, spacingSum, spacingFactor}
+use Rattle.step.specs.Ends.{perMetre, spacingSum, ksEnds}
 use Rattle.step.proofs.FactorSpans as step
-use Rattle.mesh.{specs.Factor.{argumentLog, innerTerm, innerFactor, perimeterRods, geometricFactor}, proofs.Logarithms.{argument-span}}
+use Rattle.mesh.{specs.Factor.{argumentLog, innerTerm, kiiEnds, perimeterRods, kmEnds}, proofs.Logarithms.{argument-span}}
 use Rattle.mesh.proofs.FactorSpans as mesh
 
 -- a span from a known lower end on
@@ -85,8 +85,8 @@ inner-least {a} {b} h =
     (λ e s. power-span (exponent-span h e) s) (inner-span h)
 
 module _ {c : Case} (b : Bounds c) where
-  pub Kii-span : Span (innerFactor c) 100000000 1000000000 610
-  unfolding innerFactor
+  pub Kii-span : Span (kiiEnds c) 100000000 1000000000 610
+  unfolding kiiEnds
   Kii-span =
       by-place (λ i. Span i 100000000 1000000000 610) (perimeterRods c) (λ e. numeral-wider one-span (lits tt))
       (λ e. inner-least (counts b))
@@ -114,8 +114,8 @@ module _ {c : Case} (b : Bounds c) where
         mesh.term-size b,
       )
 
-  pub Km-span : Span (geometricFactor c) 903000 17652000 6
-  unfolding geometricFactor
+  pub Km-span : Span (kmEnds c) 903000 17652000 6
+  unfolding kmEnds
   Km-span =
       let s = mesh.total-span b in
       numeral-quotient 10000000 903000 17652000 5 (lits tt)
@@ -129,8 +129,8 @@ module _ {c : Case} (b : Bounds c) where
       span-divide (2 * c .depth) (10 ^ 12) 200000000 2000000000 0 (omega (arith, b .depth .low)) (omega (arith, b .depth .high))
       (omega (arith, b .depth .low)) (omega arith) (numeral-point 1 {l = 1} {h = 1} (lits tt))
 
-  pub Ks-span : Span (spacingFactor c) 636000 10000000 4
-  unfolding spacingFactor spacingSum
+  pub Ks-span : Span (ksEnds c) 636000 10000000 4
+  unfolding ksEnds spacingSum
   Ks-span =
       numeral-quotient (10 ^ 7) 636000 10000000 3 (lits tt)
       (span-sum (span-sum depth-least (step.reach-span b)) (step.share-span b)) π-span

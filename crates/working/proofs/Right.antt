@@ -10,20 +10,20 @@ use Rattle.formulas.proofs.{Conductors.{quantity-n, quantity-s}, Quantities.{qu
 use Rattle.formulas.proofs.Consistent.{quantity-rootTime, consistent-Km, consistent-Ks}
 use Rattle.effective_number.proofs.{NumberSpans.{n-span, Ki-span}, NumberEnclosed.{counts, n-encloses, Ki-encloses}}
 use Rattle.tolerable.proofs.{Spans.{time-span}, Enclosed.{time-encloses}}
-use Rattle.lengths.{specs.Lengths.{conductorLength, rodLength, totalLength}, proofs.Lengths.{conductor-is, rod-is, total-is}}
+use Rattle.lengths.{specs.Lengths.{lcMm, lrMm, ltMm}, proofs.Lengths.{conductor-is, rod-is, total-is}}
 use Rattle.drive.proofs.Enclosed.{drive-consistent}
 use Rattle.resistance.proofs.{Spans.{side-span}, Enclosed.{side-encloses}}
-use Rattle.step.{specs.Ends.{stepLength}, proofs.Enclosed.{length-is}}
+use Rattle.step.{specs.Ends.{lsTwentieths}, proofs.Enclosed.{length-is}}
 use Rattle.step.proofs.FactorEnclosed as SE
 use Rattle.mesh.{specs.Ends.{meshEnds}, proofs.FactorSpans.{depth-span}}
-use Rattle.mesh.proofs.Enclosed.{length-encloses, mesh-length-encloses, driven-encloses}
+use Rattle.mesh.proofs.Enclosed.{length-encloses, lm-encloses, driven-encloses}
 use Rattle.mesh.proofs.FactorEnclosed as ME
 use Rattle.working.specs.{declared.Quantities.{Quantities}, Ends.{workingOf}}
 use Rattle.working.specs.Working.{millionth, hundredThousandth, drivenWidth, RightWorking, workingAnswer, RightWorked}
 use Rattle.working.specs.Working.{WorkingAnswered}
 use Rattle.working.specs.declared.Worked.the-variants as worked
 use Rattle.working.proofs.{Layer.{factor-encloses, effect-is-derated, factor-span}, Leasts.{Kii-span, Km-span, Ks-span}}
-use Rattle.working.proofs.Widths.{millionth-narrow, hundred-thousandth-narrow, point-narrow, mesh-length-narrow, driven-narrow}
+use Rattle.working.proofs.Widths.{millionth-narrow, hundred-thousandth-narrow, point-narrow, lm-narrow, driven-narrow}
 
 pub right-working : {c : Case} → Bounds c → RightWorking c (workingOf c)
 unfolding workingOf meshEnds ten
@@ -34,16 +34,16 @@ right-working {c} b =
       root-time = reports millionth (quantity-rootTime b .consistent) (time-encloses b) (millionth-narrow (ten 8) (lit≤ tt) (time-span b));
       side = reports millionth (quantity-s b .consistent) (side-encloses b) (millionth-narrow (ten 6) (lit≤ tt) (side-span b));
       lc =
-          reports millionth (consistent-exactly _) (length-encloses (conductorLength c) (conductor-is c))
-          (point-narrow (ten 6) (1000 * conductorLength c));
-      lr = reports millionth (consistent-exactly _) (length-encloses (rodLength c) (rod-is c)) (point-narrow (ten 6) (1000 * rodLength c));
+          reports millionth (consistent-exactly _) (length-encloses (lcMm c) (conductor-is c))
+          (point-narrow (ten 6) (1000 * lcMm c));
+      lr = reports millionth (consistent-exactly _) (length-encloses (lrMm c) (rod-is c)) (point-narrow (ten 6) (1000 * lrMm c));
       lt =
-          reports millionth (consistent-exactly _) (length-encloses (totalLength c) (total-is c))
-          (point-narrow (ten 6) (1000 * totalLength c));
-      lm = reports millionth (m .consistent) (mesh-length-encloses b) (mesh-length-narrow b);
+          reports millionth (consistent-exactly _) (length-encloses (ltMm c) (total-is c))
+          (point-narrow (ten 6) (1000 * ltMm c));
+      lm = reports millionth (m .consistent) (lm-encloses b) (lm-narrow b);
       ls =
-          reports millionth (consistent-exactly _) (encloses-count (pos (50 * stepLength c)) (ten 6) (length-is c))
-          (point-narrow (ten 6) (50 * stepLength c));
+          reports millionth (consistent-exactly _) (encloses-count (pos (50 * lsTwentieths c)) (ten 6) (length-is c))
+          (point-narrow (ten 6) (50 * lsTwentieths c));
       n = reports millionth (quantity-n b .consistent) (n-encloses b) (millionth-narrow (ten 7) (lit≤ tt) (n-span (counts b)));
       ki = reports millionth (quantity-Ki b .consistent) (Ki-encloses b) (millionth-narrow (ten 10) (lit≤ tt) (Ki-span (counts b)));
       kii =

@@ -6,7 +6,7 @@ use Rattle.interval.{specs.{declared.Interval.{Interval}, Operations.{natural, 
 use Rattle.exact.specs.{Fraction.{decimal, _+f_, neg, _−f_, _·f_}, Reported.{Scale, ten, over, reported, AtMost}}
 use Rattle.case.specs.{declared.Case.{Case}, Bounds.{Bounds}}
 use Rattle.formulas.specs.Width.{mV}
-use Rattle.mesh.{specs.Ends.{meshLength, drivenEnds}, proofs.DrivenWidths.{mesh-length-relative, driven-ends}}
+use Rattle.mesh.{specs.Ends.{lmEnds, drivenEnds}, proofs.DrivenWidths.{lm-relative, driven-ends}}
 use Rattle.working.specs.Working.{millionth, hundredThousandth, drivenWidth}
 
 -- ---- a share of the lower end: of ends a and b, 10^e times their difference is at most a
@@ -32,9 +32,9 @@ pub point-narrow : (u : Scale) (n : ℕ) → AtMost (millionth (reported u (poin
 point-narrow u n = millionth-narrow u (omega arith) (span-point n {l = n} {h = n} (omega arith) (omega arith))
 
 -- LM's, at most 1/3,535,000 apart
-pub mesh-length-narrow : {c : Case} → Bounds c → AtMost (millionth (reported (ten 6) (meshLength c))) (reported (ten 6) (meshLength c))
+pub lm-narrow : {c : Case} → Bounds c → AtMost (millionth (reported (ten 6) (lmEnds c))) (reported (ten 6) (lmEnds c))
 unfolding millionth reported natural
-mesh-length-narrow b = let r = mesh-length-relative b in rw (r .is) (share-near (ten 6) (r .a) (r .b) 6 (omega (arith, r .near)))
+lm-narrow b = let r = lm-relative b in rw (r .is) (share-near (ten 6) (r .a) (r .b) 6 (omega (arith, r .near)))
 
 -- ---- ρ·Ki·IG/LM
 

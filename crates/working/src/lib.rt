@@ -4,8 +4,8 @@ ghost use lib.IntN.{pos};
 ghost use Prim.Native.Nat.{_*_, _≤_};
 ghost use Rattle.interval.specs.Operations.{point};
 ghost use Rattle.case.specs.Bounds.{Bounds};
-ghost use Rattle.step.specs.Ends.{stepLength};
-ghost use Rattle.working.specs.Ends.{layerFactor, workingOf};
+ghost use Rattle.step.specs.Ends.{lsTwentieths};
+ghost use Rattle.working.specs.Ends.{csEnds, workingOf};
 ghost use Rattle.working.specs.Numbers.{workingNumbers};
 ghost use Rattle.working.specs.Working.{WorkingAnswered};
 use case::Case;
@@ -50,9 +50,9 @@ pub enum Worked {
 }
 
 // Cs in 10^-9: with a layer the quotient of two whole numbers.
-fn layer_factor(c: Case) -> Interval
+fn cs(c: Case) -> Interval
     requires { ⌜ Bounds c ⌝ }
-    ensures { λ r. ⌜ r ≡ layerFactor c ⌝ }
+    ensures { λ r. ⌜ r ≡ csEnds c ⌝ }
 {
     if c.layer == 0 {
         return Interval::point(1000000000);
@@ -74,9 +74,9 @@ fn in_micrometres(mm: u64) -> Interval
 // LS in micrometres, of which a twentieth of a millimetre has 50.
 fn step_in_micrometres(c: Case) -> Interval
     requires { ⌜ Bounds c ⌝ }
-    ensures { λ r. ⌜ r ≡ point (pos (50 * stepLength c)) ⌝ }
+    ensures { λ r. ⌜ r ≡ point (pos (50 * lsTwentieths c)) ⌝ }
 {
-    Interval::point(50 * step::step_length(c))
+    Interval::point(50 * step::ls(c))
 }
 
 // The working of a case within its bounds.
@@ -84,26 +84,26 @@ pub fn work(c: Case) -> Quantities
     requires { ⌜ Bounds c ⌝ }
     ensures { λ r. ⌜ r ≡ workingOf c ⌝ }
 {
-    let current = current::grid_current(c, decrement::factor_ends(c));
+    let current = current::ig(c, decrement::df(c));
     let by = by_counts::by_counts(c.across, c.along);
     let n = by.n;
     let drive = drive::drive(c, n, current);
-    let lm = mesh::mesh_length(c);
+    let lm = mesh::lm(c);
     Quantities {
-        cs: layer_factor(c),
+        cs: cs(c),
         root_time: tolerable::time_root(c),
         side: resistance::side_term(c),
-        lc: in_micrometres(lengths::conductor_length(c)),
-        lr: in_micrometres(lengths::rod_length(c)),
-        lt: in_micrometres(lengths::total_length(c)),
+        lc: in_micrometres(lengths::lc(c)),
+        lr: in_micrometres(lengths::lr(c)),
+        lt: in_micrometres(lengths::lt(c)),
         lm,
         ls: step_in_micrometres(c),
         n,
-        ki: effective_number::irregularity(n),
-        kii: mesh::inner_factor(c, by),
-        kh: mesh::depth_factor(c),
-        km: mesh::geometric_factor(c, by),
-        ks: step::spacing_factor(c, by),
+        ki: effective_number::ki(n),
+        kii: mesh::kii(c, by),
+        kh: mesh::kh(c),
+        km: mesh::km(c, by),
+        ks: step::ks(c, by),
         driven: mesh::driven(c, lm, drive),
     }
 }

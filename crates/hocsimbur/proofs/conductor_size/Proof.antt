@@ -5,13 +5,13 @@ use Rattle.hocsimbur.proofs.{Answers.{sound-bounds, size-told, size-ref
 use borrow.Author.Needs.{needs}
 use Rattle.hocsimbur.proofs.conductor_size.Tie as tie
 
-factor-ends-requires : tie.Need-factor-ends-requires
-factor-ends-requires c κs = sound-bounds _ (c .before .before .judge .ensures) (c .enum-told .given .1)
+df-requires : tie.Need-df-requires
+df-requires c κs = sound-bounds _ (c .before .before .judge .ensures) (c .enum-told .given .1)
 
 conductor-size-requires : tie.Need-conductor-size-requires
 conductor-size-requires c κs =
     let t = c .before in
-    (sound-bounds _ (t .before .before .judge .ensures) (t .enum-told .given .1), c .factor-ends .ensures)
+    (sound-bounds _ (t .before .before .judge .ensures) (t .enum-told .given .1), c .df .ensures)
 
 returns : tie.Need-returns
 unfolding sizeByRow factorInRow rowOf
@@ -24,5 +24,5 @@ returns-2 c = size-refused _ (c .before .before .before .judge .ensures) (c .bef
 
 pub conductor-size-spec : {M : Type 1} → statement M
 conductor-size-spec =
-    tie.close (tie.spec (λ c κs. search needs) (λ c. search needs) factor-ends-requires conductor-size-requires (λ c. search needs) returns
+    tie.close (tie.spec (λ c κs. search needs) (λ c. search needs) df-requires conductor-size-requires (λ c. search needs) returns
     returns-2)

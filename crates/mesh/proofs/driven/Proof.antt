@@ -4,14 +4,14 @@ use lib.Dec.{lit<}
 use Rattle.interval.proofs.SpanFits.{quotient-fits}
 use Rattle.drive.proofs.Spans.{drive-span}
 use Rattle.mesh.specs.Ends.{drivenEnds}
-use Rattle.mesh.proofs.{LengthSpans.{mesh-length-span, mesh-length-low}, driven.Statement.{statement}}
+use Rattle.mesh.proofs.{LengthSpans.{lm-span, lm-low}, driven.Statement.{statement}}
 use Rattle.mesh.proofs.driven.Tie as tie
 
 quotient-requires : tie.Need-quotient-requires
 quotient-requires c κs =
     let b = c .pre .0 in
     rw (c .pre .1 .0, c .pre .1 .1)
-    (quotient-fits (lit< tt) (lit< tt) (omega (arith, mesh-length-low b)) (drive-span b) (mesh-length-span b))
+    (quotient-fits (lit< tt) (lit< tt) (omega (arith, lm-low b)) (drive-span b) (lm-span b))
 
 returns : tie.Need-returns
 unfolding drivenEnds

@@ -9,12 +9,12 @@ use borrow.Author.Needs.{needs}
 use Rattle.resistance.proofs.per_soil.Tie as tie
 
 point-requires : tie.Need-point-requires
-point-requires c κs = rw (c .total-length .ensures) (omega (arith, total-bounds (c .before .pre) .high))
+point-requires c κs = rw (c .lt .ensures) (omega (arith, total-bounds (c .before .pre) .high))
 
 quotient-requires : tie.Need-quotient-requires
 quotient-requires c κs =
     let p = c .before in
-    rw (c .point2 .ensures, p .point .ensures, p .before .total-length .ensures)
+    rw (c .point2 .ensures, p .point .ensures, p .before .lt .ensures)
     (numeral-quotient-fits (lits tt) (numeral-point 1 {l = 1} {h = 1} (lits tt)) (total-span (p .before .before .pre)))
 
 quotient-requires-2 : tie.Need-quotient-requires-2
@@ -35,7 +35,7 @@ sum-requires c κs =
       q .quotient .ensures,
       q .before .point2 .ensures,
       p .point .ensures,
-      p .before .total-length .ensures,
+      p .before .lt .ensures,
     )
     (sum-fits (lit< tt) (first-span b) (second-span b))
 

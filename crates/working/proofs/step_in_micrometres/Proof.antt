@@ -8,10 +8,10 @@ use Rattle.working.proofs.step_in_micrometres.Statement.{statement}
 use Rattle.working.proofs.step_in_micrometres.Tie as tie
 
 mul-point : tie.Need-mul-point
-mul-point c = rw (c .step-length .ensures) (fits-below (mul-le-mul-left 50 (length-bounds (c .before .pre) .high)) (lit< tt))
+mul-point c = rw (c .ls .ensures) (fits-below (mul-le-mul-left 50 (length-bounds (c .before .pre) .high)) (lit< tt))
 
 point-requires : tie.Need-point-requires
-point-requires c κs = rw (c .step-length .ensures) (omega (arith, length-bounds (c .before .pre) .high))
+point-requires c κs = rw (c .ls .ensures) (omega (arith, length-bounds (c .before .pre) .high))
 
 returns : tie.Need-returns
 returns c = cc

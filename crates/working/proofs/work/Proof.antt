@@ -8,14 +8,14 @@ use Rattle.working.proofs.work.Statement.{statement}
 use Rattle.working.proofs.work.Tie as tie
 
 -- where LM was computed, seen from LT and from Ks
-abbrev measured : tie.After-in-micrometres3 → tie.After-mesh-length
+abbrev measured : tie.After-in-micrometres3 → tie.After-lm
 measured c = c .before .before .before .before .before .before .before .before .before
 
 -- where ρ·Ki·IG was
 abbrev driven-from : tie.After-in-micrometres3 → tie.After-drive
 driven-from c = measured c .before
 
-abbrev weighed : tie.After-spacing-factor → tie.After-in-micrometres3
+abbrev weighed : tie.After-ks → tie.After-in-micrometres3
 weighed c = c .before .before .before .before .before .before
 
 abbrev started : tie.After-drive → tie.Start
@@ -28,19 +28,19 @@ by-counts-requires : tie.Need-by-counts-requires
 by-counts-requires c κs = counts (c .before .before .pre)
 
 drive-requires : tie.Need-drive-requires
-drive-requires c κs = let b = c .before in (b .before .before .before .pre, (rw (b .by-counts .ensures), b .before .grid-current .ensures))
+drive-requires c κs = let b = c .before in (b .before .before .before .pre, (rw (b .by-counts .ensures), b .before .ig .ensures))
 
 in-micrometres-requires : tie.Need-in-micrometres-requires
 in-micrometres-requires c κs =
-    rw (c .conductor-length .ensures) (omega (arith, conductor-bounds (started (c .before .before .before .before .before) .pre) .high))
+    rw (c .lc .ensures) (omega (arith, conductor-bounds (started (c .before .before .before .before .before) .pre) .high))
 
 in-micrometres-requires-2 : tie.Need-in-micrometres-requires-2
 in-micrometres-requires-2 c κs =
-    rw (c .rod-length .ensures) (omega (arith, rod-bound (started (c .before .before .before .before .before .before .before) .pre)))
+    rw (c .lr .ensures) (omega (arith, rod-bound (started (c .before .before .before .before .before .before .before) .pre)))
 
 in-micrometres-requires-3 : tie.Need-in-micrometres-requires-3
 in-micrometres-requires-3 c κs =
-    rw (c .total-length .ensures) (omega (
+    rw (c .lt .ensures) (omega (
       arith,
       total-bounds
           (started (c .before .before .before .before .before .before .before .before .before) .pre) .high,
@@ -49,26 +49,26 @@ in-micrometres-requires-3 c κs =
 step-in-micrometres-requires : tie.Need-step-in-micrometres-requires
 step-in-micrometres-requires c κs = started (driven-from c) .pre
 
-irregularity-requires : tie.Need-irregularity-requires
-irregularity-requires c κs = let d = driven-from (c .before) in rw (counted d .by-counts .ensures) (n-span (counts (started d .pre)))
+ki-requires : tie.Need-ki-requires
+ki-requires c κs = let d = driven-from (c .before) in rw (counted d .by-counts .ensures) (n-span (counts (started d .pre)))
 
-inner-factor-requires : tie.Need-inner-factor-requires
-inner-factor-requires c κs = let d = driven-from (c .before .before) in (started d .pre, counted d .by-counts .ensures)
+kii-requires : tie.Need-kii-requires
+kii-requires c κs = let d = driven-from (c .before .before) in (started d .pre, counted d .by-counts .ensures)
 
-depth-factor-requires : tie.Need-depth-factor-requires
-depth-factor-requires c κs = started (driven-from (c .before .before .before)) .pre
+kh-requires : tie.Need-kh-requires
+kh-requires c κs = started (driven-from (c .before .before .before)) .pre
 
-geometric-factor-requires : tie.Need-geometric-factor-requires
-geometric-factor-requires c κs =
+km-requires : tie.Need-km-requires
+km-requires c κs =
     let d = driven-from (c .before .before .before .before) in (started d .pre, counted d .by-counts .ensures)
 
-spacing-factor-requires : tie.Need-spacing-factor-requires
-spacing-factor-requires c κs =
+ks-requires : tie.Need-ks-requires
+ks-requires c κs =
     let d = driven-from (c .before .before .before .before .before) in (started d .pre, counted d .by-counts .ensures)
 
 driven-requires : tie.Need-driven-requires
 driven-requires c κs =
-    let m = measured (weighed c) in (started (m .before) .pre, (m .mesh-length .ensures, m .before .drive .ensures))
+    let m = measured (weighed c) in (started (m .before) .pre, (m .lm .ensures, m .before .drive .ensures))
 
 returns : tie.Need-returns
 unfolding workingOf
@@ -88,22 +88,22 @@ returns c =
     let y = x .before in
     rw (
       c .driven .ensures,
-      k .spacing-factor .ensures,
-      g .geometric-factor .ensures,
-      h .depth-factor .ensures,
-      i .inner-factor .ensures,
-      r .irregularity .ensures,
+      k .ks .ensures,
+      g .km .ensures,
+      h .kh .ensures,
+      i .kii .ensures,
+      r .ki .ensures,
       s .step-in-micrometres .ensures,
       l .in-micrometres3 .ensures,
-      t .total-length .ensures,
+      t .lt .ensures,
       t .before .in-micrometres2 .ensures,
-      u .rod-length .ensures,
+      u .lr .ensures,
       u .before .in-micrometres .ensures,
-      v .conductor-length .ensures,
+      v .lc .ensures,
       w .side-term .ensures,
       x .time-root .ensures,
-      y .layer-factor .ensures,
-      y .before .mesh-length .ensures,
+      y .cs .ensures,
+      y .before .lm .ensures,
       counted (y .before .before) .by-counts .ensures,
     )
 
@@ -112,5 +112,5 @@ work-spec =
     tie.close (tie.spec (λ c κs. search needs) (λ c κs. search needs) by-counts-requires drive-requires (λ c κs. search needs)
     (λ c κs. search needs) (λ c κs. search needs) (λ c κs. search needs) (λ c κs. search needs) in-micrometres-requires
     (λ c κs. search needs) in-micrometres-requires-2 (λ c κs. search needs) in-micrometres-requires-3
-    step-in-micrometres-requires irregularity-requires inner-factor-requires depth-factor-requires geometric-factor-requires
-    spacing-factor-requires driven-requires returns)
+    step-in-micrometres-requires ki-requires kii-requires kh-requires km-requires
+    ks-requires driven-requires returns)

@@ -9,23 +9,23 @@ use borrow.Author.Needs.{needs}
 use Rattle.mesh.proofs.rods.weighed_length.Tie as tie
 
 point-requires : tie.Need-point-requires
-point-requires c κs = rw (c .rod-length .ensures) (omega (arith, rod-bound (c .before .before .pre)))
+point-requires c κs = rw (c .lr .ensures) (omega (arith, rod-bound (c .before .before .pre)))
 
 product-requires : tie.Need-product-requires
 product-requires c κs =
     let s = c .before .before .before in
-    rw (c .point .ensures, c .before .rod-length .ensures, c .before .before .rod-weight .ensures)
+    rw (c .point .ensures, c .before .lr .ensures, c .before .before .rod-weight .ensures)
     (lit< tt, omega (arith, mul-le-mul (span-size (weight-span (s .pre))) (span-size (rods-point (s .pre)))))
 
 mul-point : tie.Need-mul-point
 mul-point c =
     let s = c .before .before .before .before .before in
-    rw (c .conductor-length .ensures) (fits-below (mul-le-mul-left 1000 (conductor-bounds (s .pre) .high)) (lit< tt))
+    rw (c .lc .ensures) (fits-below (mul-le-mul-left 1000 (conductor-bounds (s .pre) .high)) (lit< tt))
 
 point-requires-2 : tie.Need-point-requires-2
 point-requires-2 c κs =
     let s = c .before .before .before .before .before in
-    rw (c .conductor-length .ensures) (omega (arith, conductor-bounds (s .pre) .high))
+    rw (c .lc .ensures) (omega (arith, conductor-bounds (s .pre) .high))
 
 sum-requires : tie.Need-sum-requires
 sum-requires c κs =
@@ -33,10 +33,10 @@ sum-requires c κs =
     let w = p .before .before .before in
     rw (
       c .point2 .ensures,
-      c .before .conductor-length .ensures,
+      c .before .lc .ensures,
       p .product .ensures,
       p .before .point .ensures,
-      p .before .before .rod-length .ensures,
+      p .before .before .lr .ensures,
       w .rod-weight .ensures,
     )
     (omega (arith, span-size (conductors-span (w .before .pre)), span-size (rods-span (w .before .pre))))

@@ -14,13 +14,13 @@ returns c =
     let n = m .before .before in
     let t = n .before .before .before in
     rw (
-      c .spacing-factor .ensures,
-      l .step-length .ensures,
-      k .geometric-factor .ensures,
-      m .mesh-length .ensures,
+      c .ks .ensures,
+      l .ls .ensures,
+      k .km .ensures,
+      m .lm .ensures,
       n .by-counts .ensures,
       t .touch-and-step .ensures,
-      t .before .factor-ends .ensures,
+      t .before .df .ensures,
     )
 
 pub fixed-parts-spec : {M : Type 1} → statement M

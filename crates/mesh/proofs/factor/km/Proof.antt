@@ -1,13 +1,13 @@
--- `geometric_factor` keeps within 64 bits by the spans of its parts.
+-- `km` keeps within 64 bits by the spans of its parts.
 use native.Mathlib.Omega.{arith}
 use lib.Dec.{lit≤, lit<}
 use Rattle.interval.proofs.Span.{span-size, span-divisor}
 use Rattle.enclosure.proofs.Constants.{π-span}
-use Rattle.mesh.specs.Factor.{geometricFactor}
+use Rattle.mesh.specs.Factor.{kmEnds}
 use Rattle.mesh.proofs.{Logarithms.{argument-span}, FactorSpans.{turn-span, term-size, total-span}}
-use Rattle.mesh.proofs.factor.geometric_factor.Statement.{statement}
+use Rattle.mesh.proofs.factor.km.Statement.{statement}
 use borrow.Author.Needs.{needs}
-use Rattle.mesh.proofs.factor.geometric_factor.Tie as tie
+use Rattle.mesh.proofs.factor.km.Tie as tie
 
 scaled-requires : tie.Need-scaled-requires
 scaled-requires c κs = rw (c .pi .ensures) (lit< tt, omega (arith, span-size π-span))
@@ -32,10 +32,10 @@ quotient-requires c κs =
     (span-divisor (lit≤ tt) turn-span, (lit< tt, omega (arith, span-size (total-span (s .pre .0)))))
 
 returns : tie.Need-returns
-unfolding geometricFactor
+unfolding kmEnds
 returns c = cc
 
-pub geometric-factor-spec : {M : Type 1} → statement M
-geometric-factor-spec =
+pub km-spec : {M : Type 1} → statement M
+km-spec =
     tie.close (tie.spec (λ c κs. search needs) scaled-requires (λ c κs. search needs) (λ c κs. search needs) sum-requires quotient-requires
     returns)

@@ -1,19 +1,19 @@
--- `layer_factor` is Cs for bare soil or with a layer; the bounds of layer, thickness and soil keep it within 64 bits.
+-- `cs` is Cs for bare soil or with a layer; the bounds of layer, thickness and soil keep it within 64 bits.
 use native.Mathlib.Omega.{arith}
 use borrow.Author.{Tests.{eq-eqb, ne-eqb}, Needs.{needs}}
 use lib.Dec.{lit<}
 use Rattle.interval.proofs.{Fits.{fits-below, fits-product}, Span.{span-point}, Rules.{lits}, NumeralSpans.{numeral-quotient-fits}}
 use Rattle.case.specs.Bounds.{Layered}
-use Rattle.working.specs.Ends.{derated, full, layerFactor}
-use Rattle.working.proofs.{Layer.{not-bare, derated-most, full-bounds}, layer_factor.Statement.{statement}}
-use Rattle.working.proofs.layer_factor.Tie as tie
+use Rattle.working.specs.Ends.{derated, full, csEnds}
+use Rattle.working.proofs.{Layer.{not-bare, derated-most, full-bounds}, cs.Statement.{statement}}
+use Rattle.working.proofs.cs.Tie as tie
 
 -- past the test there is a layer
 covered : (c : tie.Else1) → Layered (c .before .before .args .c)
 covered c = not-bare (c .before .before .pre) (c .if1 .left)
 
 returns : tie.Need-returns
-unfolding layerFactor
+unfolding csEnds
 returns c = simp (eq-eqb (c .before .before .before .args .c .layer) 0 (c .before .if1 .taken)) (c .point .ensures)
 
 mul-derated : tie.Need-mul-derated
@@ -61,13 +61,13 @@ quotient-requires c κs =
     (span-point (full (e .before .before .args .c)) (f .low) (f .high)))
 
 returns-2 : tie.Need-returns-2
-unfolding layerFactor derated full
+unfolding csEnds derated full
 returns-2 c =
     let e = c .before .before .before .before .before .before in
     rw (ne-eqb (e .before .before .args .c .layer) 0 (e .if1 .left)) (cc)
 
-pub layer-factor-spec : {M : Type 1} → statement M
-layer-factor-spec =
+pub cs-spec : {M : Type 1} → statement M
+cs-spec =
     tie.close (tie.spec (λ c κs. search needs) returns (λ c. search needs) (λ c. search needs) mul-derated mul-derated-2 (λ c. search needs)
     (λ c. search needs) add-derated point-requires-2 (λ c. search needs) (λ c. search needs) mul-point-2 point-requires-3 quotient-requires
     returns-2)

@@ -1,4 +1,4 @@
--- `factor_ends` takes the roots of the square's ends times 10^9, which keep within 64 bits.
+-- `df` takes the roots of the square's ends times 10^9, which keep within 64 bits.
 use Prim.Native.Nat.{_+_, _≤_}
 use native.Mathlib.Omega.{arith}
 use mir.Facts.{toZ-ofZ}
@@ -6,10 +6,10 @@ use Rattle.interval.{specs.Span.{Span}, proofs.{Held.{Held}, SpanFits.{read-low
 use Rattle.whole.proofs.Bits.{natural-cast}
 use Rattle.enclosure.proofs.SquareRoot.{square-root-is}
 use Rattle.exponential.specs.Ends.{billion}
-use Rattle.decrement.specs.Ends.{factorEnds}
-use Rattle.decrement.proofs.{Widths.{square-span, root-most}, factor_ends.Statement.{statement}}
+use Rattle.decrement.specs.Ends.{dfEnds}
+use Rattle.decrement.proofs.{Widths.{square-span, root-most}, df.Statement.{statement}}
 use borrow.Author.Needs.{needs}
-use Rattle.decrement.proofs.factor_ends.Tie as tie
+use Rattle.decrement.proofs.df.Tie as tie
 
 module _ (c : tie.After-square) where
   held : Held (c .square .result)
@@ -49,7 +49,7 @@ natural-requires : tie.Need-natural-requires
 natural-requires c κs = (omega (arith, low (c .before .before .before)), omega (arith, high c))
 
 returns : tie.Need-returns
-unfolding factorEnds
+unfolding dfEnds
 returns c =
     let u = c .before in
     let l = u .before .before .before in
@@ -62,7 +62,7 @@ returns c =
           (rw (toZ-ofZ (held s .1), e) at (u .isqrt2 .ensures)),
     )
 
-pub factor-ends-spec : {M : Type 1} → statement M
-factor-ends-spec =
+pub df-spec : {M : Type 1} → statement M
+df-spec =
     tie.close (tie.spec (λ c κs. search needs) cast-isqrt mul-isqrt (λ c κs. search needs) cast-isqrt-2 mul-isqrt-2 (λ c κs. search needs)
     add-natural natural-requires returns)
