@@ -227,26 +227,28 @@ TEXTS = ["23ft", "18in", "8.7kA", "0.5s", "30 cycles", "4/0", "187.5", "#2", "25
 def cells(rng: random.Random):
     """Cells with units and decimals, in lines of some layer, soil and frequency, and what `import` makes of them, also with caution."""
     shapes = ("{}", "{}.{}", "{}.{}", "{}.0", "{},{}", ".{}", "{}e{}", "{} {}00", "-{}.{}", "+{}", "0{}.{}0")
-    for place in range(3 * COUNT):
+    for name in NAMES:
+        for text in TEXTS:
+            yield cell_asked(rng, name, text)
+    for place in range(2 * COUNT):
         name = rng.choice(NAMES)
         shape = rng.choice(shapes).format(rng.randint(0, 10 ** rng.randint(1, 4)), rng.randint(0, 10 ** rng.randint(1, 3)))
-        text = rng.choice(TEXTS) if place % 4 == 0 else shape + rng.choice(("", " ", "\u00a0")) + rng.choice(UNITS)
-        if rng.random() < 0.6 and name in units.UNITS:
-            own = [*units.UNITS[name], *(["cycles"] if name in ("shock", "clear", "wire") else [])]
-            text = shape + rng.choice(("", " ")) + rng.choice(own)
+        own = [*units.UNITS.get(name, ()), *(["cycles"] if name in ("shock", "clear", "wire") else [])]
+        unit = rng.choice(own) if own and rng.random() < 0.6 else rng.choice(UNITS)
         if place % 4 == 1:  # in the column's range, where there may be a cautious side
-            text = f"{rng.randint(names.BY_NAME[name].low, names.BY_NAME[name].high)}.{rng.randint(1, 999)}"
-        if place % 32 == 2:
-            name, text = "dia", rng.choice(WELL["dia"])
-        text = text.strip(" \t\n\u00a0\u202f\u2007\ufeff")
-        line = dict(zip(NAMES, SOUND), layer=str(rng.choice((0, 100, 2500))), soil=str(rng.choice((100, 400, 4000))))
-        line["hz"] = rng.choice(("50", "60", "55"))
-        line[name] = text
-        sign = rng.choice(",,,;\t")
-        context = {"sign": sign, "hertz": int(line["hz"]) if line["hz"] in ("50", "60") else 0,
-                   "layer": int(line["layer"]) if name != "layer" else 0, "soil": int(line["soil"]) if name != "soil" else 0}
-        if text:
-            yield [text, name, context, cell_words(line, name, sign, False), cell_words(line, name, sign, True)]
+            shape, unit = f"{rng.randint(names.BY_NAME[name].low, names.BY_NAME[name].high)}.{rng.randint(1, 999)}", ""
+        yield cell_asked(rng, name, (shape + rng.choice(("", " ", "\u00a0")) + unit).strip(" \t\n\u00a0\u202f\u2007\ufeff"))
+
+
+def cell_asked(rng: random.Random, name: str, text: str):
+    """A text in a column of a line of some layer, soil and frequency, and both answers."""
+    text, sign = text.strip(), rng.choice(",,,;\t")
+    line = dict(zip(NAMES, SOUND), layer=str(rng.choice((0, 100, 2500))), soil=str(rng.choice((100, 400, 4000))))
+    line["hz"] = rng.choice(("50", "60", "55"))
+    line[name] = text
+    context = {"sign": sign, "hertz": int(line["hz"]) if line["hz"] in ("50", "60") else 0,
+               "layer": int(line["layer"]) if name != "layer" else 0, "soil": int(line["soil"]) if name != "soil" else 0}
+    return [text, name, context, cell_words(line, name, sign, False), cell_words(line, name, sign, True)]
 
 
 def cell_words(line: Dict[str, str], name: str, sign: str, cautious: bool):
