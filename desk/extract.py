@@ -121,6 +121,7 @@ def data():
         "plan": {"left": plan.LEFT, "top": plan.TOP, "width": plan.WIDTH, "height": plan.HEIGHT, "whole": plan.WHOLE_WIDTH,
                  "bars": plan.SCALE_BARS,
                  "dot": plan.DOT, "small_dot": plan.SMALL_DOT, "short": plan.SHORT},
+        "numbers": {one.name.lower(): int(one) for one in core.Refusal},
         "refusals": refusals(), "margins": margins(), "told": told(), "current": current(), "differences": differences(),
         "asides": asides(),
         "released": {str(licensed): [released(count, licensed) for count in (1, 2, 3, 4)] for licensed in (True, False)},

@@ -21,6 +21,34 @@ SHEET_BYTES = 65536  # most bytes of a sheet
 ROW_BYTES = 160      # bytes of a row
 
 
+class Refusal(enum.IntEnum):
+    """The refusals by their numbers, as the header names them; docs/specification.md §2.1 says what line and column of each mean."""
+
+    TEXT = 1
+    NAME = 2
+    FORM = 3
+    LINES = 4
+    RANGE = 5
+    PARTS = 6
+    REPEATED = 7
+    SHORT = 8
+    TIMES = 9
+    COUNTS = 10
+    HERTZ = 11
+    READINGS = 12
+    DISTANCE = 13
+    RESISTANCE = 14
+    SIDE = 15
+    NO_RODLEN = 16
+    TEST = 17
+    PART = 18
+    NO_CURRENT = 19
+    SUMMARY = 20
+    LICENCE = 21
+    STATION = 22
+    RELEASE = 23
+
+
 class Refused(Exception):
     """A refusal: its number, and the line and column that it points at, 0 where there is none."""
 

@@ -199,7 +199,7 @@ def _refuse(sheet: bytes) -> NoReturn:
     """Raises what the library refuses of yards: the first of them."""
     one = checking.check(sheet)[0]
     words = one.said.partition(": ")[2] or one.said
-    if one.number == 7:
+    if one.number == core.Refusal.REPEATED:
         cells = [line.split(b",")[:2] for line in layout.lines(sheet)]
         first = cells.index(cells[one.line - 1]) - 1
         words = words.partition(" stands already")[0] + f" stands already in [{first}]; a station has one line for a season"

@@ -5,22 +5,29 @@
 use Prim.Native.Nat.{ℕ, _/_}
 use mathlib.Core.{Path.{_≡_}, List.{List}}
 use lib.{IntN.{ℤ}, ListN.{length}}
-use Rattle.sheet.specs.{declared.Answer.{Answer, the-variants.{Rows, Refused}}, Answer.{answer, cases}}
+use Rattle.case.specs.declared.Counted.{Counted, the-variants.{Count, Refused}}
+use Rattle.sheet.specs.{declared.Answer.{Answer}, Answer.{answer, cases}}
+use Rattle.sheet.specs.declared.Answer.the-variants as sheet
 use Rattle.c_bytes.specs.Bytes.{numberBytes}
 use Rattle.c_tell.specs.{Answer.{signedAnswer}, Place.{placeAfter}}
 use Rattle.c_rows.specs.Rows.{Filled}
 
 -- "with the buffer untouched"
-unfoldable pub BufferAfter : List ℕ → List ℕ → List ℕ → Answer → Type 0
-BufferAfter s before after (Rows count) = Filled (cases s) before after
+unfoldable pub BufferAfter : List ℕ → List ℕ → List ℕ → Counted → Type 0
+BufferAfter s before after (Count count) = Filled (cases s) before after
 BufferAfter s before after (Refused number line column) = after ≡ before
 
+-- a sheet's answer as a count or a refusal
+unfoldable pub rowCount : Answer → Counted
+rowCount (sheet.Rows count) = Count count
+rowCount (sheet.Refused number line column) = Refused number line column
+
 -- the answer of the sheet's own question for as many numbers as the buffer has room for
-unfoldable pub answerFor : List ℕ → List ℕ → Answer
-answerFor s buffer = answer s (length buffer / numberBytes)
+unfoldable pub answerFor : List ℕ → List ℕ → Counted
+answerFor s buffer = rowCount (answer s (length buffer / numberBytes))
 
 -- the answer to a sheet and what it leaves in the buffer
-pub record InBytes (s before after : List ℕ) (r : Answer) : Type 0 where
+pub record InBytes (s before after : List ℕ) (r : Counted) : Type 0 where
   pub answer-is : r ≡ answerFor s before
   pub buffer-is : BufferAfter s before after r
 

@@ -14,13 +14,12 @@ use c_rows::ROW_BYTES;
 use c_rows::write_rows;
 use c_tell::put_place;
 use c_tell::signed_answer;
+use case::Counted;
 use case::Form;
 use case::NAMES;
-use judgement::Judgement;
+use case::REFUSED_SHORT;
 use judgement::VALUES;
 use judgement::read_within;
-use sheet::Answer;
-use sheet::TABLE_SHORT;
 use text::count_lines;
 
 // A sheet of at most so many bytes and lines, that of the names among them, is short: to clear a store for as many lines as a sheet may
@@ -39,24 +38,23 @@ fn is_short(s: &[u8]) -> bool
 }
 
 // The answer to a sheet, and its rows as bytes in the buffer, through a store with room for its lines.
-fn fill_buffer(s: &[u8], values: &mut [u32], buffer: &mut [u8]) -> Answer
+fn fill_buffer(s: &[u8], values: &mut [u32], buffer: &mut [u8]) -> Counted
     requires { ⌜ Room (formOf Present) (linesOf (now s)) (now values) ⌝ }
     ensures { λ r. ⌜ InBytes (now (s .entry)) (now (buffer .entry)) (now (buffer .exit)) r ⌝ }
 {
-    match read_within(Form::Present, s, values) {
-        Judgement::Refused(number, line, column) => Answer::Refused(number, line, column),
-        Judgement::Lines(n) => {
-            if buffer.len() < ROW_BYTES * n {
-                return Answer::Refused(TABLE_SHORT, 0, 0);
-            }
-            write_rows(values, n, buffer);
-            Answer::Rows(n)
-        }
+    let judged = read_within(Form::Present, s, values);
+    let Counted::Count(n) = judged else {
+        return judged;
+    };
+    if buffer.len() < ROW_BYTES * n {
+        return Counted::Refused(REFUSED_SHORT, 0, 0);
     }
+    write_rows(values, n, buffer);
+    Counted::Count(n)
 }
 
 // The answer to a sheet, and its rows as bytes in the buffer.
-fn rows_in_bytes(s: &[u8], buffer: &mut [u8]) -> Answer
+fn rows_in_bytes(s: &[u8], buffer: &mut [u8]) -> Counted
     ensures { λ r. ⌜ InBytes (now (s .entry)) (now (buffer .entry)) (now (buffer .exit)) r ⌝ }
 {
     if is_short(s) {

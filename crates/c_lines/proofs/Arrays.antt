@@ -8,9 +8,9 @@ use borrow.Rule.Slice.PartMut.{putMid}
 use Rattle.tables.specs.Parts as parts
 use Rattle.tables.proofs.{Writing.{put-written-as, part-before}, Filling.{filled-step}}
 use Rattle.case.specs.{declared.Case.{Case}, Case.{caseOf}, Columns.{columns}}
-use Rattle.judgement.{specs.{declared.Judgement.{Judgement}, Limits.{mostLines}, Sheet.{judgement}}, proofs.Accepted.{accepted}}
-use Rattle.judgement.specs.declared.Judgement.the-variants as judged
-use Rattle.sheet.specs.{declared.Answer.{Answer, the-variants.{Rows, Refused}}, Answer.{cases}}
+use Rattle.case.specs.declared.Counted.{Counted, the-variants.{Count, Refused}}
+use Rattle.judgement.{specs.{Limits.{mostLines}, Sheet.{judgement}}, proofs.Accepted.{accepted}}
+use Rattle.sheet.specs.Answer.{cases}
 use Rattle.c_tell.specs.Room.{Few}
 use Rattle.c_line.{specs.{declared.Question.{Question}, Line.{widthOf, LineOf}}, proofs.LineParts.{line-length, width-most}}
 use Rattle.c_lines.specs.Lines.{linesBy, linesAnswer, Filled, ArrayAfter, LinesAnswered}
@@ -41,33 +41,33 @@ module _ (question : Question) {wide : ℕ} (is : wide ≡ widthOf question) whe
 
 -- ---- the answer
 
-module _ {j : Judgement} {question : Question} (s : List ℕ) (t : List ℤ) (judged-is : j ≡ judgement columns s) where
+module _ {j : Counted} {question : Question} (s : List ℕ) (t : List ℤ) (judged-is : j ≡ judgement columns s) where
   -- refused by its judgement
-  pub answered-refused : {k l c : ℕ} → j ≡ judged.Refused k l c → LinesAnswered question s t t (Refused k l c)
+  pub answered-refused : {k l c : ℕ} → j ≡ Refused k l c → LinesAnswered question s t t j
   unfolding ArrayAfter linesAnswer linesBy
-  answered-refused e = record { answer-is = rw (← judged-is, e); array-is = refl }
+  answered-refused e = record { answer-is = rw (← judged-is, e); array-is = rw e refl }
 
   -- an array too short
-  pub answered-short : {n wide : ℕ} → wide ≡ widthOf question → j ≡ judged.Lines n → length t < wide * n
+  pub answered-short : {n wide : ℕ} → wide ≡ widthOf question → j ≡ Count n → length t < wide * n
       → LinesAnswered question s t t (Refused 8 0 0)
   unfolding ArrayAfter linesAnswer linesBy
   answered-short {n} is e h = record { answer-is = rw (← judged-is, e, ← is, lt-ltb _ _ h); array-is = refl }
 
-  pub answered-lines : {n wide : ℕ} {u : List ℤ} → wide ≡ widthOf question → j ≡ judged.Lines n → wide * n ≤ length t
-      → Filled question (cases s) t u → LinesAnswered question s t u (Rows n)
+  pub answered-lines : {n wide : ℕ} {u : List ℤ} → wide ≡ widthOf question → j ≡ Count n → wide * n ≤ length t
+      → Filled question (cases s) t u → LinesAnswered question s t u (Count n)
   unfolding ArrayAfter linesAnswer linesBy
   answered-lines {n} is e h f = record { answer-is = rw (← judged-is, e, ← is, le-ltb _ _ h); array-is = f }
 
 -- ---- the count has 64 signed bits
 
-pub lines-few : {question : Question} {s : List ℕ} {before after : List ℤ} {a : Answer} → LinesAnswered question s before after a → Few a
+pub lines-few : {question : Question} {s : List ℕ} {before after : List ℤ} {a : Counted} → LinesAnswered question s before after a → Few a
 unfolding linesAnswer linesBy Few
 lines-few {question} {s} {before} h = rw (h .answer-is) (go (judgement columns s) refl)
   where
-    go : (j : Judgement) → judgement columns s ≡ j → Few (linesBy (widthOf question) (length before) j)
-    go (judged.Refused k l c) e = tt
-    go (judged.Lines n) e = room (ltb (length before) (widthOf question * n))
+    go : (j : Counted) → judgement columns s ≡ j → Few (linesBy (widthOf question) (length before) j)
+    go (Refused k l c) e = tt
+    go (Count n) e = room (ltb (length before) (widthOf question * n))
       where
-        room : (b : Bool) → Few (cond b (Refused 8 0 0) (Rows n))
+        room : (b : Bool) → Few (cond b (Refused 8 0 0) (Count n))
         room true = tt
         room false = omega (arith, accepted columns s n e .most)

@@ -10,12 +10,11 @@ ghost use Rattle.c_lines.specs.Lines.{Filled, LinesAnswered};
 use c_line::Question;
 use c_line::put_line;
 use c_line::width;
+use case::Counted;
 use case::Form;
-use judgement::Judgement;
+use case::REFUSED_SHORT;
 use judgement::VALUES;
 use judgement::read;
-use sheet::Answer;
-use sheet::TABLE_SHORT;
 use table_rows::line_case;
 
 // The numbers of n lines of values, which are sound.
@@ -38,24 +37,23 @@ fn write_lines(question: Question, values: &[u32], n: usize, numbers: &mut [i64]
 
 // The answer to a sheet, and the numbers of its lines in the array, through a store with room for the values of as many lines as a sheet
 // may have.
-fn fill_lines(question: Question, s: &[u8], values: &mut [u32], numbers: &mut [i64]) -> Answer
+fn fill_lines(question: Question, s: &[u8], values: &mut [u32], numbers: &mut [i64]) -> Counted
     requires { ⌜ length (now values) ≡ nameCount * mostLines ⌝ }
     ensures { λ r. ⌜ LinesAnswered question (now (s .entry)) (now (numbers .entry)) (now (numbers .exit)) r ⌝ }
 {
-    match read(Form::Present, s, values) {
-        Judgement::Refused(number, line, column) => Answer::Refused(number, line, column),
-        Judgement::Lines(n) => {
-            if numbers.len() < width(question) * n {
-                return Answer::Refused(TABLE_SHORT, 0, 0);
-            }
-            write_lines(question, values, n, numbers);
-            Answer::Rows(n)
-        }
+    let judged = read(Form::Present, s, values);
+    let Counted::Count(n) = judged else {
+        return judged;
+    };
+    if numbers.len() < width(question) * n {
+        return Counted::Refused(REFUSED_SHORT, 0, 0);
     }
+    write_lines(question, values, n, numbers);
+    Counted::Count(n)
 }
 
 // The answer to a sheet, and the numbers of its lines in the array.
-pub fn answer_lines(question: Question, s: &[u8], numbers: &mut [i64]) -> Answer
+pub fn answer_lines(question: Question, s: &[u8], numbers: &mut [i64]) -> Counted
     ensures { λ r. ⌜ LinesAnswered question (now (s .entry)) (now (numbers .entry)) (now (numbers .exit)) r ⌝ }
 {
     let mut values = [0u32; VALUES];

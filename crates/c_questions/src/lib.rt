@@ -5,12 +5,10 @@ ghost use mathlib.Core.Path.{_≡_};
 ghost use Rattle.case.specs.declared.Form.the-variants.{Present, Former};
 ghost use Rattle.c_questions.specs.Operations.{SummaryTold, ReleaseTold, CarryTold};
 ghost use Rattle.c_questions.specs.Reports.{SoilTold, SplitTold, FewestTold};
-use c_counts::byte_count;
-use c_counts::entry_count;
-use c_counts::station_count;
 use c_reply::put_fewest;
 use c_reply::put_soil;
 use c_reply::put_split;
+use c_reply::station_count;
 use one_line::fewest_of_sheet;
 
 // Ten thousand times the first number of the version, a hundred times the second, and the third: 2.0.0.
@@ -43,7 +41,7 @@ pub extern "C" fn hocsimbur_release<'a>(
     ensures { λ r. ⌜ ReleaseTold (now (s .entry)) (now (licence .entry)) (now (table .entry)) (now (table .exit)) (now (place .entry))
         (now (place .exit)) r ⌝ }
 {
-    let answer = entry_count(release::release(s, licence, table));
+    let answer = release::release(s, licence, table);
     tell(answer, place)
 }
 
@@ -53,7 +51,7 @@ pub extern "C" fn hocsimbur_carry(s: &[u8], buffer: &mut [u8], place: &mut [usiz
     ensures { λ r. ⌜ CarryTold Present (now (s .entry)) (now (buffer .entry)) (now (buffer .exit)) (now (place .entry))
         (now (place .exit)) r ⌝ }
 {
-    let answer = byte_count(conversion::carry(s, buffer));
+    let answer = conversion::carry(s, buffer);
     tell(answer, place)
 }
 
@@ -63,7 +61,7 @@ pub extern "C" fn hocsimbur_carry_back(s: &[u8], buffer: &mut [u8], place: &mut 
     ensures { λ r. ⌜ CarryTold Former (now (s .entry)) (now (buffer .entry)) (now (buffer .exit)) (now (place .entry)) (now (place .exit))
         r ⌝ }
 {
-    let answer = byte_count(conversion::carry_back(s, buffer));
+    let answer = conversion::carry_back(s, buffer);
     tell(answer, place)
 }
 

@@ -4,14 +4,14 @@ use mathlib.Core.{Path.{_≡_, refl, ap, _∙_}, Bool.{Bool, true, false, cond},
 use native.Mathlib.Omega.{arith}
 use lib.{Dec.{ltb}, IntN.{ℤ}, ListN.{length, drop, length-append, length-drop}}
 use borrow.Author.Tests.{ltb-false}
-use Rattle.sheet.specs.declared.Answer.{Answer}
-use Rattle.sheet.specs.declared.Answer.the-variants as sheet
+use Rattle.case.specs.declared.Counted.{Counted}
+use Rattle.case.specs.declared.Counted.the-variants as counted
 use Rattle.c_reply.specs.Reply.{Reply, Numbers, Refused, replyAnswer, numbersAfter, Replied}
 
-pub replied-as : {p q : Reply} {before after : List ℤ} {a : Answer} → p ≡ q → Replied p before after a → Replied q before after a
+pub replied-as : {p q : Reply} {before after : List ℤ} {a : Counted} → p ≡ q → Replied p before after a → Replied q before after a
 replied-as e r = rw e at r
 
-pub refused-reply : {q : Reply} {before : List ℤ} {n l c : ℕ} → Refused n l c ≡ q → Replied q before before (sheet.Refused n l c)
+pub refused-reply : {q : Reply} {before : List ℤ} {n l c : ℕ} → Refused n l c ≡ q → Replied q before before (counted.Refused n l c)
 unfolding replyAnswer numbersAfter
 refused-reply e = replied-as e (record { answer-is = refl; numbers-are = refl })
 
@@ -25,5 +25,5 @@ after-length before (Numbers count zs) = go (ltb (length before) (length zs)) re
     go true e = refl
     go false e = rw (length-append, length-drop (length zs) before) (omega (arith, ltb-false (length before) (length zs) e))
 
-pub replied-length : {reply : Reply} {before after : List ℤ} {a : Answer} → Replied reply before after a → length after ≡ length before
+pub replied-length : {reply : Reply} {before after : List ℤ} {a : Counted} → Replied reply before after a → length after ≡ length before
 replied-length {reply} {before} r = ap length (r .numbers-are) ∙ after-length before reply

@@ -2,8 +2,8 @@
 use Prim.Native.Nat.{ℕ, _<_, _^_}
 use mathlib.Core.{Path.{_≡_}, Bool.{cond}, List.{List, [], _∷_, _++_}}
 use lib.{Dec.{ltb}, IntN.{ℤ, pos}, ListN.{length, drop}}
-use Rattle.sheet.specs.declared.Answer.{Answer}
-use Rattle.sheet.specs.declared.Answer.the-variants as sheet
+use Rattle.case.specs.declared.Counted.{Counted}
+use Rattle.case.specs.declared.Counted.the-variants as counted
 use Rattle.readings.specs.declared.{Report.{Report}, Sounding.{Sounding}}
 use Rattle.readings.specs.declared.Sounding.the-variants as sounding
 use Rattle.staged.specs.declared.SplitAnswer.{SplitAnswer}
@@ -17,16 +17,16 @@ pub data Reply : Type 0 where
   Refused : ℕ → ℕ → ℕ → Reply
 
 -- an array too short for the numbers is refused with 8, after every refusal of the operation
-unfoldable pub replyAnswer : ℕ → Reply → Answer
-replyAnswer room (Numbers count zs) = cond (ltb room (length zs)) (sheet.Refused 8 0 0) (sheet.Rows count)
-replyAnswer room (Refused number line column) = sheet.Refused number line column
+unfoldable pub replyAnswer : ℕ → Reply → Counted
+replyAnswer room (Numbers count zs) = cond (ltb room (length zs)) (counted.Refused 8 0 0) (counted.Count count)
+replyAnswer room (Refused number line column) = counted.Refused number line column
 
 -- the numbers, and past the last what the array held; a refusal leaves it as it was
 unfoldable pub numbersAfter : List ℤ → Reply → List ℤ
 numbersAfter before (Numbers count zs) = cond (ltb (length before) (length zs)) before (zs ++ drop (length zs) before)
 numbersAfter before (Refused number line column) = before
 
-pub record Replied (reply : Reply) (before after : List ℤ) (a : Answer) : Type 0 where
+pub record Replied (reply : Reply) (before after : List ℤ) (a : Counted) : Type 0 where
   pub answer-is : a ≡ replyAnswer (length before) reply
   pub numbers-are : after ≡ numbersAfter before reply
 

@@ -6,12 +6,12 @@ use lib.{Dec.{eqb}, ListN.{length, getD, drop, drop-of-length-le}, Seq.{drop-con
 use borrow.Author.Tests.{eq-eqb, ne-eqb}
 use Rattle.text.{specs.Text.{same}, proofs.Clash.{clash}}
 use Rattle.case.specs.Columns.{columns, nameIndex, named}
-use Rattle.judgement.specs.declared.Judgement.{Judgement, the-variants.{Lines, Refused}}
+use Rattle.case.specs.declared.Counted.{Counted, the-variants.{Count, Refused}}
 use Rattle.carried_values.specs.Changes.{lineChange, changesFrom}
 
 -- ---- one line, by the places of its values
 
-module _ (line : ℕ) (next : Judgement) (v : List ℕ) where
+module _ (line : ℕ) (next : Counted) (v : List ℕ) where
   pub shock-differs : (getD v 5 0 ≡ getD v 6 0 → ⊥) → Refused 9 line 0 ≡ lineChange line next v
   unfolding lineChange named nameIndex columns same
   shock-differs p = rw (ne-eqb _ _ p)
@@ -49,7 +49,7 @@ module _ (line : ℕ) (next : Judgement) (v : List ℕ) where
         )
 
 -- what the refusal of a line says, whatever follows it
-pub refused-line : {k l c : ℕ} {r : Judgement} (line : ℕ) (next : Judgement) (v : List ℕ) → r ≡ lineChange line (Lines 0) v
+pub refused-line : {k l c : ℕ} {r : Counted} (line : ℕ) (next : Counted) (v : List ℕ) → r ≡ lineChange line (Count 0) v
     → r ≡ Refused k l c → lineChange line next v ≡ Refused k l c
 unfolding lineChange
 refused-line line next v e f =
@@ -57,21 +57,21 @@ refused-line line next v e f =
     (eqb (named columns v "across") (named columns v "along")) (eqb (named columns v "hz") 60) (sym e ∙ f)
   where
     go : (a b d : Bool) {k l c : ℕ}
-        → cond a (cond b (cond d (Lines 0) (Refused 11 line 0)) (Refused 10 line 0)) (Refused 9 line 0) ≡ Refused k l c
+        → cond a (cond b (cond d (Count 0) (Refused 11 line 0)) (Refused 10 line 0)) (Refused 9 line 0) ≡ Refused k l c
         → cond a (cond b (cond d next (Refused 11 line 0)) (Refused 10 line 0)) (Refused 9 line 0) ≡ Refused k l c
     go true true true h = clash cc
     go true true false h = h
     go true false d h = h
     go false b d h = h
 
-pub sound-line : {m : ℕ} {r : Judgement} (line : ℕ) (next : Judgement) (v : List ℕ) → r ≡ lineChange line (Lines 0) v → r ≡ Lines m
+pub sound-line : {m : ℕ} {r : Counted} (line : ℕ) (next : Counted) (v : List ℕ) → r ≡ lineChange line (Count 0) v → r ≡ Count m
     → lineChange line next v ≡ next
 unfolding lineChange
 sound-line line next v e f =
     go (eqb (named columns v "shock") (named columns v "clear") && eqb (named columns v "clear") (named columns v "wire"))
     (eqb (named columns v "across") (named columns v "along")) (eqb (named columns v "hz") 60) (sym e ∙ f)
   where
-    go : (a b d : Bool) {m : ℕ} → cond a (cond b (cond d (Lines 0) (Refused 11 line 0)) (Refused 10 line 0)) (Refused 9 line 0) ≡ Lines m
+    go : (a b d : Bool) {m : ℕ} → cond a (cond b (cond d (Count 0) (Refused 11 line 0)) (Refused 10 line 0)) (Refused 9 line 0) ≡ Count m
         → cond a (cond b (cond d next (Refused 11 line 0)) (Refused 10 line 0)) (Refused 9 line 0) ≡ next
     go true true true h = refl
     go true true false h = clash cc
@@ -87,8 +87,8 @@ pub record Changing (vs : List (List ℕ)) (i : ℕ) : Type 0 where
 pub changing-start : (vs : List (List ℕ)) → Changing vs 0
 changing-start vs = record { within = omega arith; left = refl }
 
-module _ {vs : List (List ℕ)} {i : ℕ} {r : Judgement} (a : Changing vs i) (h : i < length vs)
-    (e : r ≡ lineChange (i + 2) (Lines 0) (getD vs i [])) where
+module _ {vs : List (List ℕ)} {i : ℕ} {r : Counted} (a : Changing vs i) (h : i < length vs)
+    (e : r ≡ lineChange (i + 2) (Count 0) (getD vs i [])) where
   here : changesFrom 2 vs ≡ lineChange (i + 2) (changesFrom (suc (i + 2)) (drop (suc i) vs)) (getD vs i [])
   unfolding changesFrom
   here = a .left ∙ rw (drop-cons vs i [] h)
@@ -96,11 +96,11 @@ module _ {vs : List (List ℕ)} {i : ℕ} {r : Judgement} (a : Changing vs i) (h
   pub changing-refused : {k l c : ℕ} → r ≡ Refused k l c → Refused k l c ≡ changesFrom 2 vs
   changing-refused f = sym (here ∙ refused-line (i + 2) _ (getD vs i []) e f)
 
-  pub changing-step : {m : ℕ} → r ≡ Lines m → Changing vs (i + 1)
+  pub changing-step : {m : ℕ} → r ≡ Count m → Changing vs (i + 1)
   changing-step f =
       let q : suc (i + 2) ≡ i + 1 + 2 = omega arith in
       record { within = omega arith; left = here ∙ sound-line (i + 2) _ (getD vs i []) e f ∙ rw (q, add-one i) }
 
-pub changing-end : {vs : List (List ℕ)} {i : ℕ} → Changing vs i → length vs ≤ i → Lines 0 ≡ changesFrom 2 vs
+pub changing-end : {vs : List (List ℕ)} {i : ℕ} → Changing vs i → length vs ≤ i → Count 0 ≡ changesFrom 2 vs
 unfolding changesFrom
 changing-end {vs} {i} a h = sym (a .left ∙ rw (drop-of-length-le vs h))

@@ -7,7 +7,7 @@ use borrow.Author.Tests.{eq-eqb, eqb-true}
 use Rattle.text.{specs.Text.{same}, proofs.Clash.{clash}}
 use Rattle.case.specs.{declared.Form.{Form as CodeForm, the-variants.{Present, Former}}, Columns.{columns, formerColumns, nameIndex, named}}
 use Rattle.case.{specs.{Check.{countFrom}, Parts.{formOf}}, proofs.Values.{entries-from}}
-use Rattle.judgement.specs.declared.Judgement.{Judgement, the-variants.{Lines, Refused}}
+use Rattle.case.specs.declared.Counted.{Counted, the-variants.{Count, Refused}}
 use Rattle.carried_values.specs.{Values.{other, presentValues, formerValues, carried}, Changes.{lineChange, changesFrom, changes}}
 use Rattle.carried_values.proofs.SoundCases.{SoundCases}
 
@@ -19,7 +19,7 @@ record Same (v : List ℕ) : Type 0 where
   along : getD v 13 0 ≡ getD v 12 0
   hz : getD v 21 0 ≡ 60
 
-same-line : {m : ℕ} (n : ℕ) (next : Judgement) (v : List ℕ) → lineChange n next v ≡ Lines m → Same v × (next ≡ Lines m)
+same-line : {m : ℕ} (n : ℕ) (next : Counted) (v : List ℕ) → lineChange n next v ≡ Count m → Same v × (next ≡ Count m)
 unfolding lineChange named nameIndex columns same
 same-line {m} n next v e =
     go (eqb (getD v 5 0) (getD v 6 0)) refl (eqb (getD v 6 0) (getD v 7 0)) refl (eqb (getD v 12 0) (getD v 13 0)) refl
@@ -27,7 +27,7 @@ same-line {m} n next v e =
   where
     go : (a : Bool) → eqb (getD v 5 0) (getD v 6 0) ≡ a → (b : Bool) → eqb (getD v 6 0) (getD v 7 0) ≡ b → (c : Bool)
         → eqb (getD v 12 0) (getD v 13 0) ≡ c → (d : Bool) → eqb (getD v 21 0) 60 ≡ d
-        → cond (a && b) (cond c (cond d next (Refused 11 n 0)) (Refused 10 n 0)) (Refused 9 n 0) ≡ Lines m → Same v × (next ≡ Lines m)
+        → cond (a && b) (cond c (cond d next (Refused 11 n 0)) (Refused 10 n 0)) (Refused 9 n 0) ≡ Count m → Same v × (next ≡ Count m)
     go true p true q true r true t h =
         let x = eqb-true (getD v 5 0) (getD v 6 0) p in
         let y = eqb-true (getD v 6 0) (getD v 7 0) q in (
@@ -69,7 +69,7 @@ unfolding formOf
 former-lines earlier [] s = refl
 former-lines earlier (v ∷ vs) s = rw (former-restored v (s .0 .count), former-lines (v ∷ earlier) vs (s .1 .1))
 
-present-lines : {m : ℕ} (earlier vs : List (List ℕ)) (n : ℕ) → SoundCases (formOf Present) earlier vs → changesFrom n vs ≡ Lines m
+present-lines : {m : ℕ} (earlier vs : List (List ℕ)) (n : ℕ) → SoundCases (formOf Present) earlier vs → changesFrom n vs ≡ Count m
     → map presentValues (map formerValues vs) ≡ vs
 unfolding formOf changesFrom
 present-lines earlier [] n s e = refl
@@ -78,7 +78,7 @@ present-lines earlier (v ∷ vs) n s e =
     rw (present-restored v (s .0 .count) (k .0), present-lines (v ∷ earlier) vs (suc n) (s .1 .1) (k .1))
 
 -- carried to a form and back, where nothing is left out on the way
-pub restored : {m : ℕ} (form : CodeForm) (vs : List (List ℕ)) → SoundCases (formOf (other form)) [] vs → changes form vs ≡ Lines m
+pub restored : {m : ℕ} (form : CodeForm) (vs : List (List ℕ)) → SoundCases (formOf (other form)) [] vs → changes form vs ≡ Count m
     → map (carried (other form)) (map (carried form) vs) ≡ vs
 unfolding other carried changes
 restored Present vs s e = former-lines [] vs s
@@ -86,7 +86,7 @@ restored Former vs s e = present-lines [] vs 2 s e
 
 -- ---- what was carried over can be carried back
 
-kept-line : (n : ℕ) (next : Judgement) (v : List ℕ) → lineChange n next (presentValues v) ≡ next
+kept-line : (n : ℕ) (next : Counted) (v : List ℕ) → lineChange n next (presentValues v) ≡ next
 unfolding lineChange named nameIndex columns same presentValues
 kept-line n next v =
     rw (
@@ -95,12 +95,12 @@ kept-line n next v =
           (named formerColumns v "lines") refl,
     )
 
-kept-lines : (n : ℕ) (vs : List (List ℕ)) → changesFrom n (map presentValues vs) ≡ Lines 0
+kept-lines : (n : ℕ) (vs : List (List ℕ)) → changesFrom n (map presentValues vs) ≡ Count 0
 unfolding changesFrom
 kept-lines n [] = refl
 kept-lines n (v ∷ vs) = kept-line n (changesFrom (suc n) (map presentValues vs)) v ∙ kept-lines (suc n) vs
 
-pub nothing-left-out : (form : CodeForm) (vs : List (List ℕ)) → changes (other form) (map (carried form) vs) ≡ Lines 0
+pub nothing-left-out : (form : CodeForm) (vs : List (List ℕ)) → changes (other form) (map (carried form) vs) ≡ Count 0
 unfolding other carried changes
 nothing-left-out Present vs = kept-lines 2 vs
 nothing-left-out Former vs = refl

@@ -9,10 +9,11 @@ use Rattle.writing.specs.Text.{allLines}
 use Rattle.case.specs.declared.{Form.{Form as CodeForm, the-variants.{Present, Former}}, Finding.{Finding}}
 use Rattle.case.specs.{Columns.{Form, columns, formerColumns, nameIndex, named}, Check.{finding}, Bounds.{Placed}, Parts.{formOf}}
 use Rattle.case.specs.declared.Finding.the-variants as found
+use Rattle.case.specs.declared.Counted.{Counted, the-variants.{Count}}
 use Rattle.line.specs.Line.{wrongForm, lineValues}
 use Rattle.line_finding.specs.Findings.{orFinding, sameKey, repeats, lineFinding}
 use Rattle.line_finding.specs.declared.LineFinding.the-variants as line
-use Rattle.judgement.specs.{declared.Judgement.{the-variants.{Lines}, Judgement}, Sheet.{valueLines, linesJudgement}, Accepted.{Accepted}}
+use Rattle.judgement.specs.{Sheet.{valueLines, linesJudgement}, Accepted.{Accepted}}
 use Rattle.judgement.proofs.LineJudged.{sound-line}
 use Rattle.carried_values.specs.Values.{other, presentValues, formerValues, carried, casesIn}
 use Rattle.carried_values.proofs.Soundness.{Sound, sound-values, sound-small, carried-sound}
@@ -35,8 +36,8 @@ sound-parts true c (found.Disagreement k) r e = clash cc
 sound-parts false c f r e = clash cc
 
 lines-sound : (form : Form) (at : List ℕ) → Placed (length form) at
-    → (earlier : List (List ℕ)) (n m : ℕ) (sound : Judgement) (ls : List (List ℕ))
-    → linesJudgement form at earlier n sound ls ≡ Lines m → SoundCases form earlier (map (λ l. lineValues at (fieldsOf l)) ls)
+    → (earlier : List (List ℕ)) (n m : ℕ) (sound : Counted) (ls : List (List ℕ))
+    → linesJudgement form at earlier n sound ls ≡ Count m → SoundCases form earlier (map (λ l. lineValues at (fieldsOf l)) ls)
 unfolding linesJudgement lineFinding lineValues
 lines-sound form at p earlier n m sound [] e = tt
 lines-sound form at p earlier n m sound (l ∷ ls) e =
@@ -51,7 +52,7 @@ lines-sound form at p earlier n m sound (l ∷ ls) e =
 
 pub accepted-cases : {form : Form} {s : List ℕ} {n : ℕ} → Accepted form s n → SoundCases form [] (casesIn form s)
 unfolding casesIn
-accepted-cases {form} {s} {n} a = lines-sound form _ (a .placed) [] 2 n (Lines n) (valueLines s) (a .judged)
+accepted-cases {form} {s} {n} a = lines-sound form _ (a .placed) [] 2 n (Count n) (valueLines s) (a .judged)
 
 -- ---- carried over
 

@@ -11,9 +11,12 @@ ghost use Rattle.carried_values.specs.Changes.{lineChange};
 ghost use Rattle.carried_values.specs.Changes.{changesFrom};
 ghost use Rattle.carried_values.specs.Changes.{changes};
 use crate::FORMER_HZ;
+use case::Counted;
 use case::Form;
 use case::NAMES;
-use judgement::Judgement;
+use case::REFUSED_COUNTS;
+use case::REFUSED_HERTZ;
+use case::REFUSED_TIMES;
 
 // Places of the times, the counts and the frequency among today's names, from 0.
 const SHOCK: usize = 5;
@@ -28,35 +31,28 @@ const ALONG: usize = 13;
 
 const HZ: usize = 21;
 
-// What the form cannot say, by the numbers of the refusals.
-const TIMES_DIFFER: u32 = 9;
-
-const COUNTS_DIFFER: u32 = 10;
-
-const OTHER_FREQUENCY: u32 = 11;
-
 // Refusals 9, 10 and 11 of a line, or no lines where it has none of them.
-fn line_change(line: usize, v: &[u32]) -> Judgement
+fn line_change(line: usize, v: &[u32]) -> Counted
     requires { ⌜ length (now v) ≡ nameCount ⌝ }
-    ensures { λ r. ⌜ r ≡ lineChange line (Judgement.Lines 0) (now (v .entry)) ⌝ }
+    ensures { λ r. ⌜ r ≡ lineChange line (Counted.Count 0) (now (v .entry)) ⌝ }
 {
     if v[SHOCK] != v[CLEAR] {
-        return Judgement::Refused(TIMES_DIFFER, line, 0);
+        return Counted::Refused(REFUSED_TIMES, line, 0);
     }
     if v[CLEAR] != v[WIRE] {
-        return Judgement::Refused(TIMES_DIFFER, line, 0);
+        return Counted::Refused(REFUSED_TIMES, line, 0);
     }
     if v[ACROSS] != v[ALONG] {
-        return Judgement::Refused(COUNTS_DIFFER, line, 0);
+        return Counted::Refused(REFUSED_COUNTS, line, 0);
     }
     if v[HZ] != FORMER_HZ {
-        return Judgement::Refused(OTHER_FREQUENCY, line, 0);
+        return Counted::Refused(REFUSED_HERTZ, line, 0);
     }
-    Judgement::Lines(0)
+    Counted::Count(0)
 }
 
 // The first of them on n lines of today's form, or no lines.
-fn changes_of(values: &[u32], n: usize) -> Judgement
+fn changes_of(values: &[u32], n: usize) -> Counted
     requires { ⌜ nameCount * n ≤ length (now values) ⌝ }
     requires { ⌜ n ≤ mostLines ⌝ }
     ensures { λ r. ⌜ r ≡ changesFrom 2 (partsOf nameCount n (now (values .entry))) ⌝ }
@@ -66,22 +62,22 @@ fn changes_of(values: &[u32], n: usize) -> Judgement
         let a = NAMES * i;
         let b = a + NAMES;
         let r = line_change(i + 2, &values[a..b]);
-        if let Judgement::Refused(number, line, column) = r {
-            return Judgement::Refused(number, line, column);
+        if let Counted::Refused(number, line, column) = r {
+            return Counted::Refused(number, line, column);
         }
         i += 1;
     }
-    Judgement::Lines(0)
+    Counted::Count(0)
 }
 
 // On the way to a form: only the former form leaves something out.
-pub fn first_change(form: Form, values: &[u32], n: usize) -> Judgement
+pub fn first_change(form: Form, values: &[u32], n: usize) -> Counted
     requires { ⌜ length (formOf (other form)) * n ≤ length (now values) ⌝ }
     requires { ⌜ n ≤ mostLines ⌝ }
     ensures { λ r. ⌜ r ≡ changes form (partsOf (length (formOf (other form))) n (now (values .entry))) ⌝ }
 {
     match form {
-        Form::Present => Judgement::Lines(0),
+        Form::Present => Counted::Count(0),
         Form::Former => changes_of(values, n),
     }
 }

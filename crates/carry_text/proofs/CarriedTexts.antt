@@ -6,19 +6,20 @@ use lib.ListN.{length, drop}
 use borrow.Author.Tests.{le-ltb}
 use Rattle.writing.specs.Put.{Put}
 use Rattle.case.specs.{declared.Form.{Form}, Parts.{formOf}}
-use Rattle.judgement.specs.{declared.Judgement.{Judgement, the-variants.{Lines, Refused}}, Limits.{mostBytes}, Sheet.{judgement}}
+use Rattle.case.specs.Counted.{refusedOr}
+use Rattle.case.specs.declared.Counted.{Counted, the-variants.{Count, Refused}}
+use Rattle.judgement.specs.{Limits.{mostBytes}, Sheet.{judgement}}
 use Rattle.carried_values.specs.{Values.{other, casesIn}, Changes.{changes}}
-use Rattle.conversion.specs.{declared.Carried.{Carried}, Answer.{carriedText, roomAnswer, refusedOr, answer, bufferAfter, Answered}}
+use Rattle.conversion.specs.Answer.{carriedText, roomAnswer, answer, bufferAfter, Answered}
 use Rattle.conversion.proofs.RoundTrip.{carried-short}
-use Rattle.conversion.specs.declared.Carried.the-variants as carried
 use Rattle.fields.{specs.Refusal.{refusedText, unlessRefused}, proofs.Refusals.{answer-fits}}
 use Rattle.carry_text.specs.Carried.{carryText}
 
 module _ (form : Form) (s : List ℕ) where
-  abbrev source : Judgement
+  abbrev source : Counted
   source = judgement (formOf (other form)) s
 
-  abbrev change : Judgement
+  abbrev change : Counted
   change = changes form (casesIn (formOf (other form)) s)
 
   pub carried-fits : length (carryText form s) ≤ mostBytes
@@ -28,26 +29,26 @@ module _ (form : Form) (s : List ℕ) where
       (λ n e. answer-fits mostBytes change (carriedText form s) (omega arith) (λ m q. carried-short form s n e))
 
   -- the sheet's own bytes, or a refusal other than 8
-  abbrev tells : Carried → List ℕ → Type 0
-  tells (carried.Bytes count) t = (t ≡ carriedText form s) × (count ≡ length t)
-  tells (carried.Refused number line column) t = t ≡ refusedText number line column
+  abbrev tells : Counted → List ℕ → Type 0
+  tells (Count count) t = (t ≡ carriedText form s) × (count ≡ length t)
+  tells (Refused number line column) t = t ≡ refusedText number line column
 
   carried-told : (room : ℕ) → mostBytes ≤ room → tells (answer form s room) (carryText form s)
   unfolding answer refusedOr roomAnswer unlessRefused carryText
   carried-told room h = go source refl change
     where
-      go : (j : Judgement) → source ≡ j → (k : Judgement)
+      go : (j : Counted) → source ≡ j → (k : Counted)
           → tells (refusedOr j (refusedOr k (roomAnswer (carriedText form s) room)))
           (unlessRefused j (unlessRefused k (carriedText form s)))
       go (Refused number line column) e k = refl
-      go (Lines n) e (Refused number line column) = refl
-      go (Lines n) e (Lines m) = rw (le-ltb room (length (carriedText form s)) (omega (arith, carried-short form s n e))) (refl, refl)
+      go (Count n) e (Refused number line column) = refl
+      go (Count n) e (Count m) = rw (le-ltb room (length (carriedText form s)) (omega (arith, carried-short form s n e))) (refl, refl)
 
-  module _ {before after : List ℕ} {a : Carried} (h : Answered form s before after a) (enough : mostBytes ≤ length before) where
-    told-by : {b : Carried} → a ≡ b → tells b (carryText form s)
+  module _ {before after : List ℕ} {a : Counted} (h : Answered form s before after a) (enough : mostBytes ≤ length before) where
+    told-by : {b : Counted} → a ≡ b → tells b (carryText form s)
     told-by e = rw (← (sym (h .answer-is) ∙ e)) (carried-told (length before) enough)
 
-    pub carried-put : {count : ℕ} → a ≡ carried.Bytes count → Put before 0 (carryText form s) after count
+    pub carried-put : {count : ℕ} → a ≡ Count count → Put before 0 (carryText form s) after count
     unfolding bufferAfter
     carried-put {count} e =
         let t = told-by e in
@@ -55,7 +56,7 @@ module _ (form : Form) (s : List ℕ) where
         record { next = omega (arith, t .1); holds = b ∙ rw (t .0) }
 
     -- a refusal leaves the buffer, and its line is put into it
-    pub carried-refused : {number line column r : ℕ} {now : List ℕ} → a ≡ carried.Refused number line column
+    pub carried-refused : {number line column r : ℕ} {now : List ℕ} → a ≡ Refused number line column
         → Put after 0 (refusedText number line column) now r → Put before 0 (carryText form s) now r
     unfolding bufferAfter
     carried-refused e p =

@@ -5,14 +5,14 @@ ghost use Rattle.writing.specs.Put.{Put};
 ghost use Rattle.conversion.specs.Answer.{Answered};
 ghost use Rattle.carry_text.specs.Carried.{carryText};
 ghost use Rattle.judgement.specs.Limits.{mostBytes};
+use case::Counted;
 use case::Form;
-use conversion::Carried;
 use conversion::carry;
 use conversion::carry_back;
 use fields::put_refusal;
 
 // A sheet carried over to a form.
-fn carry_to(form: Form, s: &[u8], out: &mut [u8]) -> Carried
+fn carry_to(form: Form, s: &[u8], out: &mut [u8]) -> Counted
     ensures { λ r. ⌜ Answered form (now (s .entry)) (now (out .entry)) (now (out .exit)) r ⌝ }
 {
     match form {
@@ -28,7 +28,7 @@ pub fn put_carried(form: Form, s: &[u8], out: &mut [u8]) -> usize
 {
     let a = carry_to(form, s, out);
     match a {
-        Carried::Bytes(count) => count,
-        Carried::Refused(why, line, column) => put_refusal(out, why, line, column),
+        Counted::Count(count) => count,
+        Counted::Refused(why, line, column) => put_refusal(out, why, line, column),
     }
 }

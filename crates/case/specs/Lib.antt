@@ -1,5 +1,6 @@
 pub mod Columns
 pub mod Case
+pub mod Counted
 pub mod Check
 pub mod Bounds
 pub mod Order

@@ -1,6 +1,7 @@
 // One case: the values of one value line, and their checks.
 mod parts;
 mod range;
+mod refusals;
 
 ghost use mathlib.Core.Path.{_≡_};
 ghost use lib.ListN.{length};
@@ -12,6 +13,23 @@ use parts::disagreement;
 use parts::out_of_range;
 use range::all_in_range;
 pub use range::place;
+pub use refusals::REFUSED_COUNTS;
+pub use refusals::REFUSED_FORM;
+pub use refusals::REFUSED_HERTZ;
+pub use refusals::REFUSED_LICENCE;
+pub use refusals::REFUSED_LINES;
+pub use refusals::REFUSED_NAME;
+pub use refusals::REFUSED_NO_RODLEN;
+pub use refusals::REFUSED_PARTS;
+pub use refusals::REFUSED_RANGE;
+pub use refusals::REFUSED_RELEASE;
+pub use refusals::REFUSED_REPEATED;
+pub use refusals::REFUSED_SHORT;
+pub use refusals::REFUSED_SIDE;
+pub use refusals::REFUSED_STATION;
+pub use refusals::REFUSED_SUMMARY;
+pub use refusals::REFUSED_TEXT;
+pub use refusals::REFUSED_TIMES;
 
 // The forms of a sheet: today's (§1.2), and the former one (§8.1).
 pub enum Form {
@@ -60,10 +78,11 @@ pub enum Finding {
     Disagreement(usize),
 }
 
-// The refusals of a case by their numbers: a value out of its range, values that disagree.
-pub const VALUE_OUT_OF_RANGE: u32 = 5;
-
-pub const VALUES_DISAGREE: u32 = 6;
+// A count, or a refusal with number, line and column: what is asked of a sheet or a licence is answered so, unless the answer says more.
+pub enum Counted {
+    Count(usize),
+    Refused(u32, usize, usize),
+}
 
 // What the checks of a record answer before anything is asked of it: sound, or a refusal with number, line and column.
 pub enum Judged {
@@ -199,7 +218,7 @@ pub fn judge(c: Case) -> Judged
 {
     match check(c) {
         Finding::Sound => Judged::Sound,
-        Finding::OutOfRange(column) => Judged::Refused(VALUE_OUT_OF_RANGE, 0, column),
-        Finding::Disagreement(column) => Judged::Refused(VALUES_DISAGREE, 0, column),
+        Finding::OutOfRange(column) => Judged::Refused(REFUSED_RANGE, 0, column),
+        Finding::Disagreement(column) => Judged::Refused(REFUSED_PARTS, 0, column),
     }
 }

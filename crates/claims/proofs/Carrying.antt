@@ -8,14 +8,14 @@ use Rattle.text.{specs.Text.{same}, proofs.Clash.{clash}}
 use Rattle.case.specs.declared.Form.{Form, the-variants.{Present, Former}}
 use Rattle.case.specs.{Columns.{columns, formerColumns, name-count, former-name-count, nameIndex, named}, Parts.{formOf}}
 use Rattle.case.proofs.Tests.{_then_}
+use Rattle.case.{specs.Counted.{refusedOr}, proofs.Passed.{passed}}
+use Rattle.case.specs.declared.Counted.{Counted, the-variants.{Count, Refused}}
 use Rattle.header.{specs.Header.{noColumns, wrongName}, proofs.NamesStand.{names-stand}}
-use Rattle.judgement.specs.{declared.Judgement.{Judgement}, Refusal.{nameRefused}}
+use Rattle.judgement.specs.Refusal.{nameRefused}
 use Rattle.judgement.{specs.Sheet.{names, valueLines, namesJudgement, judgementWithin, judgement}, proofs.Accepted.{accepted}}
-use Rattle.judgement.specs.declared.Judgement.the-variants as judged
 use Rattle.carried_values.specs.{Values.{other, presentValues, formerValues, carried as carriedValues, casesIn}, Changes.{lineChange}}
 use Rattle.carried_values.specs.Changes.{changesFrom, changes}
-use Rattle.conversion.specs.declared.Carried.{the-variants.{Bytes, Refused}, Carried}
-use Rattle.conversion.specs.Answer.{carriedText, roomAnswer, refusedOr, answer, bufferAfter, Answered}
+use Rattle.conversion.specs.Answer.{carriedText, roomAnswer, answer, bufferAfter, Answered}
 use Rattle.conversion.proofs.RoundTrip as trip
 use Rattle.claims.specs.Words.{Breaks}
 use Rattle.claims.specs.Carried.{AcceptedIn, Goes, NewSheet, Written, CarryOutcome, rule, held, short, carried, Restored, BackOutcome}
@@ -29,13 +29,13 @@ use Rattle.claims.proofs.CarriedLines.{times, counts, hertz, returns-at
 abbrev ReturnsIn : List ℕ → Type 0
 ReturnsIn v = TimesIn v × CountsIn v × HertzIn v
 
-data Changed (vs : List (List ℕ)) (k : ℕ) : Judgement → Type 0 where
-  none : ((i : ℕ) → i < length vs → ReturnsIn (getD vs i [])) → Changed vs k (judged.Lines 0)
+data Changed (vs : List (List ℕ)) (k : ℕ) : Counted → Type 0 where
+  none : ((i : ℕ) → i < length vs → ReturnsIn (getD vs i [])) → Changed vs k (Count 0)
   first : {n : ℕ} (line i : ℕ) → line ≡ i + k → i < length vs → ((j : ℕ) → j < i → ReturnsIn (getD vs j [])) → HeldIn (getD vs i []) n
-      → Changed vs k (judged.Refused n line 0)
+      → Changed vs k (Refused n line 0)
 
 -- one line, and what the later ones leave
-line-changed : (v : List ℕ) (vs : List (List ℕ)) (k : ℕ) {later : Judgement} → Changed vs (suc k) later
+line-changed : (v : List ℕ) (vs : List (List ℕ)) (k : ℕ) {later : Counted} → Changed vs (suc k) later
     → Changed (v ∷ vs) k (lineChange k later v)
 unfolding lineChange
 line-changed v vs k {later} c =
@@ -45,10 +45,10 @@ line-changed v vs k {later} c =
     the : String → ℕ
     the name = named columns v name
 
-    here : {n : ℕ} → HeldIn v n → Changed (v ∷ vs) k (judged.Refused n k 0)
+    here : {n : ℕ} → HeldIn v n → Changed (v ∷ vs) k (Refused n k 0)
     here h = first k 0 (omega arith) (omega arith) (λ j l. absurd (omega arith)) h
 
-    past : ReturnsIn v → {j : Judgement} → Changed vs (suc k) j → Changed (v ∷ vs) k j
+    past : ReturnsIn v → {j : Counted} → Changed vs (suc k) j → Changed (v ∷ vs) k j
     past r (none all) = none each
       where
         each : (i : ℕ) → i < suc (length vs) → ReturnsIn (getD (v ∷ vs) i [])
@@ -62,7 +62,7 @@ line-changed v vs k {later} c =
 
     go : (a : Bool) → eqb (the "shock") (the "clear") ≡ a → (b : Bool) → eqb (the "clear") (the "wire") ≡ b → (d : Bool)
         → eqb (the "across") (the "along") ≡ d → (h : Bool) → eqb (the "hz") 60 ≡ h
-        → Changed (v ∷ vs) k (cond (a && b) (cond d (cond h later (judged.Refused 11 k 0)) (judged.Refused 10 k 0)) (judged.Refused 9 k 0))
+        → Changed (v ∷ vs) k (cond (a && b) (cond d (cond h later (Refused 11 k 0)) (Refused 10 k 0)) (Refused 9 k 0))
     go false e b f d g h i = here (times (λ t. eqb-false _ _ e (t .0)))
     go true e false f d g h i = here (times (λ t. eqb-false _ _ f (t .1)))
     go true e true f false g h i = here (counts (eqb-true _ _ e, eqb-true _ _ f) (eqb-false _ _ g))
@@ -128,13 +128,13 @@ module _ {form : Form} {s before after : List ℕ} where
   roomed {n} g b = go (ltb (length before) (length (carriedText form s))) refl b
     where
       go : (t : Bool) → ltb (length before) (length (carriedText form s)) ≡ t
-          → after ≡ bufferAfter form s before (cond t (Refused 8 0 0) (Bytes (length (carriedText form s))))
-          → CarryOutcome form s before after (cond t (Refused 8 0 0) (Bytes (length (carriedText form s))))
+          → after ≡ bufferAfter form s before (cond t (Refused 8 0 0) (Count (length (carriedText form s))))
+          → CarryOutcome form s before after (cond t (Refused 8 0 0) (Count (length (carriedText form s))))
       go true q b = short g (ltb-true (length before) (length (carriedText form s)) q) b
       go false q b = carried g (new-sheet form s n (g .accepted)) (written (ltb-false (length before) (length (carriedText form s)) q) b)
 
 -- the checks of the way back, then the room
-back-way : {s before after : List ℕ} {n : ℕ} {j : Judgement} → AcceptedIn Present s n → Changed (casesIn columns s) 2 j
+back-way : {s before after : List ℕ} {n : ℕ} {j : Counted} → AcceptedIn Present s n → Changed (casesIn columns s) 2 j
     → after ≡ bufferAfter Former s before (refusedOr j (roomAnswer (carriedText Former s) (length before)))
     → CarryOutcome Former s before after (refusedOr j (roomAnswer (carriedText Former s) (length before)))
 unfolding refusedOr bufferAfter formOf other
@@ -173,19 +173,19 @@ unfolding changes refusedOr formOf other
 way Present a b = roomed (record { accepted = a; returns = λ e. absurd (not-back e) }) b
 way Former {s} a b = back-way a (changed 2 (casesIn columns s)) b
 
-pub carry-outcome : {form : Form} {s before after : List ℕ} {r : Carried} → Answered form s before after r
+pub carry-outcome : {form : Form} {s before after : List ℕ} {r : Counted} → Answered form s before after r
     → CarryOutcome form s before after r
 unfolding answer refusedOr bufferAfter
 carry-outcome {form} {s} {before} {after} {r} a =
     rw (a .answer-is) (go (judgement (formOf (other form)) s) refl (rw (a .answer-is) at (a .buffer-is)))
   where
-    go : (j : Judgement) → judgement (formOf (other form)) s ≡ j
+    go : (j : Counted) → judgement (formOf (other form)) s ≡ j
         → after ≡ bufferAfter form s before
         (refusedOr j (refusedOr (changes form (casesIn (formOf (other form)) s)) (roomAnswer (carriedText form s) (length before))))
         → CarryOutcome form s before after
         (refusedOr j (refusedOr (changes form (casesIn (formOf (other form)) s)) (roomAnswer (carriedText form s) (length before))))
-    go (judged.Refused n l c) e b = rule e b
-    go (judged.Lines n) e b = way form e b
+    go (Refused n l c) e b = rule e b
+    go (Count n) e b = way form e b
 
 -- ---- there and back
 
@@ -194,15 +194,9 @@ unfolding other
 other-twice Present = refl
 other-twice Former = refl
 
-passed : {count : ℕ} (j : Judgement) (next : Carried) → Bytes count ≡ refusedOr j next
-    → (n : ℕ) × (j ≡ judged.Lines n) × (Bytes count ≡ next)
-unfolding refusedOr
-passed (judged.Lines n) next e = (n, refl, e)
-passed (judged.Refused n l c) next e = clash cc
-
 -- the sheet that comes back has the values of the first
 sheet-restored : (form : Form) (s : List ℕ) (n : ℕ) → AcceptedIn (other form) s n → {k : ℕ}
-    → changes form (casesIn (formOf (other form)) s) ≡ judged.Lines k
+    → changes form (casesIn (formOf (other form)) s) ≡ Count k
     → Restored (other form) s (carriedText (other form) (carriedText form s)) n
 sheet-restored form s n e c =
     let text = carriedText (other form) (carriedText form s) in
@@ -223,28 +217,28 @@ sheet-restored form s n e c =
     }
 
 -- the bytes of the way there
-text-of : {form : Form} {s before after : List ℕ} {k : ℕ} → CarryOutcome form s before after (Bytes k) → take k after ≡ carriedText form s
+text-of : {form : Form} {s before after : List ℕ} {k : ℕ} → CarryOutcome form s before after (Count k) → take k after ≡ carriedText form s
 text-of (carried g n w) = w .bytes
 
-module _ {form : Form} {s before after : List ℕ} {k : ℕ} (h : Answered form s before after (Bytes k)) where
-  source : (n : ℕ) × (judgement (formOf (other form)) s ≡ judged.Lines n)
-      × (Bytes k ≡ refusedOr (changes form (casesIn (formOf (other form)) s)) (roomAnswer (carriedText form s) (length before)))
+module _ {form : Form} {s before after : List ℕ} {k : ℕ} (h : Answered form s before after (Count k)) where
+  source : (n : ℕ) × (judgement (formOf (other form)) s ≡ Count n)
+      × (Count k ≡ refusedOr (changes form (casesIn (formOf (other form)) s)) (roomAnswer (carriedText form s) (length before)))
   unfolding answer
   source = passed (judgement (formOf (other form)) s) _ (h .answer-is)
 
-  changed-none : (n : ℕ) × (changes form (casesIn (formOf (other form)) s) ≡ judged.Lines n)
-      × (Bytes k ≡ roomAnswer (carriedText form s) (length before))
+  changed-none : (n : ℕ) × (changes form (casesIn (formOf (other form)) s) ≡ Count n)
+      × (Count k ≡ roomAnswer (carriedText form s) (length before))
   changed-none = passed (changes form (casesIn (formOf (other form)) s)) _ (source .2)
 
   -- the way back of the text is answered by its room alone
   back-answer : (room : ℕ) → answer (other form) (carriedText form s) room ≡ roomAnswer (carriedText (other form) (carriedText form s)) room
   unfolding answer refusedOr
   back-answer room =
-      let a : judgement (formOf (other (other form))) (carriedText form s) ≡ judged.Lines (source .0)
+      let a : judgement (formOf (other (other form))) (carriedText form s) ≡ Count (source .0)
       = rw (other-twice form) (trip.carried-accepted form s (source .0) (source .1)) in
       rw (a, trip.back-not-refused form s (source .0) (source .1) (changed-none .1))
 
-  pub there-and-back : {before′ after′ : List ℕ} {r : Carried} → Answered (other form) (take k after) before′ after′ r
+  pub there-and-back : {before′ after′ : List ℕ} {r : Counted} → Answered (other form) (take k after) before′ after′ r
       → BackOutcome form s (take k after) before′ after′ r
   unfolding roomAnswer bufferAfter
   there-and-back {before′} {after′} {r} b =
@@ -260,8 +254,8 @@ module _ {form : Form} {s before after : List ℕ} {k : ℕ} (h : Answered form 
           is b = b .answer-is ∙ back-answer (length before′)
 
           go : (t : Bool) → ltb (length before′) (length (carriedText (other form) text)) ≡ t
-              → after′ ≡ bufferAfter (other form) text before′ (cond t (Refused 8 0 0) (Bytes (length (carriedText (other form) text))))
-              → BackOutcome form s text before′ after′ (cond t (Refused 8 0 0) (Bytes (length (carriedText (other form) text))))
+              → after′ ≡ bufferAfter (other form) text before′ (cond t (Refused 8 0 0) (Count (length (carriedText (other form) text))))
+              → BackOutcome form s text before′ after′ (cond t (Refused 8 0 0) (Count (length (carriedText (other form) text))))
           go true q e = claim.short (ltb-true (length before′) (length (carriedText (other form) text)) q)
           go false q e =
               claim.restored {lines = source .0} {count = length (carriedText (other form) text)}

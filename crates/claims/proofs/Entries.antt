@@ -4,20 +4,15 @@ use mathlib.Core.{Path.{_≡_, refl, _∙_}, List.{List, [], _∷_}}
 use native.Mathlib.Omega.{arith}
 use lib.{IntN.{ℤ}, ListN.{length}}
 use Rattle.case.specs.{declared.Form.{Form}, Columns.{Column, columns}, Parts.{formOf}}
-use Rattle.judgement.specs.declared.Judgement.the-variants as judged
+use Rattle.case.specs.declared.Counted.{Counted}
+use Rattle.case.specs.declared.Counted.the-variants as counted
 use Rattle.judgement.proofs.Numbers as judgements
 use Rattle.judgement.specs.Sheet.{judgement}
 use Rattle.carried_values.specs.Values.{other}
-use Rattle.conversion.specs.declared.Carried.{Carried}
-use Rattle.conversion.specs.declared.Carried.the-variants as carried
-use Rattle.sheet.specs.declared.Answer.{Answer}
-use Rattle.sheet.specs.declared.Answer.the-variants as answer
 use Rattle.stations.specs.declared.Summed.{Summed}
 use Rattle.stations.specs.declared.Summed.the-variants as summed
-use Rattle.release.specs.declared.Released.{Released}
-use Rattle.release.specs.declared.Released.the-variants as released
 use Rattle.c_tell.specs.{Answer.{signedAnswer}, Place.{placeAfter}, Told.{Told}}
-use Rattle.c_counts.specs.Counts.{stationCount, entryCount, byteCount}
+use Rattle.c_reply.specs.Stations.{stationCount}
 use Rattle.c_questions.specs.Operations.{SummaryTold, ReleaseTold, CarryTold}
 use Rattle.claims.specs.Summary as summary
 use Rattle.claims.specs.Releases as releases
@@ -29,34 +24,34 @@ use Rattle.claims.proofs.Carrying.{carry-outcome}
 
 -- ---- §11.1: one convention
 
-points-at : (number line column : ℕ) (place told : List ℕ) → told ≡ placeAfter (answer.Refused number line column) place
+points-at : (number line column : ℕ) (place told : List ℕ) → told ≡ placeAfter (counted.Refused number line column) place
     → PointsAt line column place told
 unfolding placeAfter
 points-at number line column place told e = record { two = λ p. e ∙ rw p; fewer = λ l. e ∙ fewer place l }
   where
-    fewer : (place : List ℕ) → length place < 2 → placeAfter (answer.Refused number line column) place ≡ place
+    fewer : (place : List ℕ) → length place < 2 → placeAfter (counted.Refused number line column) place ≡ place
     fewer [] l = refl
     fewer (a ∷ []) l = refl
     fewer (a ∷ b ∷ rest) l = absurd (omega arith)
 
 -- what an answer says
-unfoldable pub Says : (ℕ → Type 0) → (ℕ → ℕ → ℕ → Type 0) → Answer → Type 0
-Says Counted Refused (answer.Rows n) = Counted n
-Says Counted Refused (answer.Refused number line column) = (1 ≤ number) × Refused number line column
+unfoldable pub Says : (ℕ → Type 0) → (ℕ → ℕ → ℕ → Type 0) → Counted → Type 0
+Says Held Broken (counted.Count n) = Held n
+Says Held Broken (counted.Refused number line column) = (1 ≤ number) × Broken number line column
 
-pub in-c : {Counted : ℕ → Type 0} {Refused : ℕ → ℕ → ℕ → Type 0} {place told : List ℕ} {r : ℤ} (a : Answer) → Told a place told r
-    → Says Counted Refused a → InC Counted Refused place told r
+pub in-c : {Held : ℕ → Type 0} {Broken : ℕ → ℕ → ℕ → Type 0} {place told : List ℕ} {r : ℤ} (a : Counted) → Told a place told r
+    → Says Held Broken a → InC Held Broken place told r
 unfolding Says signedAnswer placeAfter
-in-c (answer.Rows n) t h = rw (t .answer-is) (count h (t .place-is))
-in-c {place = place} {told} (answer.Refused number line column) t h =
+in-c (counted.Count n) t h = rw (t .answer-is) (count h (t .place-is))
+in-c {place = place} {told} (counted.Refused number line column) t h =
     rw (t .answer-is) (refusal (h .0) (h .1) (points-at number line column place told (t .place-is)))
 
 -- a rule's number is not 0
-pub rule-number : (form : List Column) (s : List ℕ) {number line column : ℕ} → judgement form s ≡ judged.Refused number line column
+pub rule-number : (form : List Column) (s : List ℕ) {number line column : ℕ} → judgement form s ≡ counted.Refused number line column
     → 1 ≤ number
 rule-number form s {number} {line} {column} e = go (rw e at (judgements.judgement-numbered form s))
   where
-    go : judgements.Numbered (judged.Refused number line column) → 1 ≤ number
+    go : judgements.Numbered (counted.Refused number line column) → 1 ≤ number
     go (judgements.number _ p q) = p
 
 -- ---- the operations that fill arrays of the caller's
@@ -75,11 +70,11 @@ module _ {s : List ℕ} {rowsBefore rows before after : List ℤ} where
     where
       go : (a : Summed) → summary.SummaryOutcome s rowsBefore rows before after a → Told (stationCount a) place told r
           → SummaryInC s rowsBefore rows before after place told r
-      go (summed.Summary n m) o t = in-c (answer.Rows m) t (n, o)
-      go (summed.Refused k l c) o t = in-c (answer.Refused k l c) t (summary-number o, o)
+      go (summed.Summary n m) o t = in-c (counted.Count m) t (n, o)
+      go (summed.Refused k l c) o t = in-c (counted.Refused k l c) t (summary-number o, o)
 
 module _ {s licence : List ℕ} {before after : List ℤ} where
-  release-number : {number line column : ℕ} → releases.ReleaseOutcome s licence before after (released.Refused number line column)
+  release-number : {number line column : ℕ} → releases.ReleaseOutcome s licence before after (counted.Refused number line column)
       → 1 ≤ number
   release-number (releases.rule b u) = rule-number columns s b
   release-number (releases.count e p u) = omega arith
@@ -88,13 +83,14 @@ module _ {s licence : List ℕ} {before after : List ℤ} where
 
   pub release-in-c : {place told : List ℕ} {r : ℤ} → ReleaseTold s licence before after place told r
       → ReleaseInC s licence before after place told r
-  unfolding Says entryCount
-  release-in-c {place} {told} {r} t = go (t .answer) (licences.release (t .asked)) (t .told)
+  unfolding Says
+  release-in-c t = in-c (t .answer) (t .told) (says (t .answer) (licences.release (t .asked)))
     where
-      go : (a : Released) → releases.ReleaseOutcome s licence before after a → Told (entryCount a) place told r
-          → ReleaseInC s licence before after place told r
-      go (released.Stations m) o t = in-c (answer.Rows m) t o
-      go (released.Refused k l c) o t = in-c (answer.Refused k l c) t (release-number o, o)
+      says : (a : Counted) → releases.ReleaseOutcome s licence before after a
+          → Says (λ m. releases.ReleaseOutcome s licence before after (counted.Count m))
+          (λ k l c. releases.ReleaseOutcome s licence before after (counted.Refused k l c)) a
+      says (counted.Count m) o = o
+      says (counted.Refused k l c) o = (release-number o, o)
 
 held-number : {s : List ℕ} {i number : ℕ} → carrying.Held s i number → 1 ≤ number
 held-number (carrying.times t) = omega arith
@@ -102,16 +98,17 @@ held-number (carrying.counts t c) = omega arith
 held-number (carrying.hertz t c h) = omega arith
 
 module _ {form : Form} {s before after : List ℕ} where
-  carry-number : {number line column : ℕ} → carrying.CarryOutcome form s before after (carried.Refused number line column) → 1 ≤ number
+  carry-number : {number line column : ℕ} → carrying.CarryOutcome form s before after (counted.Refused number line column) → 1 ≤ number
   carry-number (carrying.rule b u) = rule-number (formOf (other form)) s b
   carry-number (carrying.held f h u) = held-number h
   carry-number (carrying.short g l u) = omega arith
 
   pub carry-in-c : {place told : List ℕ} {r : ℤ} → CarryTold form s before after place told r → CarryInC form s before after place told r
-  unfolding Says byteCount
-  carry-in-c {place} {told} {r} t = go (t .answer) (carry-outcome (t .asked)) (t .told)
+  unfolding Says
+  carry-in-c t = in-c (t .answer) (t .told) (says (t .answer) (carry-outcome (t .asked)))
     where
-      go : (a : Carried) → carrying.CarryOutcome form s before after a → Told (byteCount a) place told r
-          → CarryInC form s before after place told r
-      go (carried.Bytes n) o t = in-c (answer.Rows n) t o
-      go (carried.Refused k l c) o t = in-c (answer.Refused k l c) t (carry-number o, o)
+      says : (a : Counted) → carrying.CarryOutcome form s before after a
+          → Says (λ n. carrying.CarryOutcome form s before after (counted.Count n))
+          (λ k l c. carrying.CarryOutcome form s before after (counted.Refused k l c)) a
+      says (counted.Count n) o = o
+      says (counted.Refused k l c) o = (carry-number o, o)

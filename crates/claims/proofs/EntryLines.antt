@@ -7,13 +7,13 @@ use borrow.Author.Tests.{ltb-true, ltb-false}
 use Rattle.tables.specs.Parts.{partAt}
 use Rattle.case.specs.{declared.Case.{Case}, Columns.{columns}, Check.{recordAnswer}, Bounds.{Bounds}}
 use Rattle.case.proofs.BoundsSound.{bounds-sound}
-use Rattle.judgement.specs.{declared.Judgement.{Judgement}, Sheet.{judgement}}
-use Rattle.judgement.specs.declared.Judgement.the-variants as judged
+use Rattle.case.specs.declared.Counted.{Counted}
+use Rattle.case.specs.declared.Counted.the-variants as counted
+use Rattle.judgement.specs.Sheet.{judgement}
 use Rattle.row.specs.{declared.Row.{Row}, Ends.{rowOf}}
 use Rattle.margin.{specs.Meaning.{Right, RightMargins}, proofs.Right.{right-margins}}
 use Rattle.working.specs.{Ends.{workingOf}, Working.{workingAnswer, RightWorked}}
 use Rattle.headroom.specs.Headroom as headroom
-use Rattle.sheet.specs.declared.Answer.the-variants as answer
 use Rattle.sheet.specs.Answer.{cases}
 use Rattle.hocsimbur.{specs.{declared.RowAnswer.{RowAnswer}, Asked.{RowAnswered}}, proofs.Answers.{bounds-answered}}
 use Rattle.hocsimbur.specs.declared.RowAnswer.the-variants as answered
@@ -46,17 +46,17 @@ module _ (q : Question) (Line : Case → List ℤ → Type 0)
         same-length = f .size;
       }
 
-  answer-says : (s : List ℕ) (before after : List ℤ) (j : Judgement) → judgement columns s ≡ j
+  answer-says : (s : List ℕ) (before after : List ℤ) (j : Counted) → judgement columns s ≡ j
       → ArrayAfter q s before after (linesBy width (length before) j)
       → Says (entries.EveryLine width Line s before after) (entries.LinesRefused width Line s before after)
       (linesBy width (length before) j)
   unfolding Says ArrayAfter linesBy
-  answer-says s before after (judged.Refused k l c) e h = (rule-number columns s e, entries.rule e h)
-  answer-says s before after (judged.Lines n) e h = roomy (ltb (length before) (width * n)) refl h
+  answer-says s before after (counted.Refused k l c) e h = (rule-number columns s e, entries.rule e h)
+  answer-says s before after (counted.Count n) e h = roomy (ltb (length before) (width * n)) refl h
     where
-      roomy : (b : Bool) → ltb (length before) (width * n) ≡ b → ArrayAfter q s before after (cond b (answer.Refused 8 0 0) (answer.Rows n))
+      roomy : (b : Bool) → ltb (length before) (width * n) ≡ b → ArrayAfter q s before after (cond b (counted.Refused 8 0 0) (counted.Count n))
           → Says (entries.EveryLine width Line s before after) (entries.LinesRefused width Line s before after)
-          (cond b (answer.Refused 8 0 0) (answer.Rows n))
+          (cond b (counted.Refused 8 0 0) (counted.Count n))
       roomy true p h =
           (omega arith, entries.short (record { lines = n; breaks-none = e; short = ltb-true (length before) (width * n) p }) h)
       roomy false p h = every-line e (ltb-false (length before) (width * n) p) h

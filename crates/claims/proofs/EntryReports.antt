@@ -10,18 +10,17 @@ use Rattle.staged.specs.declared.SplitAnswer.{SplitAnswer}
 use Rattle.staged.specs.declared.SplitAnswer.the-variants as split
 use Rattle.staged.specs.Answer as staged
 use Rattle.case.specs.{declared.Case.{Case}, Columns.{columns}}
+use Rattle.case.specs.declared.Counted.{Counted}
+use Rattle.case.specs.declared.Counted.the-variants as counted
 use Rattle.header.{specs.Names.{WrongName, None}, proofs.NamesStand.{names-stand, no-wrong-name, wrong-name}}
 use Rattle.line.specs.Line.{lineCase}
-use Rattle.judgement.specs.{declared.Judgement.{Judgement}, Limits.{today}, Sheet.{names, valueLines, badText}}
-use Rattle.judgement.specs.declared.Judgement.the-variants as judged
+use Rattle.judgement.specs.{Limits.{today}, Sheet.{names, valueLines, badText}}
 use Rattle.judgement.proofs.{Whole.{text-wrong}, ValueFields.{right-values, wrong-values}, Causes.{wrongColumn}}
 use Rattle.yards.specs.{declared.FewestLines.{FewestLines}, Fewest.{FewestAnswered}}
 use Rattle.yards.specs.declared.FewestLines.the-variants as yards
 use Rattle.one_line.specs.{Sheet.{caseIn}, Answer.{answerBy, sheetAnswer}}
 use Rattle.one_line.proofs.Causes.{Cause, wrongValue}
 use Rattle.one_line.proofs.Causes as cause
-use Rattle.sheet.specs.declared.Answer.{Answer}
-use Rattle.sheet.specs.declared.Answer.the-variants as answer
 use Rattle.c_tell.specs.Told.{Told}
 use Rattle.c_reply.specs.Reply.{Reply, Numbers, Refused, replyAnswer, numbersAfter, Replied, soilReply, splitReply, fewestReply}
 use Rattle.c_questions.specs.Reports.{SoilTold, SplitTold, FewestTold}
@@ -50,11 +49,11 @@ module _ (Report : ℕ → List ℤ → Type 0) (Own : ℕ → ℕ → ℕ → T
     where
       go : (b : Bool) → ltb (length before) (length zs) ≡ b → after ≡ cond b before (zs ++ drop (length zs) before)
           → Says (entries.Reported Report before after) (entries.ReportRefused Report before after Own)
-          (cond b (answer.Refused 8 0 0) (answer.Rows count))
+          (cond b (counted.Refused 8 0 0) (counted.Count count))
       go true q e = (omega arith, entries.short h (ltb-true (length before) (length zs) q) e)
       go false q e = entries.reported h (ltb-false (length before) (length zs) q) e
 
-  report-in-c : {before after : List ℤ} {place told : List ℕ} {r : ℤ} {a : Answer} (reply : Reply) → Replied reply before after a
+  report-in-c : {before after : List ℤ} {place told : List ℕ} {r : ℤ} {a : Counted} (reply : Reply) → Replied reply before after a
       → Told a place told r → ReplySays Report Own reply → entries.ReportInC Report Own before after place told r
   report-in-c {before} {a = a} reply p t h = in-c a t (rw (p .answer-is) (answer-says before reply (p .numbers-are) h))
 
@@ -130,8 +129,8 @@ module _ (s : List ℕ) (side : ℕ) where
   search-says l (yards.Refused k m c) o = (fewest-number o, entries.search l o)
 
   -- the answer by what was judged of the sheet
-  sheet-says : {j : Judgement} → Cause s j → (a : FewestLines) → a ≡ answerBy (caseIn s) side j
-      → ((n : ℕ) → j ≡ judged.Lines n → FewestAnswered (caseIn s) side a)
+  sheet-says : {j : Counted} → Cause s j → (a : FewestLines) → a ≡ answerBy (caseIn s) side j
+      → ((n : ℕ) → j ≡ counted.Count n → FewestAnswered (caseIn s) side a)
       → ReplySays (entries.FewestNumbers s side) (entries.FewestRefused s side) (fewestReply a)
   unfolding answerBy ReplySays fewestReply
   sheet-says (cause.text b) a e h = rw e (omega arith, entries.text (text-wrong today s b))

@@ -9,12 +9,13 @@ use Rattle.case.specs.declared.Form.{Form as CodeForm, the-variants.{Present, F
 use Rattle.case.specs.Columns.{Form, columns, formerColumns, nameIndex, named, inRange}
 use Rattle.case.specs.{Check.{outOfRange, agree}, Parts.{rangeAt, formOf}}
 use Rattle.case.proofs.{Ranges.{Some, in-range, in-range-at, some-columns}, Tests.{passed}, Agreement.{Agree, agreed}}
+use Rattle.case.specs.declared.Counted.{Counted, the-variants.{Count, Refused}}
 use Rattle.header.{specs.{Header.{columnsOf}, Names.{StandsAt, WrongName, Leftmost, None}}, proofs.NameIndices.{index-name}}
 use Rattle.header.proofs.{NamesStand.{Named, names-stand, name-stands, no-wrong-name, wrong-name}, HeaderAccepted.{header-accepted}}
 use Rattle.line.specs.Line.{lineValues}
 use Rattle.line_finding.specs.{declared.LineFinding.{LineFinding, the-variants.{Sound}}, Findings.{sameKey, repeats}}
 use Rattle.line_finding.proofs.LineFound as line
-use Rattle.judgement.specs.{declared.Judgement.{Judgement, the-variants.{Lines, Refused}}, Limits.{today}, Refusal.{lineJudgement}}
+use Rattle.judgement.specs.{Limits.{today}, Refusal.{lineJudgement}}
 use Rattle.judgement.specs.Sheet.{names, valueLines, badText, judgement}
 use Rattle.judgement.proofs.{Whole.{text-right, text-wrong}, ValueFields.{right-values, no-wrong-value, wrong-values}}
 use Rattle.judgement.proofs.{RangeBroken.{RangeBroken, range-broken, range-leftmost}, Causes.{wrongColumn}}
@@ -243,7 +244,7 @@ module _ (form : Form) (k : Known form) (s : List ℕ) (right : wrongColumn form
     repeated-at (inr e) = absurd (yes-or-no e refl)
 
     by-finding : {f : LineFinding} → line.LineFound form at (before form at [] (valueLines s) i) (fieldsAt s i) f
-        → lineJudgement (i + 2) (Lines 0) f ≡ Refused number l c → LineBroken form s i number c
+        → lineJudgement (i + 2) (Count 0) f ≡ Refused number l c → LineBroken form s i number c
     unfolding lineJudgement
     by-finding (line.all-sound a q) e = clash cc
     by-finding (line.wrong-form q) e = told e (rule.value (wrong-values (length form) (fieldsAt s i) q))
@@ -297,7 +298,7 @@ module _ (form : Form) (k : Known form) (s : List ℕ) where
       go (cause.lines b right some most h) =
           at-line b right some most (refused-at form (columnsIn form s) (length (valueLines s)) [] 2 (valueLines s) h)
 
-  pub none-broken : {n : ℕ} → judgement form s ≡ Lines n → NoneBroken form s n
+  pub none-broken : {n : ℕ} → judgement form s ≡ Count n → NoneBroken form s n
   none-broken {n} e =
       let a = judged.accepted form s n e in
       record {
@@ -308,7 +309,7 @@ module _ (form : Form) (k : Known form) (s : List ℕ) where
           count = count-kept (λ z. omega (arith, z, a .count, a .some)) (omega (arith, a .count, a .most));
           lines = λ j h.
               line-kept form k s (a .names-sound) j (omega (arith, a .count))
-              (sound-at form (columnsIn form s) [] 2 (Lines n) (valueLines s) (a .judged) j (omega (arith, a .count)));
+              (sound-at form (columnsIn form s) [] 2 (Count n) (valueLines s) (a .judged) j (omega (arith, a .count)));
         };
       }
 
@@ -318,13 +319,13 @@ module _ (form : Form) (k : Known form) (s : List ℕ) where
       → judgement form s ≡ Refused number line column
   refused-by {number} {line} {column} b = go (judgement form s) refl
     where
-      go : (j : Judgement) → judgement form s ≡ j → judgement form s ≡ Refused number line column
-      go (Lines n) e = absurd (none-or-first (none-broken e) b)
+      go : (j : Counted) → judgement form s ≡ j → judgement form s ≡ Refused number line column
+      go (Count n) e = absurd (none-or-first (none-broken e) b)
       go (Refused k l c) e = let q = one-place (first-broken e) b in e ∙ rw (q .0, q .1, q .2)
 
-  pub accepted-by : {n : ℕ} → NoneBroken form s n → judgement form s ≡ Lines n
+  pub accepted-by : {n : ℕ} → NoneBroken form s n → judgement form s ≡ Count n
   accepted-by {n} a = go (judgement form s) refl
     where
-      go : (j : Judgement) → judgement form s ≡ j → judgement form s ≡ Lines n
-      go (Lines m) e = let q : m ≡ n = none-broken e .count ∙ sym (a .count) in e ∙ ap Lines q
+      go : (j : Counted) → judgement form s ≡ j → judgement form s ≡ Count n
+      go (Count m) e = let q : m ≡ n = none-broken e .count ∙ sym (a .count) in e ∙ ap Count q
       go (Refused k l c) e = absurd (none-or-first a (first-broken e))

@@ -11,14 +11,12 @@ use Rattle.readings.specs.declared.Report.{Report}
 use Rattle.readings.specs.declared.Sounding.the-variants as sounding
 use Rattle.staged.specs.declared.SplitAnswer.the-variants as split
 use Rattle.case.specs.{declared.{Case.{Case}, Form.{Form}}, Columns.{name-count}}
-use Rattle.judgement.specs.declared.Judgement.{Judgement, the-variants.{Lines, Refused}}
+use Rattle.case.specs.declared.Counted.{Counted, the-variants.{Count, Refused}}
 use Rattle.carried_values.specs.Values.{other}
-use Rattle.conversion.specs.declared.Carried.the-variants as carried
 use Rattle.row.specs.declared.Row.{Row}
 use Rattle.working.specs.declared.Quantities.{Quantities}
 use Rattle.working.specs.declared.Worked.the-variants as worked
 use Rattle.headroom.specs.declared.Room.the-variants as room
-use Rattle.release.specs.declared.Released.the-variants as released
 use Rattle.hocsimbur.specs.declared.RowAnswer.the-variants as row
 use Rattle.hocsimbur.specs.declared.SizeAnswer.the-variants as sized
 use Rattle.hocsimbur.specs.declared.Tolerable.the-variants as tolerable
@@ -93,9 +91,9 @@ module _ {s : List ℤ} where
 
 -- ---- a sheet carried over
 
-module _ {j : Judgement} where
-  accepted-refused : {m n l k : ℕ} → j ≡ Lines m → j ≡ Refused n l k → ⊥
-  accepted-refused {m} {n} {l} {k} a r = let q : Lines m ≡ Refused n l k = sym a ∙ r in clash cc
+module _ {j : Counted} where
+  accepted-refused : {m n l k : ℕ} → j ≡ Count m → j ≡ Refused n l k → ⊥
+  accepted-refused {m} {n} {l} {k} a r = let q : Count m ≡ Refused n l k = sym a ∙ r in clash cc
 
   one-judged : {n l k n′ l′ k′ : ℕ} → j ≡ Refused n l k → j ≡ Refused n′ l′ k′ → Same n l k n′ l′ k′
   one-judged {n} {l} {k} {n′} {l′} {k′} a b = let q : Refused n l k ≡ Refused n′ l′ k′ = sym a ∙ b in (cc, cc, cc)
@@ -123,13 +121,13 @@ module _ {form : Form} {s : List ℕ} where
 
   held-goes : {i n m : ℕ} → FirstHeld form s i → Held s i n → carrying.Goes form s m → ⊥
   held-goes {i} {m = m} f h g =
-      let q : Lines (f .lines) ≡ Lines m = sym (held-accepted f) ∙ g .accepted in
+      let q : Count (f .lines) ≡ Count m = sym (held-accepted f) ∙ g .accepted in
       let e : f .lines ≡ m = cc in
       held-returns h (g .returns (f .back) i (omega (arith, f .within, e)))
 
   module _ {before after : List ℕ} where
-    one-carry : {n l k n′ l′ k′ : ℕ} → carrying.CarryOutcome form s before after (carried.Refused n l k)
-        → carrying.CarryOutcome form s before after (carried.Refused n′ l′ k′) → Same n l k n′ l′ k′
+    one-carry : {n l k n′ l′ k′ : ℕ} → carrying.CarryOutcome form s before after (Refused n l k)
+        → carrying.CarryOutcome form s before after (Refused n′ l′ k′) → Same n l k n′ l′ k′
     one-carry (carrying.rule a u) (carrying.rule b v) = one-judged a b
     one-carry (carrying.rule a u) (carrying.held f h v) = absurd (accepted-refused (held-accepted f) a)
     one-carry (carrying.rule a u) (carrying.short g h v) = absurd (accepted-refused (g .accepted) a)
@@ -142,8 +140,8 @@ module _ {form : Form} {s : List ℕ} where
     one-carry (carrying.short g h u) (carrying.held f k v) = absurd (held-goes f k g)
     one-carry (carrying.short g h u) (carrying.short f l v) = (refl, refl, refl)
 
-    refused-carried : {n l k count : ℕ} → carrying.CarryOutcome form s before after (carried.Refused n l k)
-        → carrying.CarryOutcome form s before after (carried.Bytes count) → ⊥
+    refused-carried : {n l k count : ℕ} → carrying.CarryOutcome form s before after (Refused n l k)
+        → carrying.CarryOutcome form s before after (Count count) → ⊥
     refused-carried (carrying.rule a u) (carrying.carried g t w) = accepted-refused (g .accepted) a
     refused-carried (carrying.held f h u) (carrying.carried g t w) = held-goes f h g
     refused-carried (carrying.short f h u) (carrying.carried g t w) = omega (arith, h, w .fits, w .count-is)
@@ -171,8 +169,8 @@ module _ {licence : List ℕ} where
   one-count a b = omega (arith, a .three-each, b .three-each)
 
   module _ {s : List ℕ} {before after : List ℤ} where
-    one-release : {n l k n′ l′ k′ : ℕ} → releases.ReleaseOutcome s licence before after (released.Refused n l k)
-        → releases.ReleaseOutcome s licence before after (released.Refused n′ l′ k′) → Same n l k n′ l′ k′
+    one-release : {n l k n′ l′ k′ : ℕ} → releases.ReleaseOutcome s licence before after (Refused n l k)
+        → releases.ReleaseOutcome s licence before after (Refused n′ l′ k′) → Same n l k n′ l′ k′
     one-release (releases.rule a u) (releases.rule b v) = one-judged a b
     one-release (releases.rule a u) (releases.count b c v) = absurd (accepted-refused b a)
     one-release (releases.rule a u) (releases.entry b p h w f v) = absurd (accepted-refused b a)
@@ -194,8 +192,8 @@ module _ {licence : List ℕ} where
         absurd (wrong-sound w (f i (omega (arith, g, one-count p q))))
     one-release (releases.table a p f h u) (releases.table b q g l v) = (refl, refl, refl)
 
-    refused-entries : {n l k m : ℕ} → releases.ReleaseOutcome s licence before after (released.Refused n l k)
-        → releases.ReleaseOutcome s licence before after (released.Stations m) → ⊥
+    refused-entries : {n l k m : ℕ} → releases.ReleaseOutcome s licence before after (Refused n l k)
+        → releases.ReleaseOutcome s licence before after (Count m) → ⊥
     refused-entries (releases.rule a u) (releases.entries b p f h t r z) = accepted-refused b a
     refused-entries (releases.count a c u) (releases.entries b p f h t r z) = c _ p
     refused-entries (releases.entry {k = i} a p h w f u) (releases.entries b q g l t r z) =

@@ -5,9 +5,10 @@ use native.Mathlib.Omega.{arith}
 use lib.{ListN.{length, getD, drop, length-map}, Seq.{take-at, drop-at}, Dec.{leb}}
 use borrow.Author.Tests.{leb-true, leb-false}
 use Rattle.case.specs.{Case.{caseOf}, Columns.{columns}}
+use Rattle.case.specs.declared.Counted.{Counted, the-variants.{Count, Refused}}
 use Rattle.text.specs.Text.{bytes}
 use Rattle.writing.specs.{Decimal.{decimal}, Text.{parted, moreFields, textOf}}
-use Rattle.judgement.specs.{declared.Judgement.{Judgement, the-variants.{Lines, Refused}}, Sheet.{judgement}}
+use Rattle.judgement.specs.Sheet.{judgement}
 use Rattle.row.specs.{declared.Row.{Row}, Ends.{rowOf}}
 use Rattle.sheet.specs.Answer.{cases}
 use Rattle.stations.specs.Answer.{sheetRows}
@@ -56,14 +57,14 @@ at-start {t} {before} ls q w e =
     }
 
 module _ {s before after : List ℕ} {r : ℕ} where
-  shown : textRoom ≤ length before → (j : Judgement) → judgement columns s ≡ j
+  shown : textRoom ≤ length before → (j : Counted) → judgement columns s ≡ j
       → r ≡ length (unlessRefused j (listed verdictNames (map verdictFields (sheetRows s))))
       → after
       ≡ unlessRefused j (listed verdictNames (map verdictFields (sheetRows s)))
       ++ drop (length (unlessRefused j (listed verdictNames (map verdictFields (sheetRows s))))) before
       → VerdictOutcome s before after r
   unfolding unlessRefused listed
-  shown room (Lines n) e q w =
+  shown room (Count n) e q w =
       let k : n ≡ length (cases s) = cases-count s n e in
       rows n (map line (sheetRows s)) room e (length-map (sheetRows s) line ∙ length-map (cases s) rowOf ∙ sym k)
       (λ i h. printed-row s e i h (omega arith))

@@ -6,18 +6,19 @@ use lib.{Dec.{leb, ltb, eqb}, IntN.{ℤ}, ListN.{length}}
 use borrow.Author.Tests.{ltb-true, ltb-false, eqb-true, eqb-false, eq-eqb, ne-eqb}
 use Rattle.text.proofs.Clash.{clash}
 use Rattle.case.{specs.{declared.Case.{Case}, Columns.{columns}, Bounds.{Bounds}, Fault.{withFault}}, proofs.BoundsSound.{bounds-sound}}
+use Rattle.case.specs.Counted.{refusedOr}
+use Rattle.case.specs.declared.Counted.{Counted, the-variants.{Count, Refused}}
 use Rattle.row.specs.Ends.{rowOf}
-use Rattle.judgement.specs.{declared.Judgement.{Judgement}, Sheet.{judgement}}
-use Rattle.judgement.specs.declared.Judgement.the-variants as judged
+use Rattle.judgement.specs.Sheet.{judgement}
 use Rattle.sheet.specs.Answer.{cases}
 use Rattle.headroom.proofs.Bracket.{fault-bounds}
 use Rattle.hocsimbur.specs.declared.RowAnswer.the-variants as answered
 use Rattle.hocsimbur.proofs.Answers.{row-told, row-sound, bounds-answered}
-use Rattle.release.specs.declared.{licence.Wrong.{Wrong, the-variants.{At, Nothing}}, Released.{Released, the-variants.{Stations, Refused}}}
+use Rattle.release.specs.declared.licence.Wrong.{Wrong, the-variants.{At, Nothing}}
 use Rattle.release.specs.Licence.{entriesOf, badCount, among, wrongStation, wrongSeasons, wrongArea, firstWrong}
 use Rattle.release.specs.Earlier.{earlier, wrongAt}
 use Rattle.release.specs.Entry.{entryLength, releaseOf}
-use Rattle.release.specs.Answer.{roomAnswer, afterEntries, licenceAnswer, afterSheet, releaseAnswer, Filled, TableAfter, ReleaseAnswered}
+use Rattle.release.specs.Answer.{roomAnswer, afterEntries, licenceAnswer, releaseAnswer, Filled, TableAfter, ReleaseAnswered}
 use Rattle.release.specs.Meaning.{licensedStation, licensedSeasons, licensedArea, LineOf}
 use Rattle.release.proofs.Entries.{entry-count, Searching, searching-start, searching-found, searching-step, searching-end}
 use Rattle.release.proofs.Tables.{release-count}
@@ -221,7 +222,7 @@ module _ {s : List ℕ} {n : ℕ} (b : BreaksNone s n) {station : ℕ} where
       }
 
 module _ {s licence : List ℕ} {before after : List ℤ} where
-  told : {n m : ℕ} → BreaksNone s n → ReleaseAnswered s licence before after (Stations m) → (k : ℕ) → k < m → EntryTold s licence after k
+  told : {n m : ℕ} → BreaksNone s n → ReleaseAnswered s licence before after (Count m) → (k : ℕ) → k < m → EntryTold s licence after k
   told b a k l =
       record {
         numbers = entry-numbers a k l;
@@ -234,37 +235,37 @@ module _ {s licence : List ℕ} {before after : List ℤ} where
 
   -- ---- the answer
 
-  kept : {r : Released} {number line column : ℕ} → r ≡ Refused number line column → ReleaseAnswered s licence before after r
+  kept : {r : Counted} {number line column : ℕ} → r ≡ Refused number line column → ReleaseAnswered s licence before after r
       → after ≡ before
   unfolding TableAfter
   kept e h = rw e at (h .table-is)
 
-  filled : {m : ℕ} → ReleaseAnswered s licence before after (Stations m) → Filled (releaseOf (entriesOf licence) (cases s)) before after
+  filled : {m : ℕ} → ReleaseAnswered s licence before after (Count m) → Filled (releaseOf (entriesOf licence) (cases s)) before after
   unfolding TableAfter
   filled a = a .table-is
 
-  roomed : {n m : ℕ} {r : Released} → BreaksNone s n → InEntries licence m → ((i : ℕ) → i < m → EntrySound licence i)
+  roomed : {n m : ℕ} {r : Counted} → BreaksNone s n → InEntries licence m → ((i : ℕ) → i < m → EntrySound licence i)
       → ReleaseAnswered s licence before after r → r ≡ roomAnswer (length before) m → ReleaseOutcome s licence before after r
   unfolding roomAnswer
   roomed {n} {m} {r} b p q h e = go (ltb (length before) (entryLength * m)) refl e
     where
-      go : (t : Bool) → ltb (length before) (entryLength * m) ≡ t → r ≡ cond t (Refused 23 0 0) (Stations m)
+      go : (t : Bool) → ltb (length before) (entryLength * m) ≡ t → r ≡ cond t (Refused 23 0 0) (Count m)
           → ReleaseOutcome s licence before after r
       go true l e = rw e (claim.table b p q (ltb-true _ _ l) (kept e h))
       go false l e =
-          let a : ReleaseAnswered s licence before after (Stations m) = (rw e at h) in
+          let a : ReleaseAnswered s licence before after (Count m) = (rw e at h) in
           let f = filled a in
           let c : length (releaseOf (entriesOf licence) (cases s)) ≡ m = omega (arith, release-count licence (cases s), p .three-each) in
           rw e (claim.entries b p q (ltb-false _ _ l) (told b a) (rw c at (f .rest)) (f .size))
 
-  paired : {n : ℕ} {r : Released} → BreaksNone s n → InEntries licence (length licence / 3) → ReleaseAnswered s licence before after r
+  paired : {n : ℕ} {r : Counted} → BreaksNone s n → InEntries licence (length licence / 3) → ReleaseAnswered s licence before after r
       → (w : Wrong) → Searched licence (length licence / 3) w → r ≡ afterEntries (roomAnswer (length before) (length (entriesOf licence))) w
       → ReleaseOutcome s licence before after r
   unfolding afterEntries
   paired b p h _ (found l w q) e = rw e (claim.entry b p l w q (kept e h))
   paired b p h _ (none q) e = roomed b p q h (rw (entry-count licence) at e)
 
-  numbered : {n : ℕ} {r : Released} → BreaksNone s n → ReleaseAnswered s licence before after r → r ≡ licenceAnswer licence (length before)
+  numbered : {n : ℕ} {r : Counted} → BreaksNone s n → ReleaseAnswered s licence before after r → r ≡ licenceAnswer licence (length before)
       → ReleaseOutcome s licence before after r
   unfolding licenceAnswer
   numbered {n} {r} b h e = go (badCount (length licence)) refl e
@@ -277,11 +278,11 @@ module _ {s licence : List ℕ} {before after : List ℤ} where
       go true q e = rw e (claim.count b (not-in-entries licence q) (kept e h))
       go false q e = paired b (in-entries licence q) h _ (searched licence) e
 
-  pub release : {r : Released} → ReleaseAnswered s licence before after r → ReleaseOutcome s licence before after r
-  unfolding releaseAnswer afterSheet
+  pub release : {r : Counted} → ReleaseAnswered s licence before after r → ReleaseOutcome s licence before after r
+  unfolding releaseAnswer refusedOr
   release {r} h = go (judgement columns s) refl (h .answer-is)
     where
-      go : (j : Judgement) → judgement columns s ≡ j → r ≡ afterSheet (licenceAnswer licence (length before)) j
+      go : (j : Counted) → judgement columns s ≡ j → r ≡ refusedOr j (licenceAnswer licence (length before))
           → ReleaseOutcome s licence before after r
-      go (judged.Refused number line column) q e = rw e (claim.rule q (kept e h))
-      go (judged.Lines n) q e = numbered q h e
+      go (Refused number line column) q e = rw e (claim.rule q (kept e h))
+      go (Count n) q e = numbered q h e

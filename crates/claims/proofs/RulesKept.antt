@@ -6,11 +6,12 @@ use lib.ListN.{length, getD}
 use borrow.Author.Tests.{eq-eqb}
 use Rattle.text.specs.Text.{same}
 use Rattle.case.specs.{Columns.{columns, name-count, nameIndex, named}, Bounds.{Bounds}}
+use Rattle.case.specs.declared.Counted.the-variants.{Count}
 use Rattle.header.proofs.NamesStand.{names-stand, stands-once, name-known-at}
 use Rattle.line.specs.Line.{lineCase}
 use Rattle.line_finding.specs.Findings.{sameKey}
 use Rattle.line_finding.proofs.LineFound as line
-use Rattle.judgement.specs.{declared.Judgement.the-variants.{Lines}, Limits.{today}, Sheet.{names, valueLines}, Accepted.{Accepted}}
+use Rattle.judgement.specs.{Limits.{today}, Sheet.{names, valueLines}, Accepted.{Accepted}}
 use Rattle.judgement.proofs.{Whole.{text-right}, LinesInTurn.{sound-at, none-before}}
 use Rattle.judgement.proofs.Accepted as judged
 use Rattle.sheet.{specs.Examples.{sample-judged, sample-cases}, proofs.Accepted.{sound-bounds}}
@@ -61,7 +62,7 @@ rules-kept {s} {n} e =
     keys-once : Accepted columns s n → (i j : ℕ) → i < j → j < n → SameKey (caseAt s j) (caseAt s i) → ⊥
     keys-once a i j h l =
         let m : j < length (valueLines s) = omega (arith, a .count) in
-        let f = sound-at columns (columnsIn columns s) [] 2 (Lines n) (valueLines s) (a .judged) j m in
+        let f = sound-at columns (columnsIn columns s) [] 2 (Count n) (valueLines s) (a .judged) j m in
         let q = line.sound-says columns (columnsIn columns s) _ (fieldsAt s j) f in
         other-key s j i m (omega arith) (none-before columns (columnsIn columns s) (valuesAt s j) [] (valueLines s) j m (q .1) .1 i h)
 

@@ -10,12 +10,11 @@ use Rattle.readings.specs.declared.Report.{Report}
 use Rattle.readings.specs.declared.Sounding.the-variants as sounding
 use Rattle.staged.specs.declared.SplitAnswer.the-variants as split
 use Rattle.case.specs.declared.{Case.{Case}, Form.{Form}}
-use Rattle.conversion.specs.declared.Carried.the-variants as carried
+use Rattle.case.specs.declared.Counted.the-variants as counted
 use Rattle.row.specs.declared.Row.{Row}
 use Rattle.working.specs.declared.Quantities.{Quantities}
 use Rattle.working.specs.declared.Worked.the-variants as worked
 use Rattle.headroom.specs.declared.Room.the-variants as room
-use Rattle.release.specs.declared.Released.the-variants as released
 use Rattle.hocsimbur.specs.declared.RowAnswer.the-variants as row
 use Rattle.hocsimbur.specs.declared.SizeAnswer.the-variants as sized
 use Rattle.hocsimbur.specs.declared.Tolerable.the-variants as tolerable
@@ -46,8 +45,8 @@ pub record OneAnswers : Type 0 where
       ((report : Report) × SoilOutcome numbers (sounding.Soil report))
   pub split : (s : List ℤ) → OneAnswer (λ n l k. SplitOutcome s (split.Refused n l k))
       ((a : ℤ) × (b : ℤ) × (m : ℕ) × SplitOutcome s (split.Grid a b m))
-  pub carry : (form : Form) (s before after : List ℕ) → OneAnswer (λ n l k. CarryOutcome form s before after (carried.Refused n l k))
-      ((count : ℕ) × CarryOutcome form s before after (carried.Bytes count))
+  pub carry : (form : Form) (s before after : List ℕ) → OneAnswer (λ n l k. CarryOutcome form s before after (counted.Refused n l k))
+      ((count : ℕ) × CarryOutcome form s before after (counted.Count count))
   pub release : (s licence : List ℕ) (before after : List ℤ)
-      → OneAnswer (λ n l k. ReleaseOutcome s licence before after (released.Refused n l k))
-      ((m : ℕ) × ReleaseOutcome s licence before after (released.Stations m))
+      → OneAnswer (λ n l k. ReleaseOutcome s licence before after (counted.Refused n l k))
+      ((m : ℕ) × ReleaseOutcome s licence before after (counted.Count m))

@@ -4,18 +4,18 @@ use mathlib.Core.{Path.{_≡_}, List.{List, [], _∷_, map}}
 use lib.ListN.{length, getD, take, drop}
 use Rattle.whole.specs.Every.{Every}
 use Rattle.case.specs.{declared.Form.{Form, the-variants.{Present, Former}}, Parts.{formOf}}
-use Rattle.judgement.specs.declared.Judgement.the-variants as judged
+use Rattle.case.specs.declared.Counted.{Counted, the-variants.{Count, Refused}}
 use Rattle.judgement.specs.Sheet.{names, judgement}
 use Rattle.carried_values.specs.Values.{other}
-use Rattle.conversion.specs.{declared.Carried.{the-variants.{Bytes, Refused}, Carried}, Answer.{carriedText}}
+use Rattle.conversion.specs.Answer.{carriedText}
 use Rattle.claims.specs.Rules.{Under}
 
 -- a sheet passes all checks of a form with so many value lines, or is refused by them
 abbrev pub AcceptedIn : Form → List ℕ → ℕ → Type 0
-AcceptedIn form s lines = judgement (formOf form) s ≡ judged.Lines lines
+AcceptedIn form s lines = judgement (formOf form) s ≡ Count lines
 
 abbrev pub RefusedIn : Form → List ℕ → ℕ → ℕ → ℕ → Type 0
-RefusedIn form s number line column = judgement (formOf form) s ≡ judged.Refused number line column
+RefusedIn form s number line column = judgement (formOf form) s ≡ Refused number line column
 
 -- value line i of the text has under one name the number that value line i of the sheet has under another
 pub record Taken (s : List ℕ) (from : String) (text : List ℕ) (to : String) (i : ℕ) : Type 0 where
@@ -111,7 +111,7 @@ pub record Written (text before after : List ℕ) (count : ℕ) : Type 0 where
 
 -- ---- §8.2, §8.3: every answer, each with its condition; the conditions exclude one another (Answers.antt)
 
-pub data CarryOutcome (form : Form) (s before after : List ℕ) : Carried → Type 0 where
+pub data CarryOutcome (form : Form) (s before after : List ℕ) : Counted → Type 0 where
   -- "The source sheet passes all checks of its own form first, save 8."
   rule : {number line column : ℕ} → RefusedIn (other form) s number line column → after ≡ before
       → CarryOutcome form s before after (Refused number line column)
@@ -122,7 +122,7 @@ pub data CarryOutcome (form : Form) (s before after : List ℕ) : Carried → Ty
   short : {lines : ℕ} → Goes form s lines → length before < length (carriedText form s) → after ≡ before
       → CarryOutcome form s before after (Refused 8 0 0)
   carried : {lines count : ℕ} → Goes form s lines → NewSheet form s (carriedText form s) lines
-      → Written (carriedText form s) before after count → CarryOutcome form s before after (Bytes count)
+      → Written (carriedText form s) before after count → CarryOutcome form s before after (Count count)
 
 -- §8.3: "there and back restores every value": of each name of its form each line has the number that it had
 pub record Restored (form : Form) (s text : List ℕ) (lines : ℕ) : Type 0 where
@@ -132,6 +132,6 @@ pub record Restored (form : Form) (s text : List ℕ) (lines : ℕ) : Type 0 whe
   pub others : (i : ℕ) → i < lines → Every (λ name. Taken s name text name i) otherNames
 
 -- the answer of the way back, asked of the bytes `text` that the way there has written for the sheet s
-pub data BackOutcome (form : Form) (s text before after : List ℕ) : Carried → Type 0 where
-  restored : {lines count : ℕ} → Restored (other form) s (take count after) lines → BackOutcome form s text before after (Bytes count)
+pub data BackOutcome (form : Form) (s text before after : List ℕ) : Counted → Type 0 where
+  restored : {lines count : ℕ} → Restored (other form) s (take count after) lines → BackOutcome form s text before after (Count count)
   short : length before < length (carriedText (other form) text) → BackOutcome form s text before after (Refused 8 0 0)

@@ -9,9 +9,9 @@ use Rattle.readings.specs.declared.Sounding.the-variants as sounding
 use Rattle.staged.specs.declared.SplitAnswer.the-variants as split
 use Rattle.tables.specs.Parts.{partAt}
 use Rattle.case.specs.{declared.{Case.{Case}, Form.{Form}}, Columns.{columns}}
+use Rattle.case.specs.declared.Counted.the-variants as counted
 use Rattle.header.specs.Names.{WrongName, Leftmost, None}
 use Rattle.judgement.specs.{Sheet.{names, valueLines}, Wrong.{WrongValues}}
-use Rattle.conversion.specs.declared.Carried.the-variants as carried
 use Rattle.formulas.specs.{Mesh.{mesh}, Step.{step}, Tolerable.{tolerableTouch, tolerableStep}}
 use Rattle.decision.specs.declared.Verdict.the-variants.{Safe}
 use Rattle.row.specs.{declared.Row.{Row}, Row.{numbers}}
@@ -22,7 +22,6 @@ use Rattle.margin.specs.{Margin.{marginsOf}, Meaning.{share}}
 use Rattle.yards.specs.declared.FewestLines.the-variants as yards
 use Rattle.headroom.specs.declared.Room.the-variants as room
 use Rattle.stations.specs.declared.Summed.the-variants as summed
-use Rattle.release.specs.declared.Released.the-variants as released
 use Rattle.c_reply.specs.Reply.{soilNumbers}
 use Rattle.hocsimbur.specs.{declared.RowAnswer.{RowAnswer}, Asked.{RowAnswered, AnsweredWith}}
 use Rattle.hocsimbur.specs.declared.RowAnswer.the-variants as answered
@@ -52,13 +51,13 @@ SummaryInC s rowsBefore rows before after =
 
 abbrev pub ReleaseInC : List ℕ → List ℕ → List ℤ → List ℤ → List ℕ → List ℕ → ℤ → Type 0
 ReleaseInC s licence before after =
-    InC (λ m. ReleaseOutcome s licence before after (released.Stations m))
-    (λ number line column. ReleaseOutcome s licence before after (released.Refused number line column))
+    InC (λ m. ReleaseOutcome s licence before after (counted.Count m))
+    (λ number line column. ReleaseOutcome s licence before after (counted.Refused number line column))
 
 abbrev pub CarryInC : Form → List ℕ → List ℕ → List ℕ → List ℕ → List ℕ → ℤ → Type 0
 CarryInC form s before after =
-    InC (λ n. CarryOutcome form s before after (carried.Bytes n))
-    (λ number line column. CarryOutcome form s before after (carried.Refused number line column))
+    InC (λ n. CarryOutcome form s before after (counted.Count n))
+    (λ number line column. CarryOutcome form s before after (counted.Refused number line column))
 
 -- ---- §11.3: a report as numbers in an array
 

@@ -4,11 +4,12 @@ use mathlib.Core.{Path.{_≡_}, Bool.{true}, List.{List}, Logic.{_⊎_, _↔_}}
 use lib.{IntN.{ℤ, pos, natAbs}, ListN.{length, drop}}
 use Rattle.tables.specs.Parts.{partAt}
 use Rattle.case.specs.{Bounds.{Between}, Fault.{withFault}}
+use Rattle.case.specs.declared.Counted.{Counted, the-variants.{Count, Refused}}
 use Rattle.decision.specs.declared.Verdict.the-variants.{Safe}
 use Rattle.row.specs.declared.Row.{Row}
 use Rattle.sheet.specs.Answer.{cases}
 use Rattle.tally.specs.Lines.{licensed}
-use Rattle.release.specs.{declared.Released.{Released, the-variants.{Stations, Refused}}, Entry.{stationNumbers}}
+use Rattle.release.specs.Entry.{stationNumbers}
 use Rattle.release.specs.Meaning.{answerAt, licensedStation, licensedSeasons, licensedArea, LineOf, SeasonLine, OneYard, NothingFound}
 use Rattle.hocsimbur.specs.{declared.RowAnswer.{RowAnswer}, Asked.{RowAnswered, AnsweredWith}}
 use Rattle.hocsimbur.specs.declared.RowAnswer.the-variants as answered
@@ -85,7 +86,7 @@ pub record EntryTold (s licence : List ℕ) (after : List ℤ) (k : ℕ) : Type 
 -- ---- the answer
 
 -- every answer, each with its condition; the conditions exclude one another (Answers.antt)
-pub data ReleaseOutcome (s licence : List ℕ) (before after : List ℤ) : Released → Type 0 where
+pub data ReleaseOutcome (s licence : List ℕ) (before after : List ℤ) : Counted → Type 0 where
   -- "Refusals: the sheet's own 1 to 7"; "any refusal leaves the table"
   rule : {number line column : ℕ} → Breaks s number line column → after ≡ before
       → ReleaseOutcome s licence before after (Refused number line column)
@@ -101,4 +102,4 @@ pub data ReleaseOutcome (s licence : List ℕ) (before after : List ℤ) : Relea
   -- the answer is the count of entries; "numbers past the last keep what they held."
   entries : {n m : ℕ} → BreaksNone s n → InEntries licence m → ((i : ℕ) → i < m → EntrySound licence i) → 8 * m ≤ length before
       → ((k : ℕ) → k < m → EntryTold s licence after k) → drop (8 * m) after ≡ drop (8 * m) before → length after ≡ length before
-      → ReleaseOutcome s licence before after (Stations m)
+      → ReleaseOutcome s licence before after (Count m)

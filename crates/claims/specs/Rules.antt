@@ -5,8 +5,8 @@ use mathlib.Core.{Path.{_≡_}, Logic.{_⊎_}, List.{List, [], _∷_}}
 use lib.{IntN.{ℤ}, ListN.{length, getD}}
 use Rattle.text.specs.{Text.{bytes, fieldsOf}, Value.{valueOf}}
 use Rattle.case.specs.{declared.Case.{Case}, Case.{caseOf}, Columns.{columns}, Bounds.{Bounds}}
+use Rattle.case.specs.declared.Counted.the-variants as counted
 use Rattle.header.specs.{Parts.{nameAt}, Names.{fieldAt, StandsAt, StandsOnce, KnownName}}
-use Rattle.judgement.specs.declared.Judgement.the-variants as judged
 use Rattle.judgement.specs.{Limits.{earlier}, Sheet.{names, valueLines, judgementWithin}, Wrong.{RightValues}}
 use Rattle.sheet.specs.{declared.Answer.the-variants.{Rows}, Table.{TableAfter}, Examples.{sample}}
 use Rattle.claims.specs.Words.{BreaksNone, caseAt}
@@ -103,7 +103,7 @@ RodsAgree c = ((c .rods ≡ 0) × (c .rodlen ≡ 0) × (c .place ≡ 0)) ⊎ ((1
 -- ---- §1.5: the "programs sold earlier for the same columns"
 
 abbrev pub AcceptedEarlier : List ℕ → ℕ → Type 0
-AcceptedEarlier s n = judgementWithin columns earlier s ≡ judged.Lines n
+AcceptedEarlier s n = judgementWithin columns earlier s ≡ counted.Count n
 
 -- n rows of theirs for a sheet, in a table that was `before`: each that of its own line, as today
 pub record AnsweredEarlier (s : List ℕ) (before after : List ℤ) (n : ℕ) : Type 0 where
@@ -111,7 +111,7 @@ pub record AnsweredEarlier (s : List ℕ) (before after : List ℤ) (n : ℕ) : 
   pub rows : TableAfter s before after (Rows n)
 
 abbrev pub RefusedEarlier : List ℕ → ℕ → ℕ → ℕ → Type 0
-RefusedEarlier s number line column = judgementWithin columns earlier s ≡ judged.Refused number line column
+RefusedEarlier s number line column = judgementWithin columns earlier s ≡ counted.Refused number line column
 
 -- "A sheet above the old limit and otherwise right is refused by programs sold earlier for the same columns, with 1 or 4."
 pub record AboveEarlier (s : List ℕ) (n : ℕ) : Type 0 where

@@ -11,11 +11,12 @@ use Rattle.writing.proofs.Lengths.{sheet-most}
 use Rattle.case.specs.declared.Form.{Form as CodeForm, the-variants.{Present, Former}}
 use Rattle.case.specs.{Columns.{columns, formerColumns, nameCount, nameIndex}, Check.{countFrom}, Parts.{formOf}}
 use Rattle.case.proofs.{Findings.{form-most}, Values.{entries-from}}
+use Rattle.case.specs.declared.Counted.{Counted, the-variants.{Count}}
 use Rattle.header.specs.Header.{noColumns, fresh, wrongName, columnsFrom, columnsOf}
 use Rattle.line.specs.Line.{wrongForm, lineValues}
 use Rattle.line_finding.specs.Findings.{orFinding, repeats, lineFinding}
 use Rattle.line_finding.specs.declared.LineFinding.the-variants as line
-use Rattle.judgement.specs.{declared.Judgement.{the-variants.{Lines}, Judgement}, Limits.{today, mostBytes, mostLines}}
+use Rattle.judgement.specs.Limits.{today, mostBytes, mostLines}
 use Rattle.judgement.specs.Refusal.{lineJudgement}
 use Rattle.judgement.specs.Sheet.{names, valueLines, badText, linesJudgement, valuesJudgement, namesJudgement, judgementWithin, judgement}
 use Rattle.carried_values.{specs.Values.{casesIn}, proofs.Soundness.{Sound, sound-small, values-sound}}
@@ -85,7 +86,7 @@ module _ (form : CodeForm) (v : List ℕ) (s : Sound (formOf form) v) where
   unfolding lineFinding orFinding
   line-finding earlier r = rw (line-sound, line-is, values-sound (inOrder form) s, r)
 
-lines-judged : (form : CodeForm) (earlier vs : List (List ℕ)) (n : ℕ) (sound : Judgement) → SoundCases (formOf form) earlier vs
+lines-judged : (form : CodeForm) (earlier vs : List (List ℕ)) (n : ℕ) (sound : Counted) → SoundCases (formOf form) earlier vs
     → linesJudgement (formOf form) (inOrder form) earlier n sound (map valueLine vs) ≡ sound
 unfolding linesJudgement lineJudgement
 lines-judged form earlier [] n sound s = refl
@@ -153,7 +154,7 @@ module _ (form : CodeForm) (vs : List (List ℕ)) (s : SoundCases (formOf form) 
   unfolding casesIn
   cases-back = rw (names-are, names-columns form, values-are) (lines-cases form [] vs s)
 
-  pub accepted-back : 1 ≤ length vs → length vs ≤ mostLines → judgement (formOf form) text ≡ Lines (length vs)
+  pub accepted-back : 1 ≤ length vs → length vs ≤ mostLines → judgement (formOf form) text ≡ Count (length vs)
   unfolding judgement judgementWithin namesJudgement valuesJudgement
   accepted-back some most =
       let n : length (map valueLine vs) ≡ length vs = length-map vs valueLine in
@@ -167,4 +168,4 @@ module _ (form : CodeForm) (vs : List (List ℕ)) (s : SoundCases (formOf form) 
         ne-eqb (length vs) 0 (λ e. omega (arith, e)),
         le-ltb mostLines (length vs) most,
       )
-      (lines-judged form [] vs 2 (Lines (length vs)) s)
+      (lines-judged form [] vs 2 (Count (length vs)) s)

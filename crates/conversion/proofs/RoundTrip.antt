@@ -5,7 +5,8 @@ use mathlib.Core.{Path.{_≡_, refl, ap, _∙_}, List.{List, [], map}}
 use native.Mathlib.Omega.{arith}
 use lib.ListN.{length, length-map}
 use Rattle.case.specs.{declared.Form.{Form, the-variants.{Present, Former}}, Parts.{formOf}}
-use Rattle.judgement.specs.{declared.Judgement.the-variants.{Lines}, Limits.{mostBytes}, Sheet.{names, judgement}, Accepted.{Accepted}}
+use Rattle.case.specs.declared.Counted.the-variants.{Count}
+use Rattle.judgement.specs.{Limits.{mostBytes}, Sheet.{names, judgement}, Accepted.{Accepted}}
 use Rattle.judgement.proofs.{Accepted.{accepted}, StoredLines.{values-count}}
 use Rattle.carried_values.specs.{Values.{other, carried, casesIn}, Changes.{changes}}
 use Rattle.carried_values.proofs.{SoundCases.{SoundCases, accepted-cases, carried-cases}, Restored.{restored, nothing-left-out}}
@@ -18,7 +19,7 @@ other-twice Present = refl
 other-twice Former = refl
 
 -- a sheet of the other form that its own checks accept
-module _ (form : Form) (s : List ℕ) (n : ℕ) (e : judgement (formOf (other form)) s ≡ Lines n) where
+module _ (form : Form) (s : List ℕ) (n : ℕ) (e : judgement (formOf (other form)) s ≡ Count n) where
   source : Accepted (formOf (other form)) s n
   source = accepted (formOf (other form)) s n e
 
@@ -38,11 +39,11 @@ module _ (form : Form) (s : List ℕ) (n : ℕ) (e : judgement (formOf (other fo
   carried-over = cases-back form (map (carried form) (casesIn (formOf (other form)) s)) made
 
   -- the carried sheet is one that its form accepts, with as many lines
-  pub carried-accepted : judgement (formOf form) (carriedText form s) ≡ Lines n
+  pub carried-accepted : judgement (formOf form) (carriedText form s) ≡ Count n
   unfolding carriedText
   carried-accepted =
       accepted-back form (map (carried form) (casesIn (formOf (other form)) s)) made (omega (arith, count, source .some))
-      (omega (arith, count, source .most)) ∙ ap Lines count
+      (omega (arith, count, source .most)) ∙ ap Count count
 
   -- its names are the form's, in the form's order
   pub carried-names : names (carriedText form s) ≡ map (λ c. c .name) (formOf form)
@@ -55,14 +56,14 @@ module _ (form : Form) (s : List ℕ) (n : ℕ) (e : judgement (formOf (other fo
   carried-short = text-short form (map (carried form) (casesIn (formOf (other form)) s)) made (omega (arith, count, source .most))
 
   -- "there and back restores every value"
-  pub there-and-back : {m : ℕ} → changes form (casesIn (formOf (other form)) s) ≡ Lines m
+  pub there-and-back : {m : ℕ} → changes form (casesIn (formOf (other form)) s) ≡ Count m
       → map (carried (other form)) (casesIn (formOf form) (carriedText form s)) ≡ casesIn (formOf (other form)) s
   there-and-back k = ap (map (carried (other form))) carried-over ∙ restored form (casesIn (formOf (other form)) s) cases k
 
 -- both ways, sheet by sheet: the carried sheet is not refused on the way back, and what comes back has the source's cases
-module _ (form : Form) (s : List ℕ) (n : ℕ) (e : judgement (formOf (other form)) s ≡ Lines n) {m : ℕ}
-    (k : changes form (casesIn (formOf (other form)) s) ≡ Lines m) where
-  pub back-not-refused : changes (other form) (casesIn (formOf (other (other form))) (carriedText form s)) ≡ Lines 0
+module _ (form : Form) (s : List ℕ) (n : ℕ) (e : judgement (formOf (other form)) s ≡ Count n) {m : ℕ}
+    (k : changes form (casesIn (formOf (other form)) s) ≡ Count m) where
+  pub back-not-refused : changes (other form) (casesIn (formOf (other (other form))) (carriedText form s)) ≡ Count 0
   back-not-refused = rw (other-twice form, carried-over form s n e) (nothing-left-out form (casesIn (formOf (other form)) s))
 
   pub sheet-restored : casesIn (formOf (other form)) (carriedText (other form) (carriedText form s)) ≡ casesIn (formOf (other form)) s

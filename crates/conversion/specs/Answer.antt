@@ -3,10 +3,10 @@ use Prim.Native.Nat.{ℕ}
 use mathlib.Core.{Path.{_≡_}, Bool.{cond}, List.{List, _++_, map}}
 use lib.{Dec.{ltb}, ListN.{length, drop}}
 use Rattle.case.specs.{declared.Form.{Form}, Parts.{formOf}}
-use Rattle.judgement.specs.{declared.Judgement.{Judgement}, Sheet.{judgement}}
-use Rattle.judgement.specs.declared.Judgement.the-variants as judged
+use Rattle.case.specs.{declared.Counted.{Counted, the-variants.{Count, Refused}}, Counted.{refusedOr}}
+use Rattle.judgement.specs.Sheet.{judgement}
 use Rattle.carried_values.specs.{Values.{other, carried, casesIn}, Changes.{changes}}
-use Rattle.conversion.specs.{declared.Carried.{Carried, the-variants.{Bytes, Refused}}, Sheet.{sheetOf}}
+use Rattle.conversion.specs.Sheet.{sheetOf}
 
 -- ---- the answer, for a buffer of this length
 
@@ -15,26 +15,22 @@ unfoldable pub carriedText : Form → List ℕ → List ℕ
 carriedText form s = sheetOf (formOf form) (map (carried form) (casesIn (formOf (other form)) s))
 
 -- "The answer is the count of bytes written"; "after all lines 8, 0, 0 either way when the output buffer is too short"
-unfoldable pub roomAnswer : List ℕ → ℕ → Carried
-roomAnswer text room = cond (ltb room (length text)) (Refused 8 0 0) (Bytes (length text))
-
-unfoldable pub refusedOr : Judgement → Carried → Carried
-refusedOr (judged.Refused number line column) next = Refused number line column
-refusedOr (judged.Lines n) next = next
+unfoldable pub roomAnswer : List ℕ → ℕ → Counted
+roomAnswer text room = cond (ltb room (length text)) (Refused 8 0 0) (Count (length text))
 
 -- "The source sheet passes all checks of its own form first, save 8", then the lines on the way back, then 8
-unfoldable pub answer : Form → List ℕ → ℕ → Carried
+unfoldable pub answer : Form → List ℕ → ℕ → Counted
 answer form s room =
     refusedOr (judgement (formOf (other form)) s)
     (refusedOr (changes form (casesIn (formOf (other form)) s)) (roomAnswer (carriedText form s) room))
 
 -- "bytes past them keep what they held"; "any refusal leaving it untouched"
-unfoldable pub bufferAfter : Form → List ℕ → List ℕ → Carried → List ℕ
-bufferAfter form s before (Bytes count) = carriedText form s ++ drop count before
+unfoldable pub bufferAfter : Form → List ℕ → List ℕ → Counted → List ℕ
+bufferAfter form s before (Count count) = carriedText form s ++ drop count before
 bufferAfter form s before (Refused number line column) = before
 
 -- the answer and what it leaves in the buffer. Two wrong programs: one that writes before it refuses breaks `buffer-is`; one that tests the
 -- counts before the times breaks `answer-is`.
-pub record Answered (form : Form) (s before after : List ℕ) (r : Carried) : Type 0 where
+pub record Answered (form : Form) (s before after : List ℕ) (r : Counted) : Type 0 where
   pub answer-is : r ≡ answer form s (length before)
   pub buffer-is : after ≡ bufferAfter form s before r

@@ -17,24 +17,16 @@ ghost use Rattle.conversion.specs.Answer.{Answered};
 use carried_values::convert;
 use carried_values::first_change;
 use carried_values::other_form;
+use case::Counted;
 use case::Form;
+use case::REFUSED_SHORT;
 use case::name_count;
-use judgement::Judgement;
 use judgement::VALUES;
 use judgement::read;
 use names::NAMES_BYTES;
 use names::put_names;
 use writing::Written;
 use writing::write_sheet;
-
-// The refusal of a buffer without room for the sheet.
-const BUFFER_SHORT: u32 = 8;
-
-// The count of bytes written, or a refusal with number, line and column.
-pub enum Carried {
-    Bytes(usize),
-    Refused(u32, usize, usize),
-}
 
 // The sheet of n lines of values in a form, or nothing where the buffer is too short.
 fn write_form(form: Form, buffer: &mut [u8], values: &[u32], n: usize) -> Written
@@ -50,37 +42,36 @@ fn write_form(form: Form, buffer: &mut [u8], values: &[u32], n: usize) -> Writte
     write_sheet(buffer, &line[..m], values, k, n)
 }
 
-// A sheet of the other form carried over to a form.
-fn carry_to(form: Form, s: &[u8], buffer: &mut [u8]) -> Carried
+// A sheet of the other form carried over to a form: the count of bytes written, or a refusal.
+fn carry_to(form: Form, s: &[u8], buffer: &mut [u8]) -> Counted
     ensures { λ r. ⌜ Answered form (now (s .entry)) (now (buffer .entry)) (now (buffer .exit)) r ⌝ }
 {
     let mut values = [0u32; VALUES];
-    match read(other_form(form), s, &mut values) {
-        Judgement::Refused(number, line, column) => Carried::Refused(number, line, column),
-        Judgement::Lines(n) => {
-            let change = first_change(form, &values, n);
-            if let Judgement::Refused(number, line, column) = change {
-                return Carried::Refused(number, line, column);
-            }
-            let mut carried = [0u32; VALUES];
-            convert(form, &values, n, &mut carried);
-            match write_form(form, buffer, &carried, n) {
-                Written::Short => Carried::Refused(BUFFER_SHORT, 0, 0),
-                Written::Count(k) => Carried::Bytes(k),
-            }
-        }
+    let judged = read(other_form(form), s, &mut values);
+    let Counted::Count(n) = judged else {
+        return judged;
+    };
+    let change = first_change(form, &values, n);
+    if let Counted::Refused(_, _, _) = change {
+        return change;
+    }
+    let mut carried = [0u32; VALUES];
+    convert(form, &values, n, &mut carried);
+    match write_form(form, buffer, &carried, n) {
+        Written::Short => Counted::Refused(REFUSED_SHORT, 0, 0),
+        Written::Count(k) => Counted::Count(k),
     }
 }
 
-// A sheet of the former names becomes one of today's.
-pub fn carry(s: &[u8], buffer: &mut [u8]) -> Carried
+// A sheet of the former names becomes one of today's, whose bytes are counted.
+pub fn carry(s: &[u8], buffer: &mut [u8]) -> Counted
     ensures { λ r. ⌜ Answered Present (now (s .entry)) (now (buffer .entry)) (now (buffer .exit)) r ⌝ }
 {
     carry_to(Form::Present, s, buffer)
 }
 
-// A sheet of today's names becomes one of the former ones.
-pub fn carry_back(s: &[u8], buffer: &mut [u8]) -> Carried
+// A sheet of today's names becomes one of the former ones, whose bytes are counted.
+pub fn carry_back(s: &[u8], buffer: &mut [u8]) -> Counted
     ensures { λ r. ⌜ Answered Former (now (s .entry)) (now (buffer .entry)) (now (buffer .exit)) r ⌝ }
 {
     carry_to(Form::Former, s, buffer)

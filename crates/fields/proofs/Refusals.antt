@@ -5,7 +5,7 @@ use native.Mathlib.{Numerals.{add-one}, Omega.{arith}}
 use lib.{ListN.{length, getD, drop, length-append, drop-of-length-le}, Seq.{drop-cons}}
 use Rattle.text.specs.Text.{bytes}
 use Rattle.writing.{specs.Decimal.{decimal}, proofs.Signed.{decimal-at-most}}
-use Rattle.judgement.specs.declared.Judgement.{Judgement, the-variants.{Lines, Refused}}
+use Rattle.case.specs.declared.Counted.{Counted, the-variants.{Count, Refused}}
 use Rattle.fields.specs.Refusal.{numbered, refusedText, unlessRefused, refusalBytes}
 use Rattle.fields.proofs.LineFields.{fieldsEnd, end-first, end-more, end-none}
 
@@ -50,8 +50,8 @@ refused-most number line column = omega (arith, numbered-most (bytes "refused") 
 
 -- ---- an answer that may be a refusal
 
-pub answer-fits : (room : ℕ) (j : Judgement) (t : List ℕ) → refusalBytes ≤ room → ((n : ℕ) → j ≡ Lines n → length t ≤ room)
+pub answer-fits : (room : ℕ) (j : Counted) (t : List ℕ) → refusalBytes ≤ room → ((n : ℕ) → j ≡ Count n → length t ≤ room)
     → length (unlessRefused j t) ≤ room
 unfolding unlessRefused
-answer-fits room (Lines n) t enough h = h n refl
+answer-fits room (Count n) t enough h = h n refl
 answer-fits room (Refused number line column) t enough h = omega (arith, refused-most number line column)

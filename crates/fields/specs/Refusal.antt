@@ -4,7 +4,7 @@ use Prim.Native.Nat.{ℕ}
 use mathlib.Core.List.{List, [], _∷_, map}
 use Rattle.text.specs.Text.{bytes}
 use Rattle.writing.specs.{Decimal.{decimal}, Text.{parted, ended}}
-use Rattle.judgement.specs.declared.Judgement.{Judgement, the-variants.{Lines, Refused}}
+use Rattle.case.specs.declared.Counted.{Counted, the-variants.{Count, Refused}}
 
 -- a word and some numbers
 unfoldable pub numbered : List ℕ → List ℕ → List ℕ
@@ -14,8 +14,8 @@ unfoldable pub refusedText : ℕ → ℕ → ℕ → List ℕ
 refusedText number line column = numbered (bytes "refused") (number ∷ line ∷ column ∷ [])
 
 -- the text t, or "only" the refusal
-unfoldable pub unlessRefused : Judgement → List ℕ → List ℕ
-unlessRefused (Lines count) t = t
+unfoldable pub unlessRefused : Counted → List ℕ → List ℕ
+unlessRefused (Count count) t = t
 unlessRefused (Refused number line column) t = refusedText number line column
 
 -- `refused`, and a comma with twenty digits three times, and byte 10

@@ -1,9 +1,9 @@
 // The operations offered to callers, in the order of the specification, and the types that they name. None has a condition on its
 // arguments: what breaks a rule is refused.
 pub use case::Case;
+pub use case::Counted;
 use case::Judged;
 use case::judge;
-pub use conversion::Carried;
 pub use conversion::carry;
 pub use conversion::carry_back;
 use decrement::df;
@@ -21,7 +21,6 @@ pub use margin::margins;
 pub use readings::Report;
 pub use readings::Sounding;
 pub use readings::soil;
-pub use release::Released;
 pub use release::release;
 pub use row::Row;
 // The twenty numbers of a row in the table's order, as `margins` takes them.

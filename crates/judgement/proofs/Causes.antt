@@ -4,8 +4,9 @@ use mathlib.Core.{Path.{_≡_, refl}, Bool.{Bool, true, false, cond}, List.{List
 use lib.{ListN.{length}, Dec.{ltb, eqb}}
 use borrow.Author.Tests.{eqb-true, eqb-false, ltb-true, ltb-false}
 use Rattle.case.specs.Columns.{Form}
+use Rattle.case.specs.declared.Counted.{Counted, the-variants.{Count, Refused}}
 use Rattle.header.specs.Header.{noColumns, wrongName, columnsOf}
-use Rattle.judgement.specs.{declared.Judgement.{Judgement, the-variants.{Lines, Refused}}, Limits.{Limits}}
+use Rattle.judgement.specs.Limits.{Limits}
 use Rattle.judgement.specs.Refusal.{textRefused, nameRefused, noLineRefused, manyLinesRefused}
 use Rattle.judgement.specs.Sheet.{names, valueLines, badText, linesJudgement, valuesJudgement, namesJudgement, judgementWithin}
 
@@ -15,17 +16,17 @@ module _ (form : Form) (s : List ℕ) where
   wrongColumn = wrongName form 1 (noColumns form) (names s)
 
   -- what the value lines are judged, line by line
-  abbrev pub linesJudged : Judgement
-  linesJudged = linesJudgement form (columnsOf form (names s)) [] 2 (Lines (length (valueLines s))) (valueLines s)
+  abbrev pub linesJudged : Counted
+  linesJudged = linesJudgement form (columnsOf form (names s)) [] 2 (Count (length (valueLines s))) (valueLines s)
 
   -- "The order is 1, 2, 4; then line by line"
-  pub data Cause (limits : Limits) : Judgement → Type 0 where
+  pub data Cause (limits : Limits) : Counted → Type 0 where
     text : badText limits s ≡ true → Cause limits (Refused 1 0 0)
     name : badText limits s ≡ false → (wrongColumn ≡ 0 → ⊥) → Cause limits (Refused 2 1 wrongColumn)
     no-line : badText limits s ≡ false → wrongColumn ≡ 0 → length (valueLines s) ≡ 0 → Cause limits (Refused 4 2 0)
     many-lines : badText limits s ≡ false → wrongColumn ≡ 0 → limits .lines < length (valueLines s)
         → Cause limits (Refused 4 (limits .lines + 2) 0)
-    lines : {j : Judgement} → badText limits s ≡ false → wrongColumn ≡ 0 → (length (valueLines s) ≡ 0 → ⊥)
+    lines : {j : Counted} → badText limits s ≡ false → wrongColumn ≡ 0 → (length (valueLines s) ≡ 0 → ⊥)
         → length (valueLines s) ≤ limits .lines → linesJudged ≡ j → Cause limits j
 
   pub cause : (limits : Limits) → Cause limits (judgementWithin form limits s)

@@ -6,10 +6,11 @@ use lib.{ListN.{length, getD}, Dec.{eqb}}
 use borrow.Author.Tests.{eqb-true}
 use Rattle.text.{specs.Text.{fieldsOf}, proofs.Clash.{clash}}
 use Rattle.case.specs.Columns.{Form}
+use Rattle.case.specs.declared.Counted.{Counted, the-variants.{Count}}
 use Rattle.line.specs.Line.{wrongForm, lineValues}
 use Rattle.line_finding.specs.{declared.LineFinding.{LineFinding, the-variants.{Sound, Form as WrongForm}}, Findings.{lineFinding}}
 use Rattle.line_finding.proofs.LineChecked.{sound-case}
-use Rattle.judgement.specs.{declared.Judgement.{the-variants.{Lines}, Judgement}, Sheet.{linesJudgement}, Accepted.{SoundLine}}
+use Rattle.judgement.specs.{Sheet.{linesJudgement}, Accepted.{SoundLine}}
 use Rattle.judgement.proofs.LineJudged.{sound-line}
 
 sound-form : (b : Bool) (c : ℕ) (f : LineFinding) → cond b f (WrongForm c) ≡ Sound → (b ≡ true) × (f ≡ Sound)
@@ -23,12 +24,12 @@ sound-checks form at line earlier e =
     let q = sound-form (eqb (wrongForm (length form) 1 (fieldsOf line)) 0) _ _ e in
     record { form-sound = eqb-true _ 0 (q .0); values-sound = sound-case _ _ (q .1) }
 
-pub record LinesSound (form : Form) (at : List ℕ) (ls : List (List ℕ)) (sound : Judgement) (m : ℕ) : Type 0 where
+pub record LinesSound (form : Form) (at : List ℕ) (ls : List (List ℕ)) (sound : Counted) (m : ℕ) : Type 0 where
   pub each : (i : ℕ) → i < length ls → SoundLine form at (getD ls i [])
-  pub then : sound ≡ Lines m
+  pub then : sound ≡ Count m
 
-pub lines-sound : (form : Form) (at : List ℕ) (earlier : List (List ℕ)) (n m : ℕ) (sound : Judgement) (ls : List (List ℕ))
-    → linesJudgement form at earlier n sound ls ≡ Lines m → LinesSound form at ls sound m
+pub lines-sound : (form : Form) (at : List ℕ) (earlier : List (List ℕ)) (n m : ℕ) (sound : Counted) (ls : List (List ℕ))
+    → linesJudgement form at earlier n sound ls ≡ Count m → LinesSound form at ls sound m
 unfolding linesJudgement
 lines-sound form at earlier n m sound [] e = record { each = λ i h. absurd (omega arith); then = e }
 lines-sound form at earlier n m sound (l ∷ ls) e =

@@ -5,11 +5,12 @@ use native.Mathlib.Omega.{arith}
 use lib.ListN.{length, getD}
 use Rattle.text.{specs.Text.{fieldsOf}, proofs.Clash.{clash}}
 use Rattle.case.specs.Columns.{Form}
+use Rattle.case.specs.declared.Counted.{Counted, the-variants.{Count, Refused}}
 use Rattle.line.specs.Line.{lineValues}
 use Rattle.line_finding.specs.declared.LineFinding.{LineFinding}
 use Rattle.line_finding.specs.declared.LineFinding.the-variants.{Sound, Form as WrongForm, OutOfRange, Disagreement, Repeated}
 use Rattle.line_finding.specs.Findings.{sameKey, repeats, lineFinding}
-use Rattle.judgement.specs.{declared.Judgement.{the-variants.{Lines, Refused}, Judgement}, Refusal.{lineJudgement}}
+use Rattle.judgement.specs.Refusal.{lineJudgement}
 use Rattle.judgement.specs.Sheet.{linesJudgement}
 use Rattle.judgement.proofs.LineJudged.{sound-line}
 
@@ -41,10 +42,10 @@ module _ (form : Form) (at : List ℕ) where
     pub within : index < length ls
     pub line : l ≡ index + n
     pub sound-before : (j : ℕ) → j < index → findingAt earlier ls j ≡ Sound
-    pub judged : lineJudgement l (Lines 0) (findingAt earlier ls index) ≡ Refused k l c
+    pub judged : lineJudgement l (Count 0) (findingAt earlier ls index) ≡ Refused k l c
 
   pub refused-at : {k l c : ℕ} (m : ℕ) (earlier : List (List ℕ)) (n : ℕ) (ls : List (List ℕ))
-      → linesJudgement form at earlier n (Lines m) ls ≡ Refused k l c → RefusedAt earlier n ls k l c
+      → linesJudgement form at earlier n (Count m) ls ≡ Refused k l c → RefusedAt earlier n ls k l c
   unfolding linesJudgement lineJudgement before
   refused-at m earlier n [] e = clash cc
   refused-at {k} {l} {c} m earlier n (x ∷ ls) e =
@@ -65,7 +66,7 @@ module _ (form : Form) (at : List ℕ) where
             judged = r .judged;
           }
 
-      here : (f : LineFinding) → foundOf earlier x ≡ f → l ≡ n → lineJudgement n (Lines 0) f ≡ Refused k l c
+      here : (f : LineFinding) → foundOf earlier x ≡ f → l ≡ n → lineJudgement n (Count 0) f ≡ Refused k l c
           → RefusedAt earlier n (x ∷ ls) k l c
       here f q p j =
           record {
@@ -77,8 +78,8 @@ module _ (form : Form) (at : List ℕ) where
           }
 
       go : (f : LineFinding) → foundOf earlier x ≡ f
-          → lineJudgement n (linesJudgement form at (valuesOf x ∷ earlier) (suc n) (Lines m) ls) f ≡ Refused k l c
-          → (linesJudgement form at (valuesOf x ∷ earlier) (suc n) (Lines m) ls ≡ Refused k l c
+          → lineJudgement n (linesJudgement form at (valuesOf x ∷ earlier) (suc n) (Count m) ls) f ≡ Refused k l c
+          → (linesJudgement form at (valuesOf x ∷ earlier) (suc n) (Count m) ls ≡ Refused k l c
           → RefusedAt (valuesOf x ∷ earlier) (suc n) ls k l c) → RefusedAt earlier n (x ∷ ls) k l c
       go Sound q h then = later q (then h)
       go (WrongForm column) q h then = here (WrongForm column) q (cc) h
@@ -87,8 +88,8 @@ module _ (form : Form) (at : List ℕ) where
       go Repeated q h then = here Repeated q (cc) h
 
   -- where no line is refused, each is sound
-  pub sound-at : {m : ℕ} (earlier : List (List ℕ)) (n : ℕ) (sound : Judgement) (ls : List (List ℕ))
-      → linesJudgement form at earlier n sound ls ≡ Lines m → (i : ℕ) → i < length ls → findingAt earlier ls i ≡ Sound
+  pub sound-at : {m : ℕ} (earlier : List (List ℕ)) (n : ℕ) (sound : Counted) (ls : List (List ℕ))
+      → linesJudgement form at earlier n sound ls ≡ Count m → (i : ℕ) → i < length ls → findingAt earlier ls i ≡ Sound
   unfolding linesJudgement before
   sound-at earlier n sound [] e i h = absurd (omega arith)
   sound-at earlier n sound (x ∷ ls) e zero h = sound-line n _ (foundOf earlier x) refl e .0

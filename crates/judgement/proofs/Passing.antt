@@ -8,14 +8,15 @@ use Rattle.text.{specs.{Text.{indexOf, linesOf, fieldsOf}, Parts.{Skipped}}, pr
 use Rattle.text.proofs.LineTurns.{line-turn, line-shorter, next-of}
 use Rattle.tables.{specs.Parts.{partAt}, proofs.{Writing.{part-kept}, Parts.{part-entry}}}
 use Rattle.case.specs.Columns.{Form, named}
+use Rattle.case.specs.declared.Counted.{Counted, the-variants.{Count, Refused}}
 use Rattle.line.specs.Line.{lineValues}
 use Rattle.line_finding.specs.{declared.LineFinding.{LineFinding}, Findings.{lineFinding}, Parts.{packed, keysOf}}
 use Rattle.line_finding.proofs.Keys.{Keyed, kept, finding-kept, keys-more}
-use Rattle.judgement.specs.{declared.Judgement.{the-variants.{Lines, Refused}, Judgement}, Refusal.{lineJudgement}}
+use Rattle.judgement.specs.Refusal.{lineJudgement}
 use Rattle.judgement.specs.{Limits.{mostLines}, Sheet.{linesJudgement}, Read.{LineStored, LinesRead}}
 use Rattle.judgement.proofs.LineJudged.{refused-line, sound-line}
 
-pub record Passing (form : Form) (s at keys rest : List ℕ) (n : ℕ) (sound : Judgement) (before store : List ℕ) : Type 0 where
+pub record Passing (form : Form) (s at keys rest : List ℕ) (n : ℕ) (sound : Counted) (before store : List ℕ) : Type 0 where
   pub earlier : List (List ℕ)
   pub kept-are : keysOf keys n ≡ map (kept form) earlier
   pub answer-left : linesJudgement form at [] 2 sound (linesOf s) ≡ linesJudgement form at earlier (n + 2) sound (linesOf rest)
@@ -26,7 +27,7 @@ pub record Passing (form : Form) (s at keys rest : List ℕ) (n : ℕ) (sound : 
   pub size : length store ≡ length before
   pub stored : (i : ℕ) → i < n → partAt (length form) store i ≡ lineValues at (fieldsOf (getD (linesOf s) i []))
 
-pub passing-start : (form : Form) (s at : List ℕ) (sound : Judgement) (store : List ℕ) → length (linesOf s) ≤ mostLines
+pub passing-start : (form : Form) (s at : List ℕ) (sound : Counted) (store : List ℕ) → length (linesOf s) ≤ mostLines
     → Passing form s at (replicate mostLines 0) s 0 sound store store
 unfolding keysOf
 passing-start form s at sound store h =
@@ -42,7 +43,7 @@ passing-start form s at sound store h =
       stored = λ i l. absurd (omega arith);
     }
 
-module _ {form : Form} {s at keys rest : List ℕ} {n : ℕ} {sound : Judgement} {before store : List ℕ}
+module _ {form : Form} {s at keys rest : List ℕ} {n : ℕ} {sound : Counted} {before store : List ℕ}
     (p : Passing form s at keys rest n sound before store) where
   -- there is a line left
   left : 0 < length rest → n < length (linesOf s)
@@ -79,10 +80,10 @@ pub stored-first : {form : Form} {at line before after : List ℕ} {earlier : Li
 stored-first {after = after} {n = n} {w} l e h = ap (λ (k : ℕ). getD after k 0) (sym (add-zero (w * n))) ∙ stored-value 0 l e h
 
 -- a turn: the line before e is checked, with finding f; its values are part n of the store; a is its refusal
-module _ {form : Form} {s at keys rest : List ℕ} {n : ℕ} {sound a : Judgement} {before store after : List ℕ} {f : LineFinding} (e : ℕ)
+module _ {form : Form} {s at keys rest : List ℕ} {n : ℕ} {sound a : Counted} {before store after : List ℕ} {f : LineFinding} (e : ℕ)
     (keyed : Keyed form)
     (p : Passing form s at keys rest n sound before store) (some : 0 < length rest) (ends : e ≡ indexOf 10 rest)
-    (j : LineStored form at (keysOf keys n) (take e rest) n store after f) (answered : a ≡ lineJudgement (n + 2) (Lines 0) f) where
+    (j : LineStored form at (keysOf keys n) (take e rest) n store after f) (answered : a ≡ lineJudgement (n + 2) (Count 0) f) where
   found-is : f ≡ lineFinding form at (p .earlier) (fieldsOf (take e rest))
   found-is = j .checks .found-is ∙ rw (p .kept-are) (finding-kept keyed at (p .earlier) (fieldsOf (take e rest)))
 
@@ -95,12 +96,12 @@ module _ {form : Form} {s at keys rest : List ℕ} {n : ℕ} {sound a : Judgemen
         stored = λ m q. clash cc;
       }
 
-  pub passing-step : {m x y : ℕ} (r : ℕ) → a ≡ Lines m → x ≡ getD (j .row) 0 0 → y ≡ getD (j .row) 1 0 → Skipped e (length rest) r
+  pub passing-step : {m x y : ℕ} (r : ℕ) → a ≡ Count m → x ≡ getD (j .row) 0 0 → y ≡ getD (j .row) 1 0 → Skipped e (length rest) r
       → Passing form s at (set keys n (packed x y)) (take (length rest - r) (drop r rest)) (n + 1) sound before after
   unfolding linesJudgement lineJudgement kept named
   passing-step {x = x} {y} r h g q k =
       let t = line-turn rest e r some ends k in
-      let z = sound-line (n + 2) (Lines 0) f answered h .0 in
+      let z = sound-line (n + 2) (Count 0) f answered h .0 in
       let i = passing-room p some in
       let o = next-of n (linesOf s) (take e rest) _ (p .lines ∙ t) in
       record {

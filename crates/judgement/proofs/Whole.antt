@@ -8,7 +8,7 @@ use Rattle.text.specs.{Text.{indexOf, linesOf, fieldsOf}, Parts.{Skipped}, decl
 use Rattle.text.proofs.{Clash.{clash}, Lines.{lines-next}}
 use Rattle.text.proofs.LineTurns.{line-turn}
 use Rattle.case.specs.Columns.{Form}
-use Rattle.judgement.specs.declared.Judgement.{Judgement, the-variants.{Lines, Refused}}
+use Rattle.case.specs.declared.Counted.{Counted, the-variants.{Count, Refused}}
 use Rattle.judgement.specs.Limits.{Limits, today, mostBytes, mostLines}
 use Rattle.judgement.specs.Refusal.{textRefused, nameRefused, noLineRefused, manyLinesRefused}
 use Rattle.judgement.specs.Sheet.{names, valueLines, badText, valuesJudgement, namesJudgement, judgementWithin, judgement}
@@ -62,7 +62,7 @@ text-some : (s : List ℕ) → badText today s ≡ false → 0 < length s
 text-some s e = omega (arith, text-right today s e .some)
 
 -- a refusal stores nothing
-not-lines : {n k l c : ℕ} → Refused k l c ≡ Lines n → ⊥
+not-lines : {n k l c : ℕ} → Refused k l c ≡ Count n → ⊥
 not-lines e = clash cc
 
 read-refused : {form : Form} {s : List ℕ} {k l c : ℕ} (store : List ℕ) → Refused k l c ≡ judgement form s
@@ -107,7 +107,7 @@ module _ {form : Form} (s : List ℕ) {at order : List ℕ} {found : Columns} (e
       let w = names-wrong h z in
       read-refused store (rw (b, names-are s e b ends, w .is, ne-eqb c 0 (w .some)))
 
-  pub read-values : {before after : List ℕ} {j : Judgement} (r : ℕ) → found ≡ Right → Skipped e (length s) r
+  pub read-values : {before after : List ℕ} {j : Counted} (r : ℕ) → found ≡ Right → Skipped e (length s) r
       → ValuesRead form at (linesOf (take (length s - r) (drop r s))) before after j → Read form s before after j
   unfolding judgement judgementWithin namesJudgement
   read-values r z k v =
@@ -130,7 +130,7 @@ module _ (form : Form) (at : List ℕ) (ls : List (List ℕ)) (n : ℕ) (count :
   unfolding valuesJudgement manyLinesRefused
   values-many store h = lines-refused store (rw (← count, ne-eqb n 0 (λ e. omega (arith, e)), lt-ltb mostLines n h))
 
-  pub values-some : {before after : List ℕ} {j : Judgement} → (n ≡ 0 → ⊥) → n ≤ mostLines → LinesRead form at ls (Lines n) before after j
+  pub values-some : {before after : List ℕ} {j : Counted} → (n ≡ 0 → ⊥) → n ≤ mostLines → LinesRead form at ls (Count n) before after j
       → ValuesRead form at ls before after j
   unfolding valuesJudgement
   values-some z h l =

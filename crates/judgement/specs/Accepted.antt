@@ -5,10 +5,10 @@ use lib.ListN.{length, getD}
 use Rattle.text.specs.Text.{fieldsOf}
 use Rattle.case.specs.declared.Finding.the-variants as found
 use Rattle.case.specs.{Columns.{Form}, Check.{finding}, Bounds.{Placed}}
+use Rattle.case.specs.declared.Counted.the-variants.{Count}
 use Rattle.header.specs.Header.{noColumns, wrongName, columnsOf}
 use Rattle.line.specs.Line.{wrongForm, lineValues}
 use Rattle.judgement.specs.{Limits.{Limits, today}, Sheet.{names, valueLines, badText, linesJudgement}}
-use Rattle.judgement.specs.declared.Judgement.the-variants.{Lines}
 
 -- a text that is not "empty, over" the most bytes, "or last byte not 10"
 pub record RightText (limits : Limits) (s : List ℕ) : Type 0 where
@@ -32,7 +32,7 @@ pub record AcceptedWithin (form : Form) (limits : Limits) (s : List ℕ) (n : �
   pub some : 1 ≤ n
   pub most : n ≤ limits .lines
   pub lines : SoundLines form (columnsOf form (names s)) (valueLines s)
-  pub judged : linesJudgement form (columnsOf form (names s)) [] 2 (Lines n) (valueLines s) ≡ Lines n
+  pub judged : linesJudgement form (columnsOf form (names s)) [] 2 (Count n) (valueLines s) ≡ Count n
 
 -- within today's limits
 abbrev pub Accepted : Form → List ℕ → ℕ → Type 0

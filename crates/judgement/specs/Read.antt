@@ -5,10 +5,11 @@ use lib.ListN.{length, getD}
 use Rattle.text.specs.Text.{fieldsOf}
 use Rattle.tables.specs.Parts.{partAt, Written}
 use Rattle.case.specs.Columns.{Form}
+use Rattle.case.specs.declared.Counted.{Counted, the-variants.{Count}}
 use Rattle.header.specs.Header.{columnsOf}
 use Rattle.line.specs.Line.{lineValues}
 use Rattle.line_finding.specs.{declared.LineFinding.{LineFinding}, Parts.{Checks}}
-use Rattle.judgement.specs.{declared.Judgement.{Judgement, the-variants.{Lines}}, Limits.{today, mostLines}}
+use Rattle.judgement.specs.Limits.{today, mostLines}
 use Rattle.judgement.specs.Sheet.{names, valueLines, linesJudgement, valuesJudgement, judgement}
 
 -- the values of some lines stand one after the other in a store, each line's in the order of the form
@@ -27,20 +28,20 @@ pub record LineStored (form : Form) (at : List ℕ) (earlier : List (List ℕ)) 
   pub written : Written (length form) n row before after
 
 -- value lines with the columns of their names, judged line by line
-pub record LinesRead (form : Form) (at : List ℕ) (lines : List (List ℕ)) (sound : Judgement) (before after : List ℕ) (r : Judgement) : Type
+pub record LinesRead (form : Form) (at : List ℕ) (lines : List (List ℕ)) (sound : Counted) (before after : List ℕ) (r : Counted) : Type
     0 where
   pub answer-is : r ≡ linesJudgement form at [] 2 sound lines
   pub size : length after ≡ length before
-  pub stored : (n : ℕ) → r ≡ Lines n → Stored form at lines after
+  pub stored : (n : ℕ) → r ≡ Count n → Stored form at lines after
 
 -- the same with the count of lines
-pub record ValuesRead (form : Form) (at : List ℕ) (lines : List (List ℕ)) (before after : List ℕ) (r : Judgement) : Type 0 where
+pub record ValuesRead (form : Form) (at : List ℕ) (lines : List (List ℕ)) (before after : List ℕ) (r : Counted) : Type 0 where
   pub answer-is : r ≡ valuesJudgement form today at lines
   pub size : length after ≡ length before
-  pub stored : (n : ℕ) → r ≡ Lines n → Stored form at lines after
+  pub stored : (n : ℕ) → r ≡ Count n → Stored form at lines after
 
 -- a sheet
-pub record Read (form : Form) (s before after : List ℕ) (r : Judgement) : Type 0 where
+pub record Read (form : Form) (s before after : List ℕ) (r : Counted) : Type 0 where
   pub answer-is : r ≡ judgement form s
   pub size : length after ≡ length before
-  pub stored : (n : ℕ) → r ≡ Lines n → Stored form (columnsOf form (names s)) (valueLines s) after
+  pub stored : (n : ℕ) → r ≡ Count n → Stored form (columnsOf form (names s)) (valueLines s) after

@@ -5,10 +5,11 @@ use mathlib.Core.{Bool.{Bool, cond, not, _||_}, List.{List, [], _∷_}}
 use lib.{ListN.{length, getD, drop}, Dec.{ltb, eqb}}
 use Rattle.text.specs.Text.{linesOf, fieldsOf}
 use Rattle.case.specs.Columns.{Form}
+use Rattle.case.specs.declared.Counted.{Counted, the-variants.{Count}}
 use Rattle.header.specs.Header.{noColumns, wrongName, columnsOf}
 use Rattle.line.specs.Line.{lineValues}
 use Rattle.line_finding.specs.Findings.{lineFinding}
-use Rattle.judgement.specs.{declared.Judgement.{Judgement, the-variants.{Lines}}, Limits.{Limits, today}}
+use Rattle.judgement.specs.Limits.{Limits, today}
 use Rattle.judgement.specs.Refusal.{textRefused, nameRefused, noLineRefused, manyLinesRefused, lineJudgement}
 
 -- "Its first line holds names, and each later line holds values in that order."
@@ -24,7 +25,7 @@ badText limits s = eqb (length s) 0 || ltb (limits .bytes) (length s) || not (eq
 
 module _ (form : Form) where
   -- line by line from line n on, after the values of earlier lines; `sound` is the judgement where nothing is wrong with any line
-  unfoldable pub linesJudgement : List ℕ → List (List ℕ) → ℕ → Judgement → List (List ℕ) → Judgement
+  unfoldable pub linesJudgement : List ℕ → List (List ℕ) → ℕ → Counted → List (List ℕ) → Counted
   linesJudgement at earlier n sound [] = sound
   linesJudgement at earlier n sound (line ∷ lines) =
       lineJudgement n (linesJudgement at (lineValues at (fieldsOf line) ∷ earlier) (suc n) sound lines)
@@ -32,21 +33,21 @@ module _ (form : Form) where
 
 module _ (form : Form) (limits : Limits) where
   -- 4, then the lines
-  unfoldable pub valuesJudgement : List ℕ → List (List ℕ) → Judgement
+  unfoldable pub valuesJudgement : List ℕ → List (List ℕ) → Counted
   valuesJudgement at lines =
       cond (eqb (length lines) 0) noLineRefused
-      (cond (ltb (limits .lines) (length lines)) (manyLinesRefused limits) (linesJudgement form at [] 2 (Lines (length lines)) lines))
+      (cond (ltb (limits .lines) (length lines)) (manyLinesRefused limits) (linesJudgement form at [] 2 (Count (length lines)) lines))
 
   -- 2, then the values
-  unfoldable pub namesJudgement : List ℕ → Judgement
+  unfoldable pub namesJudgement : List ℕ → Counted
   namesJudgement s =
       cond (eqb (wrongName form 1 (noColumns form) (names s)) 0) (valuesJudgement (columnsOf form (names s)) (valueLines s))
       (nameRefused (wrongName form 1 (noColumns form) (names s)))
 
   -- 1, then the names
-  unfoldable pub judgementWithin : List ℕ → Judgement
+  unfoldable pub judgementWithin : List ℕ → Counted
   judgementWithin s = cond (badText limits s) textRefused (namesJudgement s)
 
 -- within today's limits
-unfoldable pub judgement : Form → List ℕ → Judgement
+unfoldable pub judgement : Form → List ℕ → Counted
 judgement form s = judgementWithin form today s

@@ -12,9 +12,13 @@ ghost use Rattle.header.specs.Header.{noColumns};
 ghost use Rattle.judgement.specs.Limits.{today, mostLines};
 ghost use Rattle.judgement.specs.Sheet.{badText};
 ghost use Rattle.judgement.specs.Read.{Room, ValuesRead, Read};
+use case::Counted;
 use case::FORMER_NAMES;
 use case::Form;
 use case::NAMES;
+use case::REFUSED_LINES;
+use case::REFUSED_NAME;
+use case::REFUSED_TEXT;
 use header::read_header;
 use pass::check_lines;
 use text::Columns;
@@ -32,21 +36,6 @@ pub const VALUES: usize = LINES * NAMES;
 
 // The line named where there are too many.
 const PAST_LINES: usize = LINES + 2;
-
-// The refusals of a sheet by their numbers: its text, its names, a field that is no value, the count of its value lines.
-pub const NOT_A_SHEET: u32 = 1;
-
-pub const WRONG_NAME: u32 = 2;
-
-pub const NOT_A_VALUE: u32 = 3;
-
-pub const WRONG_LINE_COUNT: u32 = 4;
-
-// The count of value lines, or a refusal with number, line and column.
-pub enum Judgement {
-    Lines(usize),
-    Refused(u32, usize, usize),
-}
 
 // Refusal 1.
 pub fn bad_text(s: &[u8]) -> bool
@@ -69,7 +58,7 @@ fn judge_values<'a>(
     at: &'a [usize],
     order: &'a [usize],
     values: &mut [u32],
-) -> Judgement
+) -> Counted
     requires { ⌜ Placed (length (formOf form)) (now at) ⌝ }
     requires { ⌜ Ordered (length (formOf form)) (now at) (now order) ⌝ }
     requires { ⌜ Room (formOf form) (linesOf (now s)) (now values) ⌝ }
@@ -77,10 +66,10 @@ fn judge_values<'a>(
 {
     let n = count_lines(s);
     if n == 0 {
-        return Judgement::Refused(WRONG_LINE_COUNT, 2, 0);
+        return Counted::Refused(REFUSED_LINES, 2, 0);
     }
     if LINES < n {
-        return Judgement::Refused(WRONG_LINE_COUNT, PAST_LINES, 0);
+        return Counted::Refused(REFUSED_LINES, PAST_LINES, 0);
     }
     check_lines(form, s, at, order, n, values)
 }
@@ -92,18 +81,18 @@ fn read_by(
     at: &mut [usize],
     order: &mut [usize],
     values: &mut [u32],
-) -> Judgement
+) -> Counted
     requires { ⌜ now at ≡ noColumns (formOf form) ⌝ }
     requires { ⌜ length (now order) ≡ length (formOf form) ⌝ }
     requires { ⌜ Room (formOf form) (linesOf (now s)) (now values) ⌝ }
     ensures { λ r. ⌜ Read (formOf form) (now (s .entry)) (now (values .entry)) (now (values .exit)) r ⌝ }
 {
     if bad_text(s) {
-        return Judgement::Refused(NOT_A_SHEET, 0, 0);
+        return Counted::Refused(REFUSED_TEXT, 0, 0);
     }
     let e = find(s, 10);
     match read_header(form, &s[..e], at, order) {
-        Columns::Wrong(column) => Judgement::Refused(WRONG_NAME, 1, column),
+        Columns::Wrong(column) => Counted::Refused(REFUSED_NAME, 1, column),
         Columns::Right => {
             let next = skip(e, s.len());
             judge_values(form, &s[next..], at, order, values)
@@ -113,7 +102,7 @@ fn read_by(
 
 // The judgement of a sheet of a form, and its values in the store, line after line in the order of the names. The store has room for the
 // lines that the sheet has.
-pub fn read_within(form: Form, s: &[u8], values: &mut [u32]) -> Judgement
+pub fn read_within(form: Form, s: &[u8], values: &mut [u32]) -> Counted
     requires { ⌜ Room (formOf form) (linesOf (now s)) (now values) ⌝ }
     ensures { λ r. ⌜ Read (formOf form) (now (s .entry)) (now (values .entry)) (now (values .exit)) r ⌝ }
 {
@@ -132,7 +121,7 @@ pub fn read_within(form: Form, s: &[u8], values: &mut [u32]) -> Judgement
 }
 
 // The same with a store for as many value lines as a sheet may have.
-pub fn read(form: Form, s: &[u8], values: &mut [u32]) -> Judgement
+pub fn read(form: Form, s: &[u8], values: &mut [u32]) -> Counted
     requires { ⌜ length (formOf form) * mostLines ≤ length (now values) ⌝ }
     ensures { λ r. ⌜ Read (formOf form) (now (s .entry)) (now (values .entry)) (now (values .exit)) r ⌝ }
 {

@@ -11,12 +11,13 @@ ghost use Rattle.judgement.specs.Refusal.{lineJudgement};
 ghost use Rattle.judgement.specs.Read.{LineStored};
 ghost use Rattle.line_finding.specs.Parts.{keysOf, AtMost};
 ghost use Rattle.judgement.specs.Read.{LinesRead};
-use crate::Judgement;
 use crate::LINES;
-use crate::NOT_A_VALUE;
+use case::Counted;
 use case::Form;
-use case::VALUE_OUT_OF_RANGE;
-use case::VALUES_DISAGREE;
+use case::REFUSED_FORM;
+use case::REFUSED_PARTS;
+use case::REFUSED_RANGE;
+use case::REFUSED_REPEATED;
 use line_finding::LineFinding;
 use line_finding::check_line;
 use line_finding::greater;
@@ -24,19 +25,16 @@ use line_finding::key;
 use text::find;
 use text::skip;
 
-// The refusal of a second line of one station and season.
-const LINE_REPEATED: u32 = 7;
-
 // The refusal of a line, or no lines where it is sound.
-fn refusal(line: usize, f: LineFinding) -> Judgement
-    ensures { λ r. ⌜ r ≡ lineJudgement line (Judgement.Lines 0) f ⌝ }
+fn refusal(line: usize, f: LineFinding) -> Counted
+    ensures { λ r. ⌜ r ≡ lineJudgement line (Counted.Count 0) f ⌝ }
 {
     match f {
-        LineFinding::Sound => Judgement::Lines(0),
-        LineFinding::Form(column) => Judgement::Refused(NOT_A_VALUE, line, column),
-        LineFinding::OutOfRange(column) => Judgement::Refused(VALUE_OUT_OF_RANGE, line, column),
-        LineFinding::Disagreement(column) => Judgement::Refused(VALUES_DISAGREE, line, column),
-        LineFinding::Repeated => Judgement::Refused(LINE_REPEATED, line, 0),
+        LineFinding::Sound => Counted::Count(0),
+        LineFinding::Form(column) => Counted::Refused(REFUSED_FORM, line, column),
+        LineFinding::OutOfRange(column) => Counted::Refused(REFUSED_RANGE, line, column),
+        LineFinding::Disagreement(column) => Counted::Refused(REFUSED_PARTS, line, column),
+        LineFinding::Repeated => Counted::Refused(REFUSED_REPEATED, line, 0),
     }
 }
 
@@ -73,13 +71,13 @@ pub fn check_lines<'a>(
     order: &'a [usize],
     count: usize,
     values: &mut [u32],
-) -> Judgement
+) -> Counted
     requires { ⌜ Placed (length (formOf form)) (now at) ⌝ }
     requires { ⌜ Ordered (length (formOf form)) (now at) (now order) ⌝ }
     requires { ⌜ count ≡ length (linesOf (now s)) ⌝ }
     requires { ⌜ count ≤ mostLines ⌝ }
     requires { ⌜ length (formOf form) * count ≤ length (now values) ⌝ }
-    ensures { λ r. ⌜ LinesRead (formOf form) (now (at .entry)) (linesOf (now (s .entry))) (Judgement.Lines count) (now (values .entry))
+    ensures { λ r. ⌜ LinesRead (formOf form) (now (at .entry)) (linesOf (now (s .entry))) (Counted.Count count) (now (values .entry))
         (now (values .exit)) r ⌝ }
 {
     let width = at.len();
@@ -91,8 +89,8 @@ pub fn check_lines<'a>(
         let e = find(rest, 10);
         let f = store_line(form, &rest[..e], at, order, &keys, n, most, values);
         let j = refusal(n + 2, f);
-        if let Judgement::Refused(number, line, column) = j {
-            return Judgement::Refused(number, line, column);
+        if let Counted::Refused(number, line, column) = j {
+            return Counted::Refused(number, line, column);
         }
         let a = width * n;
         let k = key(values[a], values[a + 1]);
@@ -102,5 +100,5 @@ pub fn check_lines<'a>(
         let next = skip(e, rest.len());
         rest = &rest[next..];
     }
-    Judgement::Lines(count)
+    Counted::Count(count)
 }

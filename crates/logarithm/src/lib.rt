@@ -16,7 +16,7 @@ const MOST: u64 = 1000000000000000;
 const GAP: u64 = 6;
 
 // The refusal of a number out of its range.
-const OUT_OF_RANGE: u32 = 5;
+const REFUSED_RANGE: u32 = 5;
 
 // The ends of ln (p/q), for q not above p.
 fn up_ends(p: u64, q: u64) -> Interval
@@ -51,10 +51,10 @@ pub fn logarithm(p: u64, q: u64) -> Pair
     ensures { λ r. ⌜ Answered p q r ⌝ }
 {
     if !is_inside(p) {
-        return Pair::Refused(OUT_OF_RANGE, 0, 1);
+        return Pair::Refused(REFUSED_RANGE, 0, 1);
     }
     if !is_inside(q) {
-        return Pair::Refused(OUT_OF_RANGE, 0, 2);
+        return Pair::Refused(REFUSED_RANGE, 0, 2);
     }
     Pair::Ends(ln_ends(p, q))
 }

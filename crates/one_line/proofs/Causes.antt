@@ -6,9 +6,10 @@ use lib.{Dec.{eqb, ltb}, ListN.{length, getD}}
 use borrow.Author.Tests.{eqb-true, eqb-false, ltb-true, ltb-false}
 use Rattle.text.specs.Text.{fieldsOf}
 use Rattle.case.specs.Columns.{columns, nameCount}
+use Rattle.case.specs.declared.Counted.{Counted, the-variants.{Count, Refused}}
 use Rattle.line.specs.Line.{wrongForm}
 use Rattle.line_finding.specs.declared.LineFinding.the-variants.{Sound, Form}
-use Rattle.judgement.specs.{declared.Judgement.{Judgement, the-variants.{Lines, Refused}}, Limits.{today}, Sheet.{valueLines, badText}}
+use Rattle.judgement.specs.{Limits.{today}, Sheet.{valueLines, badText}}
 use Rattle.judgement.specs.Refusal.{textRefused, nameRefused, noLineRefused, manyLinesRefused, lineJudgement}
 use Rattle.judgement.proofs.Causes.{wrongColumn}
 use Rattle.one_line.specs.Sheet.{fieldsJudged, valuesJudged, namesJudged, sheetJudged}
@@ -19,14 +20,14 @@ module _ (s : List ℕ) where
   wrongValue = wrongForm nameCount 1 (fieldsOf (getD (valueLines s) 0 []))
 
   -- 1, 2, 4 and 3, in this order
-  pub data Cause : Judgement → Type 0 where
+  pub data Cause : Counted → Type 0 where
     text : badText today s ≡ true → Cause (Refused 1 0 0)
     name : badText today s ≡ false → (wrongColumn columns s ≡ 0 → ⊥) → Cause (Refused 2 1 (wrongColumn columns s))
     no-line : badText today s ≡ false → wrongColumn columns s ≡ 0 → length (valueLines s) ≡ 0 → Cause (Refused 4 2 0)
     more-lines : badText today s ≡ false → wrongColumn columns s ≡ 0 → 1 < length (valueLines s) → Cause (Refused 4 3 0)
     value : badText today s ≡ false → wrongColumn columns s ≡ 0 → length (valueLines s) ≡ 1 → (wrongValue ≡ 0 → ⊥)
         → Cause (Refused 3 2 wrongValue)
-    right : badText today s ≡ false → wrongColumn columns s ≡ 0 → length (valueLines s) ≡ 1 → wrongValue ≡ 0 → Cause (Lines 1)
+    right : badText today s ≡ false → wrongColumn columns s ≡ 0 → length (valueLines s) ≡ 1 → wrongValue ≡ 0 → Cause (Count 1)
 
   pub cause : Cause (sheetJudged s)
   unfolding sheetJudged namesJudged valuesJudged fieldsJudged textRefused nameRefused noLineRefused manyLinesRefused lineJudgement
@@ -40,7 +41,7 @@ module _ (s : List ℕ) where
           → Cause
           (cond a (Refused 1 0 0)
           (cond b
-          (cond c (Refused 4 2 0) (cond d (Refused 4 3 0) (lineJudgement 2 (Lines 1) (cond e Sound (Form wrongValue)))))
+          (cond c (Refused 4 2 0) (cond d (Refused 4 3 0) (lineJudgement 2 (Count 1) (cond e Sound (Form wrongValue)))))
           (Refused 2 1 (wrongColumn columns s))))
       by-tests true p b q c r d t e u = text p
       by-tests false p false q c r d t e u = name p (eqb-false _ 0 q)

@@ -7,10 +7,11 @@ use borrow.Author.Tests.{ne-eqb, lt-ltb}
 use Rattle.text.specs.{Text.{indexOf, linesOf, fieldsOf}, Parts.{Skipped}, declared.Columns.{Columns, the-variants.{Right, Wrong}}}
 use Rattle.text.proofs.{Clash.{clash}, FieldTurns.{part-end}, Lines.{lines-next, lines-none}, LineTurns.{line-turn}}
 use Rattle.case.specs.{declared.Case.{Case}, Case.{caseOf}, Columns.{columns, nameCount, name-count}, Bounds.{Placed}, Order.{Ordered}}
+use Rattle.case.specs.declared.Counted.{Counted, the-variants.{Count, Refused}}
 use Rattle.header.{specs.Parts.{Header}, proofs.HeaderReading.{names-right, names-wrong}}
 use Rattle.line.specs.{Line.{wrongForm, lineCase}, Parts.{LineValues}}
 use Rattle.line.proofs.{Arranging.{arranged}, ValuesReading.{form-right, form-wrong}}
-use Rattle.judgement.specs.{declared.Judgement.{Judgement, the-variants.{Lines, Refused}}, Limits.{today}, Sheet.{names, badText}}
+use Rattle.judgement.specs.{Limits.{today}, Sheet.{names, badText}}
 use Rattle.judgement.specs.Refusal.{textRefused, nameRefused, noLineRefused, manyLinesRefused, lineJudgement}
 use Rattle.judgement.proofs.Whole.{names-are, values-are}
 use Rattle.yards.specs.{declared.FewestLines.{FewestLines}, Fewest.{FewestAnswered}}
@@ -18,7 +19,7 @@ use Rattle.yards.specs.declared.FewestLines.the-variants as found
 use Rattle.one_line.specs.Sheet.{fieldsJudged, valuesJudged, namesJudged, sheetJudged, caseIn}
 use Rattle.one_line.specs.{Reading.{ValuesRead, SheetRead}, Answer.{answerBy, sheetAnswer, SheetFewest}}
 
-no-refusal : {A : Type 0} {number line column n : ℕ} → Refused number line column ≡ Lines n → A
+no-refusal : {A : Type 0} {number line column n : ℕ} → Refused number line column ≡ Count n → A
 no-refusal q = clash cc
 
 -- ---- how many lines a text has, by where its first line ends
@@ -63,7 +64,7 @@ module _ (s order : List ℕ) {values : List ℕ} (count : length values ≡ nam
       unfolding fieldsJudged lineJudgement
       wrong-line {c} z = let w = form-wrong v z in values-refused count (rw (fields-are, w .is, ne-eqb c 0 (w .some)))
 
-      pub right-line : found ≡ Right → ValuesRead (linesOf s) order values (Lines 1)
+      pub right-line : found ≡ Right → ValuesRead (linesOf s) order values (Count 1)
       unfolding fieldsJudged lineJudgement
       right-line z =
           record {
@@ -89,7 +90,7 @@ module _ (s : List ℕ) {at order : List ℕ} {found : Columns} {e : ℕ} (b : b
       let w = names-wrong h z in
       record { answer-is = rw (b, names-of, w .is, ne-eqb c 0 (w .some)); count = count; values-are = no-refusal }
 
-  pub right-names : {values : List ℕ} {r : ℕ} {j : Judgement} → found ≡ Right → Skipped e (length s) r
+  pub right-names : {values : List ℕ} {r : ℕ} {j : Counted} → found ≡ Right → Skipped e (length s) r
       → ValuesRead (linesOf (take (length s - r) (drop r s))) order values j → SheetRead s values j
   unfolding sheetJudged namesJudged
   right-names {values} {r} z k v =
@@ -104,13 +105,13 @@ module _ (s : List ℕ) {at order : List ℕ} {found : Columns} {e : ℕ} (b : b
 
 -- ---- the answer
 
-module _ (s : List ℕ) {side : ℕ} {values : List ℕ} {j : Judgement} (read : SheetRead s values j) where
+module _ (s : List ℕ) {side : ℕ} {values : List ℕ} {j : Counted} (read : SheetRead s values j) where
   pub sheet-refused : {number line column : ℕ} → j ≡ Refused number line column → SheetFewest s side (found.Refused number line column)
   unfolding sheetAnswer answerBy
   sheet-refused q =
       record { answer-is = rw (← read .answer-is, q); searched = λ e. no-refusal (sym q ∙ read .answer-is ∙ e) }
 
-  pub sheet-searched : {n : ℕ} {c : Case} {r : FewestLines} → j ≡ Lines n → c ≡ caseOf values → FewestAnswered c side r
+  pub sheet-searched : {n : ℕ} {c : Case} {r : FewestLines} → j ≡ Count n → c ≡ caseOf values → FewestAnswered c side r
       → SheetFewest s side r
   unfolding sheetAnswer answerBy caseIn lineCase
   sheet-searched {r = r} q c a =

@@ -2,15 +2,15 @@
 use Prim.Native.Nat.{ℕ}
 use mathlib.Core.{Path.{_≡_}, List.{List}}
 use Rattle.case.specs.declared.Case.{Case}
-use Rattle.judgement.specs.declared.Judgement.{Judgement}
-use Rattle.judgement.specs.declared.Judgement.the-variants as judged
+use Rattle.case.specs.declared.Counted.{Counted}
+use Rattle.case.specs.declared.Counted.the-variants as counted
 use Rattle.yards.specs.{declared.FewestLines.{FewestLines, the-variants.{Refused}}, Fewest.{answer, FewestAnswered}}
 use Rattle.one_line.specs.Sheet.{sheetJudged, caseIn}
 
 -- the sheet's refusals come first, then the answer of the search
-unfoldable pub answerBy : Case → ℕ → Judgement → FewestLines
-answerBy c side (judged.Refused number line column) = Refused number line column
-answerBy c side (judged.Lines n) = answer c side
+unfoldable pub answerBy : Case → ℕ → Counted → FewestLines
+answerBy c side (counted.Refused number line column) = Refused number line column
+answerBy c side (counted.Count n) = answer c side
 
 unfoldable pub sheetAnswer : List ℕ → ℕ → FewestLines
 sheetAnswer s side = answerBy (caseIn s) side (sheetJudged s)
@@ -19,4 +19,4 @@ sheetAnswer s side = answerBy (caseIn s) side (sheetJudged s)
 -- line, those that the search does not read too.
 pub record SheetFewest (s : List ℕ) (side : ℕ) (r : FewestLines) : Type 0 where
   pub answer-is : r ≡ sheetAnswer s side
-  pub searched : {n : ℕ} → sheetJudged s ≡ judged.Lines n → FewestAnswered (caseIn s) side r
+  pub searched : {n : ℕ} → sheetJudged s ≡ counted.Count n → FewestAnswered (caseIn s) side r

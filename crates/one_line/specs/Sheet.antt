@@ -6,10 +6,11 @@ use mathlib.Core.{Bool.{cond}, List.{List, []}}
 use lib.{Dec.{eqb, ltb}, ListN.{length, getD}}
 use Rattle.text.specs.Text.{fieldsOf}
 use Rattle.case.specs.{declared.Case.{Case}, Columns.{columns, nameCount}}
+use Rattle.case.specs.declared.Counted.{Counted, the-variants.{Count}}
 use Rattle.header.specs.Header.{noColumns, wrongName, columnsOf}
 use Rattle.line.specs.Line.{wrongForm, lineCase}
 use Rattle.line_finding.specs.declared.LineFinding.the-variants.{Sound, Form}
-use Rattle.judgement.specs.{declared.Judgement.{the-variants.{Lines}, Judgement}, Limits.{Limits, today, mostBytes}}
+use Rattle.judgement.specs.Limits.{Limits, today, mostBytes}
 use Rattle.judgement.specs.Refusal.{textRefused, nameRefused, noLineRefused, manyLinesRefused, lineJudgement}
 use Rattle.judgement.specs.Sheet.{names, valueLines, badText}
 
@@ -18,24 +19,24 @@ abbrev pub oneLine : Limits
 oneLine = record { bytes = mostBytes; lines = 1 }
 
 -- 3 of the value line, whose line is 2
-unfoldable pub fieldsJudged : ℕ → Judgement
-fieldsJudged wrong = lineJudgement 2 (Lines 1) (cond (eqb wrong 0) Sound (Form wrong))
+unfoldable pub fieldsJudged : ℕ → Counted
+fieldsJudged wrong = lineJudgement 2 (Count 1) (cond (eqb wrong 0) Sound (Form wrong))
 
 -- 4, then the value line
-unfoldable pub valuesJudged : List (List ℕ) → Judgement
+unfoldable pub valuesJudged : List (List ℕ) → Counted
 valuesJudged lines =
     cond (eqb (length lines) 0) noLineRefused
     (cond (ltb (oneLine .lines) (length lines)) (manyLinesRefused oneLine)
     (fieldsJudged (wrongForm nameCount 1 (fieldsOf (getD lines 0 [])))))
 
 -- 2, then the value lines
-unfoldable pub namesJudged : List ℕ → Judgement
+unfoldable pub namesJudged : List ℕ → Counted
 namesJudged s =
     cond (eqb (wrongName columns 1 (noColumns columns) (names s)) 0) (valuesJudged (valueLines s))
     (nameRefused (wrongName columns 1 (noColumns columns) (names s)))
 
 -- 1, then the names
-unfoldable pub sheetJudged : List ℕ → Judgement
+unfoldable pub sheetJudged : List ℕ → Counted
 sheetJudged s = cond (badText today s) textRefused (namesJudged s)
 
 -- the case of the first value line

@@ -3,9 +3,9 @@
 mod reading;
 
 ghost use Rattle.one_line.specs.Answer.{SheetFewest};
+use case::Counted;
 use case::NAMES;
 use case::case_of;
-use judgement::Judgement;
 use reading::read_one;
 use yards::FewestLines;
 use yards::fewest_lines;
@@ -15,7 +15,7 @@ pub fn fewest_of_sheet(s: &[u8], side: u32) -> FewestLines
 {
     let mut values = [0u32; NAMES];
     match read_one(s, &mut values) {
-        Judgement::Lines(_) => fewest_lines(case_of(&values), side),
-        Judgement::Refused(number, line, column) => FewestLines::Refused(number, line, column),
+        Counted::Count(_) => fewest_lines(case_of(&values), side),
+        Counted::Refused(number, line, column) => FewestLines::Refused(number, line, column),
     }
 }

@@ -35,11 +35,11 @@ pub enum Sounding {
 const NUMBERS: usize = 128;
 
 // The refusals of a list by their numbers: its count, a distance or a resistance out of its range.
-const WRONG_COUNT: u32 = 12;
+const REFUSED_READINGS: u32 = 12;
 
-const DISTANCE_OUT_OF_RANGE: u32 = 13;
+const REFUSED_DISTANCE: u32 = 13;
 
-const RESISTANCE_OUT_OF_RANGE: u32 = 14;
+const REFUSED_RESISTANCE: u32 = 14;
 
 // In mm.
 const DISTANCES: Range = Range {
@@ -118,15 +118,15 @@ pub fn soil(readings: &[u32]) -> Sounding
     ensures { λ r. ⌜ Answered (now (readings .entry)) r ⌝ }
 {
     if !sound_count(readings.len()) {
-        return Sounding::Refused(WRONG_COUNT, 0, 0);
+        return Sounding::Refused(REFUSED_READINGS, 0, 0);
     }
     let distance = first_outside(readings, 1, DISTANCES);
     if let Found::At(line) = distance {
-        return Sounding::Refused(DISTANCE_OUT_OF_RANGE, line, 1);
+        return Sounding::Refused(REFUSED_DISTANCE, line, 1);
     }
     let resistance = first_outside(readings, 2, RESISTANCES);
     if let Found::At(line) = resistance {
-        return Sounding::Refused(RESISTANCE_OUT_OF_RANGE, line, 2);
+        return Sounding::Refused(REFUSED_RESISTANCE, line, 2);
     }
     Sounding::Soil(work_report(readings))
 }

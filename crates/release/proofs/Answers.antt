@@ -4,12 +4,13 @@ use mathlib.Core.{Path.{_≡_, refl}, Bool.{true, false}, List.{List, []}}
 use lib.{IntN.{ℤ}, ListN.{length}}
 use borrow.Author.Tests.{lt-ltb, le-ltb}
 use Rattle.case.specs.{declared.Case.{Case}, Columns.{columns}}
-use Rattle.judgement.specs.declared.Judgement.the-variants as judged
+use Rattle.case.specs.Counted.{refusedOr}
+use Rattle.case.specs.declared.Counted.{Counted, the-variants.{Count, Refused}}
 use Rattle.judgement.specs.Sheet.{judgement}
 use Rattle.sheet.specs.Answer.{cases}
-use Rattle.release.specs.declared.{licence.Wrong.the-variants.{At, Nothing}, Released.{Released, the-variants.{Stations, Refused}}}
+use Rattle.release.specs.declared.licence.Wrong.the-variants.{At, Nothing}
 use Rattle.release.specs.{Licence.{entriesOf, badCount, firstWrong}, Entry.{entryLength, releaseOf}}
-use Rattle.release.specs.Answer.{roomAnswer, afterEntries, licenceAnswer, afterSheet, releaseAnswer, Filled, TableAfter}
+use Rattle.release.specs.Answer.{roomAnswer, afterEntries, licenceAnswer, releaseAnswer, Filled, TableAfter}
 use Rattle.release.specs.Answer.{LinesReleased}
 use Rattle.release.specs.Answer.{ReleaseAnswered}
 use Rattle.release.proofs.Entries.{entry-count}
@@ -37,7 +38,7 @@ module _ (cs : List Case) (licence : List ℕ) (t : List ℤ) where
           }
 
       pub entries-released : {u : List ℤ} → entryLength * (length licence / 3) ≤ length t → Filled (releaseOf (entriesOf licence) cs) t u
-          → LinesReleased cs licence t u (Stations (length licence / 3))
+          → LinesReleased cs licence t u (Count (length licence / 3))
       unfolding licenceAnswer afterEntries roomAnswer TableAfter
       entries-released h f =
           record {
@@ -48,11 +49,11 @@ module _ (cs : List Case) (licence : List ℕ) (t : List ℤ) where
 -- ---- the sheet
 
 module _ (s licence : List ℕ) (t : List ℤ) where
-  pub sheet-refused : {k l c : ℕ} → judgement columns s ≡ judged.Refused k l c → ReleaseAnswered s licence t t (Refused k l c)
-  unfolding releaseAnswer afterSheet TableAfter
-  sheet-refused e = record { answer-is = rw e; table-is = refl }
+  pub sheet-refused : {j : Counted} {k l c : ℕ} → j ≡ judgement columns s → j ≡ Refused k l c → ReleaseAnswered s licence t t j
+  unfolding releaseAnswer refusedOr TableAfter
+  sheet-refused q e = record { answer-is = rw (← q, e); table-is = rw e refl }
 
-  pub sheet-read : {n : ℕ} {u : List ℤ} {r : Released} → judgement columns s ≡ judged.Lines n → LinesReleased (cases s) licence t u r
+  pub sheet-read : {n : ℕ} {u : List ℤ} {r : Counted} → judgement columns s ≡ Count n → LinesReleased (cases s) licence t u r
       → ReleaseAnswered s licence t u r
-  unfolding releaseAnswer afterSheet
+  unfolding releaseAnswer refusedOr
   sheet-read e a = record { answer-is = rw e (a .answer-is); table-is = a .table-is }

@@ -5,56 +5,55 @@ use mathlib.Core.{Path.{_≡_, refl, sym, _∙_}, Bool.{Bool, true, false, cond}
 use lib.{Dec.{ltb}, ListN.{length, length-map}}
 use Rattle.text.{specs.Text.{fieldsOf}, proofs.Clash.{clash}}
 use Rattle.case.specs.{Columns.{columns}, Bounds.{Bounds}}
+use Rattle.case.proofs.Passed.{passed}
+use Rattle.case.specs.declared.Counted.{Counted, the-variants.{Count, Refused}}
 use Rattle.header.specs.Header.{columnsOf}
 use Rattle.line.specs.Line.{lineCase}
-use Rattle.judgement.{specs.{declared.Judgement.{Judgement}, Sheet.{names, valueLines, judgement}}, proofs.Accepted.{accepted}}
-use Rattle.judgement.specs.declared.Judgement.the-variants as judged
+use Rattle.judgement.{specs.Sheet.{names, valueLines, judgement}, proofs.Accepted.{accepted}}
 use Rattle.sheet.{specs.Answer.{cases}, proofs.{Accepted.{sound-bounds}, StoredCases.{case-at}}}
-use Rattle.release.specs.declared.{licence.Wrong.{Wrong, the-variants.{At, Nothing}}, Released.the-variants.{Stations, Refused}}
+use Rattle.release.specs.declared.licence.Wrong.{Wrong, the-variants.{At, Nothing}}
 use Rattle.release.specs.{Licence.{entriesOf, badCount, firstWrong}, Entry.{entryLength}}
-use Rattle.release.specs.{Answer.{roomAnswer, afterEntries, licenceAnswer, afterSheet, releaseAnswer}, Meaning.{lineAt}}
+use Rattle.release.specs.{Answer.{roomAnswer, afterEntries, licenceAnswer, releaseAnswer}, Meaning.{lineAt}}
 use Rattle.tally.{specs.Tally.{EveryBounds}, proofs.Members.{every-bounds}}
 use Rattle.release.proofs.Entries.{entry-count}
 
 -- ---- an answer that is a count of entries
 
-never : {A : Type 0} {n k l c : ℕ} → Refused k l c ≡ Stations n → A
+never : {A : Type 0} {n k l c : ℕ} → Refused k l c ≡ Count n → A
 never e = clash cc
 
-room-count : (room n m : ℕ) → roomAnswer room m ≡ Stations n → m ≡ n
+room-count : (room n m : ℕ) → roomAnswer room m ≡ Count n → m ≡ n
 unfolding roomAnswer
 room-count room n m e = go (ltb room (entryLength * m)) e
   where
-    go : (t : Bool) → cond t (Refused 23 0 0) (Stations m) ≡ Stations n → m ≡ n
+    go : (t : Bool) → cond t (Refused 23 0 0) (Count m) ≡ Count n → m ≡ n
     go true h = never h
     go false h = cc
 
-licence-count : (licence : List ℕ) (room n : ℕ) → licenceAnswer licence room ≡ Stations n → length licence / 3 ≡ n
+licence-count : (licence : List ℕ) (room n : ℕ) → licenceAnswer licence room ≡ Count n → length licence / 3 ≡ n
 unfolding licenceAnswer afterEntries
 licence-count licence room n e = go (badCount (length licence)) (firstWrong [] 1 (entriesOf licence)) e
   where
-    go : (t : Bool) (w : Wrong) → cond t (Refused 21 0 0) (afterEntries (roomAnswer room (length (entriesOf licence))) w) ≡ Stations n
+    go : (t : Bool) (w : Wrong) → cond t (Refused 21 0 0) (afterEntries (roomAnswer room (length (entriesOf licence))) w) ≡ Count n
         → length licence / 3 ≡ n
     go true w h = never h
     go false (At place column) h = never h
     go false Nothing h = sym (entry-count licence) ∙ room-count room n (length (entriesOf licence)) h
 
-pub record Counted (s licence : List ℕ) (n : ℕ) : Type 0 where
+pub record EntriesCounted (s licence : List ℕ) (n : ℕ) : Type 0 where
   pub lines : ℕ
-  pub read : judgement columns s ≡ judged.Lines lines
+  pub read : judgement columns s ≡ Count lines
   pub count : length licence / 3 ≡ n
 
-pub counted : (s licence : List ℕ) (room n : ℕ) → releaseAnswer s licence room ≡ Stations n → Counted s licence n
-unfolding releaseAnswer afterSheet
-counted s licence room n e = go (judgement columns s) refl e
-  where
-    go : (j : Judgement) → judgement columns s ≡ j → afterSheet (licenceAnswer licence room) j ≡ Stations n → Counted s licence n
-    go (judged.Refused k l c) q h = never h
-    go (judged.Lines m) q h = record { lines = m; read = q; count = licence-count licence room n h }
+pub entries-counted : (s licence : List ℕ) (room n : ℕ) → releaseAnswer s licence room ≡ Count n → EntriesCounted s licence n
+unfolding releaseAnswer
+entries-counted s licence room n e =
+    let p = passed (judgement columns s) (licenceAnswer licence room) (sym e) in
+    record { lines = p .0; read = p .1; count = licence-count licence room n (sym (p .2)) }
 
 -- ---- the cases of a sheet that was read are within their bounds
 
-pub cases-bounds : (s : List ℕ) (m : ℕ) → judgement columns s ≡ judged.Lines m → EveryBounds (cases s)
+pub cases-bounds : (s : List ℕ) (m : ℕ) → judgement columns s ≡ Count m → EveryBounds (cases s)
 unfolding cases
 cases-bounds s m e = every-bounds (cases s) (λ k h. at k h)
   where

@@ -7,14 +7,15 @@ use lib.{Dec.{eqb}, IntN.{ℤ, pos, natAbs}, ListN.{length, getD}}
 use borrow.Author.Tests.{eqb-true, eq-eqb}
 use Rattle.tables.specs.Parts.{partAt}
 use Rattle.case.specs.declared.Case.{Case}
+use Rattle.case.specs.declared.Counted.the-variants.{Count}
 use Rattle.sheet.specs.Answer.{cases}
-use Rattle.release.specs.{declared.Released.the-variants.{Stations}, Licence.{entriesOf}}
+use Rattle.release.specs.Licence.{entriesOf}
 use Rattle.release.specs.{Entry.{entryLength, numbersOf, stationNumbers, releaseOf}, Answer.{Filled, TableAfter, ReleaseAnswered}}
 use Rattle.release.specs.Meaning.{answerAt, licensedStation, licensedSeasons, licensedArea, ReleasedStation, FaultReported}
 use Rattle.release.specs.Meaning.{NothingFound}
 use Rattle.tally.specs.Lines.{linesOf, countOf, missing, answeredUnsafe, answeredUndecided, otherYard, tooSmall, firstLine}
 use Rattle.tally.specs.Tally.{released, EveryBounds}
-use Rattle.release.proofs.{Tables.{release-count, release-at}, CountedEntries.{Counted, counted, cases-bounds}}
+use Rattle.release.proofs.{Tables.{release-count, release-at}, CountedEntries.{EntriesCounted, entries-counted, cases-bounds}}
 use Rattle.release.proofs.StationMeaning.{station-released, fault-reported}
 
 -- ---- the numbers in the table
@@ -42,10 +43,10 @@ choice {z} a b c d e h = go (eqb (a + b + c + d + e) 0) h
 zero-is : {a : ℕ} → pos a ≡ pos 0 → a ≡ 0
 zero-is e = cc
 
-module _ {s licence : List ℕ} {before after : List ℤ} {n : ℕ} (a : ReleaseAnswered s licence before after (Stations n)) (k : ℕ)
+module _ {s licence : List ℕ} {before after : List ℤ} {n : ℕ} (a : ReleaseAnswered s licence before after (Count n)) (k : ℕ)
     (h : k < n) where
-  known : Counted s licence n
-  known = counted s licence (length before) n (sym (a .answer-is))
+  known : EntriesCounted s licence n
+  known = entries-counted s licence (length before) n (sym (a .answer-is))
 
   abbrev own : List Case
   own = linesOf (licensedStation licence k) (cases s)

@@ -3,8 +3,8 @@ use Prim.Native.Nat.{ℕ}
 use mathlib.Core.{Path.{_≡_, refl}, List.{List, [], _∷_, map}}
 use Rattle.whole.specs.Count.{one}
 use Rattle.case.specs.{declared.Case.{Case}, Case.{caseOf}}
+use Rattle.case.specs.declared.Counted.{Counted, the-variants.{Count, Refused}}
 use Rattle.tally.specs.{Lines.{licensed, linesOf, countOf, hasLine, without, missing, sameYard, otherYard, firstLine}, Tally.{released}}
-use Rattle.release.specs.declared.Released.{Released, the-variants.{Stations, Refused}}
 use Rattle.release.specs.Licence.{entriesOf, badCount, among, wrongStation, wrongSeasons, wrongArea, firstWrong}
 use Rattle.release.specs.Answer.{roomAnswer, afterEntries, licenceAnswer}
 
@@ -12,15 +12,15 @@ use Rattle.release.specs.Answer.{roomAnswer, afterEntries, licenceAnswer
 record Example : Type 0 where
   licence : List ℕ
   room : ℕ
-  answered : Released
+  answered : Counted
 
-abbrev row : List ℕ → ℕ → Released → Example
+abbrev row : List ℕ → ℕ → Counted → Example
 row licence room answered = record { licence = licence; room = room; answered = answered }
 
 examples : List Example
 examples =
-    row (7 ∷ 3 ∷ 0 ∷ []) 8 (Stations 1)
-    ∷ row (7 ∷ 15 ∷ 211 ∷ 65535 ∷ 1 ∷ 2000 ∷ []) 20 (Stations 2)
+    row (7 ∷ 3 ∷ 0 ∷ []) 8 (Count 1)
+    ∷ row (7 ∷ 15 ∷ 211 ∷ 65535 ∷ 1 ∷ 2000 ∷ []) 20 (Count 2)
     -- 21: none, no multiple of three
     ∷ row [] 8 (Refused 21 0 0)
     ∷ row (7 ∷ 3 ∷ []) 8 (Refused 21 0 0)

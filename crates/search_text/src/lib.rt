@@ -6,10 +6,10 @@ ghost use Rattle.text.specs.Value.{fieldValue};
 ghost use Rattle.writing.specs.Put.{Put};
 ghost use Rattle.search_text.specs.Fewest.{sideOf, inputAnswer, searchText, fewestText};
 ghost use Rattle.fields.specs.Refusal.{refusalBytes};
+use case::REFUSED_TEXT;
 use fields::put_numbered;
 use fields::put_refusal;
 use judgement::BYTES;
-use judgement::NOT_A_SHEET;
 use one_line::fewest_of_sheet;
 use text::Field;
 use text::find;
@@ -36,7 +36,7 @@ fn answer_to(s: &[u8]) -> FewestLines
     ensures { λ r. ⌜ r ≡ inputAnswer (now (s .entry)) ⌝ }
 {
     if INPUT < s.len() {
-        return FewestLines::Refused(NOT_A_SHEET, 0, 0);
+        return FewestLines::Refused(REFUSED_TEXT, 0, 0);
     }
     let e = find(s, 10);
     let side = side_of(&s[..e]);

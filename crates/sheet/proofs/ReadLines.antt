@@ -5,7 +5,8 @@ use native.Mathlib.Omega.{arith}
 use lib.ListN.{length, length-drop}
 use Rattle.text.specs.Text.{linesOf}
 use Rattle.case.specs.{declared.Form.the-variants.{Present}, Columns.{columns, nameCount, name-count}, Parts.{formOf}}
-use Rattle.judgement.specs.{declared.Judgement.{Judgement, the-variants.{Lines}}, Limits.{mostLines}}
+use Rattle.case.specs.declared.Counted.{Counted, the-variants.{Count}}
+use Rattle.judgement.specs.Limits.{mostLines}
 use Rattle.judgement.specs.{Sheet.{valueLines, judgement}, Read.{Room, Read}}
 use Rattle.judgement.proofs.{Accepted.{accepted}, Whole.{most-room}}
 use Rattle.table_rows.specs.Rows.{storedCases, StoredBounds}
@@ -19,13 +20,13 @@ pub record StoredLines (s : List ℕ) (n : ℕ) (values : List ℕ) : Type 0 whe
   pub bounds : StoredBounds values n
   pub cases-are : storedCases values n ≡ cases s
 
-module _ {s before after : List ℕ} {r : Judgement} (read : Read (formOf Present) s before after r) where
+module _ {s before after : List ℕ} {r : Counted} (read : Read (formOf Present) s before after r) where
   pub judged-is : r ≡ judgement columns s
   unfolding formOf
   judged-is = read .answer-is
 
   -- in a store with room for the lines of the sheet
-  pub stored-within : {n : ℕ} → Room (formOf Present) (linesOf s) before → r ≡ Lines n → StoredLines s n after
+  pub stored-within : {n : ℕ} → Room (formOf Present) (linesOf s) before → r ≡ Count n → StoredLines s n after
   unfolding formOf valueLines
   stored-within {n} h e =
       let a = accepted columns s n (sym judged-is ∙ e) in
@@ -39,7 +40,7 @@ module _ {s before after : List ℕ} {r : Judgement} (read : Read (formOf Presen
       }
 
   -- in a store for as many value lines as a sheet may have
-  pub stored-lines : {n : ℕ} → length before ≡ nameCount * mostLines → r ≡ Lines n → StoredLines s n after
+  pub stored-lines : {n : ℕ} → length before ≡ nameCount * mostLines → r ≡ Count n → StoredLines s n after
   unfolding formOf
   stored-lines h e =
       let room : length columns * mostLines ≤ length before = omega (arith, name-count, h) in

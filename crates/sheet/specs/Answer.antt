@@ -5,11 +5,12 @@ use mathlib.Core.{Bool.{cond}, List.{List, map}}
 use lib.Dec.{ltb}
 use Rattle.text.specs.Text.{fieldsOf}
 use Rattle.case.specs.{declared.Case.{Case}, Columns.{columns}}
+use Rattle.case.specs.declared.Counted.{Counted}
+use Rattle.case.specs.declared.Counted.the-variants as counted
 use Rattle.header.specs.Header.{columnsOf}
 use Rattle.line.specs.Line.{lineCase}
 use Rattle.row.specs.Row.{rowLength}
-use Rattle.judgement.specs.{declared.Judgement.{Judgement}, Sheet.{names, valueLines, judgement}}
-use Rattle.judgement.specs.declared.Judgement.the-variants as judged
+use Rattle.judgement.specs.Sheet.{names, valueLines, judgement}
 use Rattle.sheet.specs.declared.Answer.{Answer, the-variants.{Rows, Refused}}
 
 -- the cases of a sheet's value lines
@@ -21,9 +22,9 @@ unfoldable pub tableRefused : Answer
 tableRefused = Refused 8 0 0
 
 -- 1 to 7 by the judgement of the sheet, then 8, or the count of rows
-unfoldable pub answerBy : ℕ → Judgement → Answer
-answerBy room (judged.Lines count) = cond (ltb room (rowLength * count)) tableRefused (Rows count)
-answerBy room (judged.Refused number line column) = Refused number line column
+unfoldable pub answerBy : ℕ → Counted → Answer
+answerBy room (counted.Count count) = cond (ltb room (rowLength * count)) tableRefused (Rows count)
+answerBy room (counted.Refused number line column) = Refused number line column
 
 unfoldable pub answer : List ℕ → ℕ → Answer
 answer s room = answerBy room (judgement columns s)

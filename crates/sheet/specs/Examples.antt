@@ -5,10 +5,10 @@ use lib.ListN.{replicate}
 use Rattle.text.specs.{Text.{bytes, onFirst, linesOf, fieldsOf, same}, Value.{digit, digits, plain, isValue, numberFrom, valueOf}}
 use Rattle.case.specs.{Columns.{columns, inRange, nameIndex, named}, Case.{caseOf}}
 use Rattle.case.specs.Check.{leftOf, outOfRange, agree, disagreement, finding}
+use Rattle.case.specs.declared.Counted.the-variants as counted
 use Rattle.header.specs.Header.{noColumns, fresh, wrongName, columnsFrom, columnsOf}
 use Rattle.line.specs.Line.{wrongForm, lineValues, lineCase}
 use Rattle.line_finding.specs.Findings.{orFinding, sameKey, repeats, lineFinding}
-use Rattle.judgement.specs.declared.Judgement.the-variants as judged
 use Rattle.judgement.specs.Refusal.{textRefused, nameRefused, noLineRefused, manyLinesRefused, lineJudgement}
 use Rattle.judgement.specs.Sheet.{names, valueLines, badText, linesJudgement, valuesJudgement, namesJudgement, judgementWithin, judgement}
 use Rattle.sheet.specs.{declared.Answer.{Answer, the-variants.{Rows, Refused}}, Answer.{cases, tableRefused, answerBy, answer}}
@@ -40,7 +40,7 @@ unfolding answerOf sample
 sample-answer = refl
 
 -- it breaks no rule, and has these two cases
-pub sample-judged : judgement columns sample ≡ judged.Lines 2
+pub sample-judged : judgement columns sample ≡ counted.Count 2
 unfolding onFirst linesOf fieldsOf same digit digits plain isValue numberFrom valueOf columns inRange nameIndex named leftOf outOfRange
     agree disagreement finding textRefused nameRefused noLineRefused manyLinesRefused lineJudgement noColumns fresh wrongName columnsFrom
     columnsOf wrongForm lineValues sameKey repeats orFinding lineFinding names valueLines badText linesJudgement valuesJudgement

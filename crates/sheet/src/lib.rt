@@ -5,15 +5,13 @@ ghost use lib.ListN.{length};
 ghost use Rattle.case.specs.Columns.{nameCount};
 ghost use Rattle.judgement.specs.Limits.{mostLines};
 ghost use Rattle.sheet.specs.Table.{Answered};
+use case::Counted;
 use case::Form;
-use judgement::Judgement;
+use case::REFUSED_SHORT;
 use judgement::VALUES;
 use judgement::read;
 use row::ROW_LENGTH;
 use table_rows::write_rows;
-
-// The refusal of a table without room for the rows.
-pub const TABLE_SHORT: u32 = 8;
 
 // The count of rows, or a refusal with number, line and column.
 pub enum Answer {
@@ -27,10 +25,10 @@ fn fill_table(s: &[u8], values: &mut [u32], table: &mut [i64]) -> Answer
     ensures { λ r. ⌜ Answered (now (s .entry)) (now (table .entry)) (now (table .exit)) r ⌝ }
 {
     match read(Form::Present, s, values) {
-        Judgement::Refused(number, line, column) => Answer::Refused(number, line, column),
-        Judgement::Lines(n) => {
+        Counted::Refused(number, line, column) => Answer::Refused(number, line, column),
+        Counted::Count(n) => {
             if table.len() < ROW_LENGTH * n {
-                return Answer::Refused(TABLE_SHORT, 0, 0);
+                return Answer::Refused(REFUSED_SHORT, 0, 0);
             }
             write_rows(values, n, table);
             Answer::Rows(n)

@@ -5,7 +5,7 @@ use native.Mathlib.Omega.{arith}
 use lib.{IntN.{ℤ}, ListN.{length, length-map}}
 use Rattle.tables.specs.Parts.{partsOf}
 use Rattle.case.specs.Columns.{columns}
-use Rattle.judgement.specs.declared.Judgement.the-variants as judged
+use Rattle.case.specs.declared.Counted.the-variants as counted
 use Rattle.judgement.specs.{Limits.{mostLines}, Sheet.{judgement}}
 use Rattle.row.specs.{declared.Row.{Row}, Row.{numbers, rowLength, row-length}, Ends.{rowOf}}
 use Rattle.table_rows.specs.Rows.{Filled}
@@ -20,7 +20,7 @@ row-width : (r : Row) → Width (length (numbers r))
 row-width r = record { some = omega (arith, row-length r); most = omega (arith, row-length r) }
 
 -- an accepted sheet has no more rows than the limit
-pub rows-few : (s : List ℕ) (n : ℕ) → judgement columns s ≡ judged.Lines n → length (sheetRows s) ≤ mostLines
+pub rows-few : (s : List ℕ) (n : ℕ) → judgement columns s ≡ counted.Count n → length (sheetRows s) ≤ mostLines
 rows-few s n e = omega (arith, length-map (cases s) rowOf, case-count s n e, count-within s n e)
 
 module _ (names : List ℕ) (what : Shown) (s : List ℕ) where
@@ -36,7 +36,7 @@ module _ (names : List ℕ) (what : Shown) (s : List ℕ) where
     refusal-is e = rw (refusal-judged s (length before) enough (h .answer-is) e)
 
     module _ {n : ℕ} (e : a ≡ Rows n) where
-      lines : judgement columns s ≡ judged.Lines n
+      lines : judgement columns s ≡ counted.Count n
       lines = rows-judged s (length before) enough (h .answer-is) e
 
       filled : Filled (cases s) before after

@@ -8,8 +8,9 @@ use Rattle.text.{specs.Text.{bytes}, proofs.Clash.{clash}}
 use Rattle.tables.specs.Parts.{partsOf}
 use Rattle.writing.specs.{Decimal.{signed}, Text.{moreFields, parted, ended}}
 use Rattle.case.specs.Columns.{columns}
-use Rattle.judgement.specs.{declared.Judgement.{Judgement}, Limits.{mostLines}, Sheet.{judgement}}
-use Rattle.judgement.specs.declared.Judgement.the-variants as judged
+use Rattle.case.specs.declared.Counted.{Counted}
+use Rattle.case.specs.declared.Counted.the-variants as counted
+use Rattle.judgement.specs.{Limits.{mostLines}, Sheet.{judgement}}
 use Rattle.row.specs.{declared.Row.{Row}, Row.{rowLength}}
 use Rattle.sheet.specs.{declared.Answer.{Answer}, Answer.{answer}}
 use Rattle.sheet.specs.declared.Answer.the-variants as sheet
@@ -41,9 +42,9 @@ stations-few rows = omega (arith, found-few [] (stationsOf rows), length-map row
 
 -- ---- the answer of the summary in tables with room for the most rows and stations, by the judgement of the sheet
 
-abbrev summedOf : ℕ → Judgement → Summed
-summedOf m (judged.Lines n) = Summary n m
-summedOf m (judged.Refused number line column) = Refused number line column
+abbrev summedOf : ℕ → Counted → Summed
+summedOf m (counted.Count n) = Summary n m
+summedOf m (counted.Refused number line column) = Refused number line column
 
 module _ (s : List ℕ) (rowsRoom room : ℕ) (rowsEnough : rowLength * mostLines ≤ rowsRoom) (enough : stationLength * mostLines ≤ room) where
   abbrev count : ℕ
@@ -118,14 +119,14 @@ module _ (s : List ℕ) where
     summary-refused {number} {line} {column} e =
         ap (λ j. unlessRefused j (listed summaryNames (map (map signed) stationRows))) (go (judgement columns s) (judged-by e))
       where
-        go : (j : Judgement) → Refused number line column ≡ summedOf stationCount j → j ≡ judged.Refused number line column
-        go (judged.Lines n) q = clash cc
-        go (judged.Refused k l c) q = cc
+        go : (j : Counted) → Refused number line column ≡ summedOf stationCount j → j ≡ counted.Refused number line column
+        go (counted.Count n) q = clash cc
+        go (counted.Refused k l c) q = cc
 
     module _ {n m : ℕ} (e : a ≡ Summary n m) where
-      counted : (j : Judgement) → Summary n m ≡ summedOf stationCount j → (j ≡ judged.Lines n) × (m ≡ stationCount)
-      counted (judged.Lines k) q = (cc, cc)
-      counted (judged.Refused k l c) q = clash cc
+      both-counts : (j : Counted) → Summary n m ≡ summedOf stationCount j → (j ≡ counted.Count n) × (m ≡ stationCount)
+      both-counts (counted.Count k) q = (cc, cc)
+      both-counts (counted.Refused k l c) q = clash cc
 
       tables : Summarised s n rowsBefore rowsAfter before after
       unfolding TablesAfter
@@ -137,7 +138,7 @@ module _ (s : List ℕ) where
       pub stations-are : summaryText s ≡ linesAfter summaryLine shown.Numbers (partsOf stationLength m after)
       unfolding unlessRefused summaryOf
       stations-are =
-          let q = counted (judgement columns s) (judged-by e) in
+          let q = both-counts (judgement columns s) (judged-by e) in
           let parts = parts-filled (numbersOf (sheetRows s)) (six-numbers (sheetRows s)) (stations (sheetRows s)) before in
           summary-shown ∙ rw (q .0, q .1, tables .summary, parts)
 

@@ -1,8 +1,8 @@
 // A sheet carried over to the other form, in a buffer.
 use crate::length::length;
 use crate::listed::print_kept;
+use case::Counted;
 use case::Form;
-use conversion::Carried;
 use conversion::carry;
 use conversion::carry_back;
 use gate::bytes;
@@ -14,7 +14,7 @@ use gate::unknown;
 use judgement::BYTES;
 ghost use Prim.Native.Nat.{_≤_};
 
-fn carry_to(form: Form, s: &[u8], buffer: &mut [u8]) -> Carried {
+fn carry_to(form: Form, s: &[u8], buffer: &mut [u8]) -> Counted {
     match form {
         Form::Present => carry(s, buffer),
         Form::Former => carry_back(s, buffer),
@@ -32,8 +32,8 @@ fn front(buffer: &[u8], count: usize) {
 fn answer(form: Form, s: &[u8], buffer: &mut [u8]) {
     let a = carry_to(form, s, buffer);
     match a {
-        Carried::Bytes(count) => front(buffer, count),
-        Carried::Refused(why, line, column) => refused(why, line, column),
+        Counted::Count(count) => front(buffer, count),
+        Counted::Refused(why, line, column) => refused(why, line, column),
     }
 }
 

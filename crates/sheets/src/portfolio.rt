@@ -4,6 +4,7 @@ use crate::listed::Listing;
 use crate::listed::lines;
 use crate::listed::print_kept;
 use crate::rows;
+use case::Counted;
 use gate::bytes;
 use gate::first_part;
 use gate::hold;
@@ -14,7 +15,6 @@ use gate::read;
 use gate::refused;
 use gate::unknown;
 use release::ENTRY_LENGTH;
-use release::Released;
 use release::release;
 ghost use Prim.Native.Nat.{_≤_};
 
@@ -33,14 +33,14 @@ fn sheet_rows(s: &[u8]) {
 fn answer<'a>(s: &'a [u8], licence: &'a [u32], table: &mut [i64]) {
     let a = release(s, licence, table);
     match a {
-        Released::Stations(count) => {
+        Counted::Count(count) => {
             bytes(b"released,");
             number(count as u64);
             bytes(b"\n");
             lines(Listing::Numbers, table, ENTRY_LENGTH, count);
             sheet_rows(s);
         }
-        Released::Refused(why, line, column) => refused(why, line, column),
+        Counted::Refused(why, line, column) => refused(why, line, column),
     }
 }
 

@@ -17,11 +17,11 @@ pub enum SplitAnswer {
 }
 
 // A wrong count of numbers, a part out of its range, no injected current.
-const COUNT: u32 = 17;
+const REFUSED_TEST: u32 = 17;
 
-const RANGE: u32 = 18;
+const REFUSED_PART: u32 = 18;
 
-const INJECTED: u32 = 19;
+const REFUSED_NO_CURRENT: u32 = 19;
 
 // Grid current and split from a test's numbers: the injected current's in-phase and quadrature part in milliamperes, then
 // those of each branch.
@@ -29,15 +29,15 @@ pub fn split(parts: &[i64]) -> SplitAnswer
     ensures { λ r. ⌜ r ≡ answer (now (parts .entry)) ⌝ }
 {
     if bad_count(parts.len()) {
-        return SplitAnswer::Refused(COUNT, 0, 0);
+        return SplitAnswer::Refused(REFUSED_TEST, 0, 0);
     }
     let outside = any_outside(parts);
     let none = none_injected(parts);
     if outside {
-        return SplitAnswer::Refused(RANGE, 0, 0);
+        return SplitAnswer::Refused(REFUSED_PART, 0, 0);
     }
     if none {
-        return SplitAnswer::Refused(INJECTED, 0, 0);
+        return SplitAnswer::Refused(REFUSED_NO_CURRENT, 0, 0);
     }
     measured(parts)
 }

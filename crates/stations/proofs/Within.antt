@@ -13,17 +13,17 @@ use Rattle.stations.specs.declared.Summed.{Summed, the-variants.{Summary
 use Rattle.stations.specs.Answer.{sheetRows, summaryRefused, answerAfter, summaryAnswer, Summarised, TablesAfter, SummaryAnswered}
 
 -- what counts of rows and stations say of the room
-record Counted (room : ℕ) (rows : List Row) (m : ℕ) : Type 0 where
+record StationsCounted (room : ℕ) (rows : List Row) (m : ℕ) : Type 0 where
   count : m ≡ length (stations rows)
   fits : stationLength * m ≤ room
 
-counted : (room : ℕ) (rows : List Row) (a : Answer) (n m : ℕ) → Summary n m ≡ answerAfter room rows a → Counted room rows m
+stations-counted : (room : ℕ) (rows : List Row) (a : Answer) (n m : ℕ) → Summary n m ≡ answerAfter room rows a → StationsCounted room rows m
 unfolding answerAfter summaryRefused
-counted room rows (sheet.Refused k l c) n m e = clash cc
-counted room rows (sheet.Rows k) n m e = go (ltb room (stationLength * length (stations rows))) refl e
+stations-counted room rows (sheet.Refused k l c) n m e = clash cc
+stations-counted room rows (sheet.Rows k) n m e = go (ltb room (stationLength * length (stations rows))) refl e
   where
     go : (b : Bool) → ltb room (stationLength * length (stations rows)) ≡ b
-        → Summary n m ≡ cond b (Refused 20 0 0) (Summary k (length (stations rows))) → Counted room rows m
+        → Summary n m ≡ cond b (Refused 20 0 0) (Summary k (length (stations rows))) → StationsCounted room rows m
     go true f h = clash cc
     go false f h =
         let q : m ≡ length (stations rows) = cc in
@@ -51,6 +51,6 @@ module _ {s : List ℕ} {rowsBefore rowsAfter before after : List ℤ} {r : Summ
   pub summary-within : stationLength * m ≤ length after
   unfolding summaryAnswer summaryOf
   summary-within =
-      let c = counted (length before) (sheetRows s) _ n m (sym e ∙ a .answer-is) in
+      let c = stations-counted (length before) (sheetRows s) _ n m (sym e ∙ a .answer-is) in
       let long = filled-length (sheetRows s) (stations (sheetRows s)) before (omega (arith, c .fits, c .count)) in
       omega (arith, c .fits, long, ap length (tables .summary))

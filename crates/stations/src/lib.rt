@@ -4,12 +4,13 @@ mod put;
 
 ghost use Rattle.stations.specs.Answer.{SummaryAnswered};
 use appearance::find_stations;
+use case::REFUSED_SHORT;
+use case::REFUSED_SUMMARY;
 use copy::copy_numbers;
 use judgement::LINES;
 use put::put_stations;
 use row::ROW_LENGTH;
 use sheet::Answer;
-use sheet::TABLE_SHORT;
 use sheet::sheet;
 use station_sums::sum_rows;
 
@@ -18,9 +19,6 @@ const TABLE: usize = LINES * ROW_LENGTH;
 
 // How many numbers a station has in the summary.
 pub const STATION_LENGTH: usize = 6;
-
-// The refusal of a table without room for the stations.
-const SUMMARY_SHORT: u32 = 20;
 
 // The count of rows and of stations, or a refusal with number, line and column.
 pub enum Summed {
@@ -43,10 +41,10 @@ pub fn summary(s: &[u8], rows: &mut [i64], beside: &mut [i64]) -> Summed
             let room = ROW_LENGTH * n;
             let beside_room = STATION_LENGTH * m;
             if rows.len() < room {
-                return Summed::Refused(TABLE_SHORT, 0, 0);
+                return Summed::Refused(REFUSED_SHORT, 0, 0);
             }
             if beside.len() < beside_room {
-                return Summed::Refused(SUMMARY_SHORT, 0, 0);
+                return Summed::Refused(REFUSED_SUMMARY, 0, 0);
             }
             copy_numbers(&own, room, rows);
             let places = found.places;

@@ -9,6 +9,8 @@ ghost use Rattle.yards.specs.Yards.{trial as trialOf};
 ghost use Rattle.yards.specs.Fewest.{sideAnswer, FewestAnswered};
 use case::Case;
 use case::Judged;
+use case::REFUSED_NO_RODLEN;
+use case::REFUSED_SIDE;
 use case::judge;
 use search::first_safe;
 pub use yard::parts_safe;
@@ -18,11 +20,6 @@ use yard::trial;
 const LEAST_SIDE: u32 = 2500;
 
 const MOST_SIDE: u32 = 720000;
-
-// The refusals of a search by their numbers: a side out of its range, no length for rods.
-const SIDE_OUT_OF_RANGE: u32 = 15;
-
-const NO_ROD_LENGTH: u32 = 16;
 
 // The counts of lines and rods of the first safe yard and its place; how many yards were tried, none of them safe; or a refusal with
 // number, line and column.
@@ -38,13 +35,13 @@ fn side_answer(c: Case, side: u32) -> FewestLines
     ensures { λ r. ⌜ r ≡ sideAnswer c side ⌝ }
 {
     if side < LEAST_SIDE {
-        return FewestLines::Refused(SIDE_OUT_OF_RANGE, 0, 0);
+        return FewestLines::Refused(REFUSED_SIDE, 0, 0);
     }
     if MOST_SIDE < side {
-        return FewestLines::Refused(SIDE_OUT_OF_RANGE, 0, 0);
+        return FewestLines::Refused(REFUSED_SIDE, 0, 0);
     }
     if c.rodlen == 0 {
-        return FewestLines::Refused(NO_ROD_LENGTH, 0, 0);
+        return FewestLines::Refused(REFUSED_NO_RODLEN, 0, 0);
     }
     first_safe(c, side)
 }

@@ -1,6 +1,6 @@
 // The lines of the grid as the library judges them: each asked by itself, so that the refusal of every line is told, then those of a
 // station together, so that a season that stands twice is told too. Whole stations are put together into sheets that the library takes.
-import { COLUMN, NAMES, SEASONS, data } from '../library/data.js';
+import { COLUMN, NAMES, REFUSAL, SEASONS, data } from '../library/data.js';
 import * as core from '../library/core.js';
 
 const filled = (row) => row.some((cell) => cell !== '');
@@ -130,4 +130,4 @@ export function judge(rows, licence = new Map()) {
 
 // The column of a refused cell: the library's own, or that of the station where it names only the line.
 export const refusedColumn = (line) => (line.refused.column ? line.refused.column - 1 : COLUMN.station);
-export const incomplete = (line) => line.refused.number === 3 && line.cells[refusedColumn(line)] === '';
+export const incomplete = (line) => line.refused.number === REFUSAL.form && line.cells[refusedColumn(line)] === '';

@@ -1,5 +1,5 @@
 // What is measured at a site, and the fewest conductors for a side: asked of the library and said in the command's words.
-import { BY_NAME, data, fill } from '../library/data.js';
+import { BY_NAME, REFUSAL, data, fill } from '../library/data.js';
 import * as core from '../library/core.js';
 import { down, exact, grouped, up } from '../words/decimals.js';
 import { margin } from '../words/words.js';
@@ -37,16 +37,17 @@ export const fileText = (text, names) => [names, ...pairs(text, names, String, '
 
 function refusal({ number, line }, { readings = [], parts = [], side = 0 }) {
   const of = say.refusals[number];
-  if (number === 12) return readings.length ? fill(of[1], { count: readings.length }) : of[0];
-  if (number === 13 || number === 14) return fill(of, { line, value: exact(readings[line - 1][number - 13], 3) });
-  if (number === 15) return fill(of, { side: exact(side, 3) });
-  if (number === 17) return fill(of, { count: Math.max(0, parts.length - 1) });
-  if (number === 18) {
+  if (number === REFUSAL.readings) return readings.length ? fill(of[1], { count: readings.length }) : of[0];
+  if (number === REFUSAL.distance) return fill(of, { line, value: exact(readings[line - 1][0], 3) });
+  if (number === REFUSAL.resistance) return fill(of, { line, value: exact(readings[line - 1][1], 3) });
+  if (number === REFUSAL.side) return fill(of, { side: exact(side, 3) });
+  if (number === REFUSAL.test) return fill(of, { count: Math.max(0, parts.length - 1) });
+  if (number === REFUSAL.part) {
     const place = parts.findIndex((one) => one.some((part) => Math.abs(part) > 1000000));
     const axis = Math.abs(parts[place][0]) > 1000000 ? 0 : 1;
     return fill(of, { where: currentName(place), part: ['in-phase', 'quadrature'][axis], value: exact(parts[place][axis], 3) });
   }
-  return number === 19 ? of : data.refusals.own_fault;
+  return number === REFUSAL.no_current ? of : data.refusals.own_fault;
 }
 
 const outside = (name, number) => number < BY_NAME[name].low || number > BY_NAME[name].high;

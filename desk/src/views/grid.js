@@ -1,5 +1,5 @@
 // The sheet on the screen: 22 columns by subject, then what the library answers of each line. Only what changed is drawn again.
-import { GROUPS, NAMES, data, shortUnit } from '../library/data.js';
+import { GROUPS, NAMES, REFUSAL, data, shortUnit } from '../library/data.js';
 import { grouped } from '../words/decimals.js';
 import { bar, mark, withWord } from './drawing.js';
 import { byId, h, show } from './dom.js';
@@ -167,10 +167,10 @@ function flag(drawn, line) {
   drawn.cells.forEach((td) => { td.classList.remove('bad', 'todo'); td.removeAttribute('aria-invalid');
     td.removeAttribute('aria-describedby'); });
   if (!line?.refused) return;
-  line.cells.forEach((text, column) => { // cells beside the refused one that are no whole numbers either
+  line.cells.forEach((text, column) => { // cells next to the refused one that are no whole numbers either
     if (!line.typing && reading(line.cells, column)) drawn.cells[column].classList.add('todo');
   });
-  const marked = [refusedColumn(line), ...(line.refused.number === 7 ? [1] : [])];
+  const marked = [refusedColumn(line), ...(line.refused.number === REFUSAL.repeated ? [1] : [])];
   for (const column of marked) {
     const td = drawn.cells[column];
     td.classList.remove('todo');

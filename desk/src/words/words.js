@@ -1,5 +1,5 @@
 // Refusals, margins and values in the product's words.
-import { BY_NAME, NAMES, data, fill } from '../library/data.js';
+import { BY_NAME, NAMES, REFUSAL, data, fill } from '../library/data.js';
 import { outside } from '../sheet/amounts.js';
 import { grouped, metres, share, tenths } from './decimals.js';
 
@@ -32,10 +32,10 @@ function wrongForm(name, text) {
 export function refusal(line, lines) {
   const { number, column } = line.refused, name = NAMES[column - 1];
   const own = Object.fromEntries(NAMES.map((one, place) => [one, line.cells[place]]));
-  if (number === 3) return wrongForm(name, own[name]);
-  if (number === 5) return fill(data.refusals.range[name], { value: own[name] });
-  if (number === 6) return fill(data.refusals[name], own);
-  if (number === 7) {
+  if (number === REFUSAL.form) return wrongForm(name, own[name]);
+  if (number === REFUSAL.range) return fill(data.refusals.range[name], { value: own[name] });
+  if (number === REFUSAL.parts) return fill(data.refusals[name], own);
+  if (number === REFUSAL.repeated) {
     const earlier = lines.find((one) => !one.refused && one.cells[0] === own.station && one.cells[1] === own.season);
     return fill(data.refusals.repeated, { ...own, earlier: `line ${earlier.number}` });
   }

@@ -98,7 +98,7 @@ def _stopped(arguments: argparse.Namespace, given: List[File], several: bool) ->
         try:
             core.count(given[0].data)
         except core.Refused as refused:
-            if refused.number != 4 or refused.line == 2:
+            if refused.number != core.Refusal.LINES or refused.line == 2:
                 one = checking.Found(given[0].name, refused.number, refused.line, refused.column, refusal(refused, Asked(given[0].data)))
                 return _told(arguments, [one], several)
     firsts = {}

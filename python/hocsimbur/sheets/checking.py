@@ -14,8 +14,8 @@ from .forms import foreign
 from .names import BY_NAME
 from .words import Asked, refusal
 
-OF_SHEET = (1, 2, 4)  # refusals of a whole file
-MOST = 1000           # refusals after which no further line is asked about
+OF_SHEET = (core.Refusal.TEXT, core.Refusal.NAME, core.Refusal.LINES)  # refusals of a whole file
+MOST = 1000  # refusals after which no further line is asked about
 TOGETHER = (("layer", "thick"), ("rods", "rodlen", "place"))  # columns that are all 0 or all not 0
 
 
@@ -27,6 +27,11 @@ class Found(NamedTuple):
     line: int
     column: int
     said: str
+
+
+def _of_sheet(one: Found) -> bool:
+    """Whether a refusal is of the file as a whole, and not of a line of it, which may be too long by itself."""
+    return one.number in OF_SHEET and not (one.number == core.Refusal.TEXT and one.line > 1)
 
 
 def _good(name: str, names: Sequence[str], fields: Sequence[str]) -> str:
@@ -43,10 +48,10 @@ def _mended(names: Sequence[str], fields: List[str], refused: core.Refused) -> S
     if refused.column > min(len(names), len(fields)):
         return set()
     name = names[refused.column - 1]
-    if refused.number in (3, 5):
+    if refused.number in (core.Refusal.FORM, core.Refusal.RANGE):
         fields[refused.column - 1] = _good(name, names, fields)
         return {name}
-    if refused.number == 6:
+    if refused.number == core.Refusal.PARTS:
         changed = next(together for together in TOGETHER if name in together)
         for one in changed:
             fields[names.index(one)] = "0"
@@ -66,9 +71,9 @@ def _of_line(names: bytes, line: bytes, numbers: Sequence[int], file: str) -> Tu
             core.count(sheet)
             return found, None if {"station", "season"} & changed else text
         except core.Refused as refused:
-            if refused.number == 1:
+            if refused.number == core.Refusal.TEXT:
                 said = f"line {numbers[1]}: the line is too long for a sheet of {core.SHEET_BYTES} bytes"
-                return [*found, Found(file, 1, numbers[1], 0, said)], None
+                return [*found, Found(file, refused.number, numbers[1], 0, said)], None
             said = refusal(refused, Asked(sheet, line_numbers=numbers))
             found.append(Found(file, refused.number, numbers[1], refused.column, said))
             mended = _mended(named, fields, refused)
@@ -92,11 +97,11 @@ def _repeated(lines: Lines, right: Dict[int, bytes], places: Dict[int, Place]) -
                 core.count(sheet)
                 break
             except core.Refused as refused:
-                if refused.number != 7:
+                if refused.number != core.Refusal.REPEATED:
                     break
                 at = asked.pop(refused.line - 2)
                 said = refusal(refused, Asked(sheet, places=[places[line] for line in [*asked[:refused.line - 2], at]]))
-                found.append(Found(places[at].file, 7, places[at].line, 0, said))
+                found.append(Found(places[at].file, refused.number, places[at].line, 0, said))
         kept = asked
     return found
 
@@ -122,7 +127,7 @@ def check(files: Given, numbers: Optional[Sequence[int]] = None) -> List[Found]:
         refused = head_refused(file.data)
         if refused:
             found.append(_whole(file, refused, numbers))
-            if refused.number != 1 or foreign(file.data) or not file.data:
+            if refused.number != core.Refusal.TEXT or foreign(file.data) or not file.data:
                 continue
             names = head_refused(_closed(file.data))
             if names:
@@ -132,7 +137,7 @@ def check(files: Given, numbers: Optional[Sequence[int]] = None) -> List[Found]:
     if asked:
         found += _of_lines(Lines(asked), numbers)
     order = {file.name: place for place, file in enumerate(given(files))}
-    return sorted(found, key=lambda one: (order[one.file], one.number not in OF_SHEET or one.line > 1 and one.number == 1, one.line))
+    return sorted(found, key=lambda one: (order[one.file], not _of_sheet(one), one.line))
 
 
 def _of_lines(lines: Lines, numbers: Optional[Sequence[int]]) -> List[Found]:

@@ -59,7 +59,7 @@ def head_refused(data: bytes) -> Optional[core.Refused]:
         asked = lines[0] + b"\n" + lines[-1] if len(lines) > 1 else data[:core.SHEET_BYTES]
         return _refused(asked[:core.SHEET_BYTES])
     refused = _refused(lines[0] + b"\n")
-    return refused if refused is None or refused.number != 4 or len(lines) == 1 else None
+    return refused if refused is None or refused.number != core.Refusal.LINES or len(lines) == 1 else None
 
 
 def _refused(sheet: bytes) -> Optional[core.Refused]:

@@ -6,7 +6,7 @@ from __future__ import annotations
 from dataclasses import dataclass
 from typing import Callable, Dict, List, Optional, Sequence, Tuple
 
-from ..core import LINES, SHEET_BYTES, Refused, Verdict
+from ..core import LINES, SHEET_BYTES, Refusal, Refused, Verdict
 from . import layout
 from .decimals import exact, grouped
 from .forms import FORMER_ONLY, cell, foreign, printable, wrong_name, wrong_value
@@ -169,7 +169,7 @@ def _side(refused: Refused, asked: Asked) -> str:
     return f"side: {exact(asked.side, 3)} m is not in 2.5..720 m"
 
 
-def _no_rods(refused: Refused, asked: Asked) -> str:
+def _no_rodlen(refused: Refused, asked: Asked) -> str:
     return f"{asked.place(2, 'rodlen')}: the length of a rod is 0 mm, and yards with rods are tried too; give their length, as --rodlen 3m"
 
 
@@ -209,13 +209,17 @@ def _room(refused: Refused, asked: Asked) -> str:
     return OWN_FAULT
 
 
-_WORDS: Dict[int, Callable[[Refused, Asked], str]] = {
-    1: _text, 2: _name, 3: _form, 4: _lines, 5: _range, 6: _parts, 7: _repeated, 8: _room, 9: _times, 10: _counts, 11: _hertz,
-    12: _readings, 13: _distance, 14: _resistance, 15: _side, 16: _no_rods, 17: _test, 18: _part, 19: _no_current, 20: _room,
-    21: _licence, 22: _station, 23: _room,
+OWN_FAULTS = (Refusal.SHORT, Refusal.SUMMARY, Refusal.RELEASE)
+
+_WORDS: Dict[Refusal, Callable[[Refused, Asked], str]] = {
+    Refusal.TEXT: _text, Refusal.NAME: _name, Refusal.FORM: _form, Refusal.LINES: _lines, Refusal.RANGE: _range, Refusal.PARTS: _parts,
+    Refusal.REPEATED: _repeated, Refusal.SHORT: _room, Refusal.TIMES: _times, Refusal.COUNTS: _counts, Refusal.HERTZ: _hertz,
+    Refusal.READINGS: _readings, Refusal.DISTANCE: _distance, Refusal.RESISTANCE: _resistance, Refusal.SIDE: _side,
+    Refusal.NO_RODLEN: _no_rodlen, Refusal.TEST: _test, Refusal.PART: _part, Refusal.NO_CURRENT: _no_current, Refusal.SUMMARY: _room,
+    Refusal.LICENCE: _licence, Refusal.STATION: _station, Refusal.RELEASE: _room,
 }
 
 
 def refusal(refused: Refused, asked: Asked) -> str:
     """A refusal as a sentence."""
-    return printable(_WORDS[refused.number](refused, asked))
+    return printable(_WORDS[Refusal(refused.number)](refused, asked))

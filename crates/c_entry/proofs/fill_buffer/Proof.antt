@@ -9,22 +9,22 @@ read-within-requires : tie.Need-read-within-requires
 read-within-requires c κs = c .before .before .before .before .pre
 
 -- the reading that counted the lines, and what it stored
-abbrev read-of : tie.After-n → tie.After-read-within
+abbrev read-of : tie.After-judged → tie.After-read-within
 read-of n = n .before .before .before .before
 
 abbrev start : tie.After-read-within → tie.Start
 start r = r .before .before .before .before .before
 
-stored : (n : tie.After-n) → StoredLines (start (read-of n) .args .s .now) (n .n .given .0 .0) (read-of n .read-within .last .1 .1 .0)
-stored n = stored-within (read-of n .read-within .ensures) (start (read-of n) .pre) (n .n .given .1)
+stored : (n : tie.After-judged) → StoredLines (start (read-of n) .args .s .now) (n .judged .given .0 .0) (read-of n .read-within .last .1 .1 .0)
+stored n = stored-within (read-of n .read-within .ensures) (start (read-of n) .pre) (n .judged .given .1)
 
 mul-if1 : tie.Need-mul-if1
 mul-if1 c = omega (arith, stored (c .before) .most)
 
-returns : tie.Need-returns
-returns c =
+returns-2 : tie.Need-returns-2
+returns-2 c =
     let n = c .before .before in
-    in-bytes-short _ _ (judged-is (read-of n .read-within .ensures)) (n .n .given .1) (c .if1 .taken)
+    in-bytes-short _ _ (judged-is (read-of n .read-within .ensures)) (n .judged .given .1) (c .if1 .taken)
 
 write-rows-requires : tie.Need-write-rows-requires
 write-rows-requires c κs =
@@ -32,18 +32,17 @@ write-rows-requires c κs =
     let l = stored (e .before .before) in
     (l .bounds, (l .room, e .if1 .left))
 
-returns-2 : tie.Need-returns-2
-returns-2 c =
-    in-bytes-refused _ _ (judged-is (c .before .before .before .before .before .read-within .ensures)) (c .before .number .given .1)
+returns : tie.Need-returns
+returns c = in-bytes-refused _ _ (judged-is (c .before .before .before .before .read-within .ensures)) (c .enum-told .given .1)
 
 returns-3 : tie.Need-returns-3
 returns-3 c =
     let e = c .before .before .before .before .before in
     let n = e .before .before in
-    in-bytes-rows _ _ (judged-is (read-of n .read-within .ensures)) (n .n .given .1) (e .if1 .left)
+    in-bytes-rows _ _ (judged-is (read-of n .read-within .ensures)) (n .judged .given .1) (e .if1 .left)
     (rw (← stored n .cases-are) (c .before .before .write-rows .ensures))
 
 pub fill-buffer-spec : {M : Type 1} → statement M
 fill-buffer-spec =
-    tie.close (tie.spec read-within-requires (λ c. search needs) (λ c. search needs) mul-if1 (λ c. search needs) returns write-rows-requires
-    (λ c. search needs) returns-2 (λ c. search needs) (λ c. search needs) returns-3)
+    tie.close (tie.spec read-within-requires (λ c. search needs) (λ c. search needs) (λ c. search needs) returns mul-if1 (λ c. search needs)
+    returns-2 write-rows-requires (λ c. search needs) (λ c. search needs) returns-3)

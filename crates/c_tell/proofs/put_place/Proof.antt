@@ -4,25 +4,25 @@ use mathlib.Core.{Path.{_≡_}, List.{List, [], _∷_}}
 use native.Mathlib.Omega.{arith}
 use borrow.Author.Needs.{needs}
 use lib.ListN.{length, set}
-use Rattle.sheet.specs.declared.Answer.{Answer, the-variants.{Rows, Refused}}
+use Rattle.case.specs.declared.Counted.{Counted, the-variants.{Count, Refused}}
 use Rattle.c_tell.specs.Place.{placeAfter}
 use Rattle.c_tell.proofs.put_place.Statement.{statement}
 use Rattle.c_tell.proofs.put_place.Tie as tie
 
 -- of a refusal, by the length of the place
-written : {a : Answer} {n l k : ℕ} (p : List ℕ) → a ≡ Refused n l k → 2 ≤ length p → set (set p 0 l) 1 k ≡ placeAfter a p
+written : {a : Counted} {n l k : ℕ} (p : List ℕ) → a ≡ Refused n l k → 2 ≤ length p → set (set p 0 l) 1 k ≡ placeAfter a p
 unfolding placeAfter
 written [] e h = absurd (omega arith)
 written (x ∷ []) e h = absurd (omega arith)
 written (x ∷ y ∷ p) e h = rw e
 
-kept : {a : Answer} {n l k : ℕ} (p : List ℕ) → a ≡ Refused n l k → length p < 2 → p ≡ placeAfter a p
+kept : {a : Counted} {n l k : ℕ} (p : List ℕ) → a ≡ Refused n l k → length p < 2 → p ≡ placeAfter a p
 unfolding placeAfter
 kept [] e h = rw e
 kept (x ∷ []) e h = rw e
 kept (x ∷ y ∷ p) e h = absurd (omega arith)
 
-rows-kept : {a : Answer} {n : ℕ} (p : List ℕ) → a ≡ Rows n → p ≡ placeAfter a p
+rows-kept : {a : Counted} {n : ℕ} (p : List ℕ) → a ≡ Count n → p ≡ placeAfter a p
 unfolding placeAfter
 rows-kept p e = rw e
 

@@ -6,12 +6,12 @@ use borrow.Author.Needs.{needs}
 use lib.IntN.{ℤ, pos, natAbs, _-ℤ_, +ℤ-idl}
 use mir.{Syntax.{w64}, Val.{SFits}, Facts.{toZ-pos, toZ-ofZ}}
 use Rattle.whole.proofs.{Bits.{small-fits}, Signed.{size-difference}}
-use Rattle.sheet.specs.declared.Answer.{Answer, the-variants.{Rows}}
+use Rattle.case.specs.declared.Counted.{Counted, the-variants.{Count}}
 use Rattle.c_tell.specs.{Answer.{signedAnswer}, Room.{Few}}
 use Rattle.c_tell.proofs.signed_answer.Statement.{statement}
 use Rattle.c_tell.proofs.signed_answer.Tie as tie
 
-small : {a : Answer} {n : ℕ} → Few a → a ≡ Rows n → n < 2 ^ 63
+small : {a : Counted} {n : ℕ} → Few a → a ≡ Count n → n < 2 ^ 63
 unfolding Few
 small {a} {n} f e = rw e at f
 

@@ -9,8 +9,9 @@ use Rattle.tables.specs.Parts.{partsOf}
 use Rattle.writing.{specs.{Put.{WrittenFirst}, Text.{allLines}}, proofs.Whole.{written-size}}
 use Rattle.case.{specs.{declared.Form.{Form}, Columns.{nameCount}, Parts.{formOf}}, proofs.Findings.{form-most}}
 use Rattle.case.specs.Columns as Columns
+use Rattle.case.specs.declared.Counted.the-variants.{Count}
 use Rattle.header.specs.Header.{columnsOf}
-use Rattle.judgement.specs.{declared.Judgement.the-variants.{Lines}, Limits.{mostLines}, Read.{Stored}}
+use Rattle.judgement.specs.{Limits.{mostLines}, Read.{Stored}}
 use Rattle.judgement.{specs.{Sheet.{names, valueLines, judgement}, Accepted.{Accepted}}, proofs.Accepted.{accepted}}
 use Rattle.judgement.proofs.StoredLines.{stored-parts}
 use Rattle.carried_values.specs.{Values.{other, carried, casesIn}, Changes.{changes}}
@@ -59,7 +60,7 @@ store-count : (r : tie.After-read) → length (store r) ≡ nameCount * mostLine
 store-count r = r .read .ensures .size
 
 -- n lines
-module _ (r : tie.After-read) {n : ℕ} (e : r .read .result ≡ Lines n) where
+module _ (r : tie.After-read) {n : ℕ} (e : r .read .result ≡ Count n) where
   lines-accepted : Accepted (from r) (sheet r) n
   lines-accepted = accepted _ _ _ (sym (judged-is r) ∙ e)
 
@@ -78,14 +79,14 @@ module _ (r : tie.After-read) {n : ℕ} (e : r .read .result ≡ Lines n) where
       (r .before .before .other-form .ensures) (r .read .ensures .stored _ e))
 
 -- the read before the count of lines, and before the search for what the form cannot say
-abbrev read-of : tie.After-n → tie.After-read
+abbrev read-of : tie.After-judged → tie.After-read
 read-of n = n .before .before .before
 
-abbrev searched : tie.After-first-change → tie.After-n
+abbrev searched : tie.After-first-change → tie.After-judged
 searched f = f .before .before .before
 
 change-is : (f : tie.After-first-change) → f .first-change .result ≡ changes (asked (read-of (searched f))) (cases (read-of (searched f)))
-change-is f = f .first-change .ensures ∙ ap (changes _) (lines-are (read-of (searched f)) (searched f .n .given .1))
+change-is f = f .first-change .ensures ∙ ap (changes _) (lines-are (read-of (searched f)) (searched f .judged .given .1))
 
 slice-aggregate-first-change : tie.Need-slice-aggregate-first-change
 slice-aggregate-first-change c = sym (store-count (read-of (c .before .before)))
@@ -94,13 +95,13 @@ first-change-requires : tie.Need-first-change-requires
 first-change-requires c κs =
     let n = c .before .before in
     let r = read-of n in
-    (omega (arith, from-room r (n .n .given .1), store-count r), lines-accepted r (n .n .given .1) .most)
+    (omega (arith, from-room r (n .judged .given .1), store-count r), lines-accepted r (n .judged .given .1) .most)
 
-returns : tie.Need-returns
-returns c =
-    let f = c .before .before .before in
+returns-2 : tie.Need-returns-2
+returns-2 c =
+    let f = c .before .before in
     let n = searched f in
-    answered-change _ _ _ (judged-is (read-of n)) (n .n .given .1) (change-is f) (c .before .change .given .1)
+    answered-change _ _ _ (judged-is (read-of n)) (n .judged .given .1) (change-is f) (c .enum-told2 .given .1)
 
 slice-aggregate-convert : tie.Need-slice-aggregate-convert
 slice-aggregate-convert c = sym (store-count (read-of (c .before .before .before .before .before .before)))
@@ -109,11 +110,11 @@ convert-requires : tie.Need-convert-requires
 convert-requires c κs =
     let n = c .before .before .before .before .before .before .before in
     let r = read-of n in
-    (omega (arith, from-room r (n .n .given .1), store-count r), to-room r (n .n .given .1))
+    (omega (arith, from-room r (n .judged .given .1), store-count r), to-room r (n .judged .given .1))
 
 -- ---- the lines carried over
 
-abbrev lined : tie.After-convert → tie.After-n
+abbrev lined : tie.After-convert → tie.After-judged
 lined v = v .before .before .before .before .before .before .before .before
 
 abbrev source : tie.After-convert → tie.After-read
@@ -121,21 +122,21 @@ source v = read-of (lined v)
 
 -- the count of lines, and the values as they are carried over
 abbrev count : tie.After-convert → ℕ
-count v = lined v .n .given .0 .0
+count v = lined v .judged .given .0 .0
 
 abbrev converted : tie.After-convert → List ℕ
 converted v = v .convert .last .1 .1 .1 .0
 
 carried-lines : (v : tie.After-convert)
     → partsOf (length (to (source v))) (count v) (converted v) ≡ map (carried (asked (source v))) (cases (source v))
-carried-lines v = v .convert .ensures .lines ∙ ap (map (carried (asked (source v)))) (lines-are (source v) (lined v .n .given .1))
+carried-lines v = v .convert .ensures .lines ∙ ap (map (carried (asked (source v)))) (lines-are (source v) (lined v .judged .given .1))
 
 -- they can be written
 writable : (v : tie.After-convert) → allLines (length (to (source v))) (partsOf (length (to (source v))) (count v) (converted v)) ≡ true
 writable v =
     rw (carried-lines v)
     (all-lines (asked (source v)) [] _
-    (carried-cases (asked (source v)) [] (cases (source v)) (accepted-cases (lines-accepted (source v) (lined v .n .given .1)))))
+    (carried-cases (asked (source v)) [] (cases (source v)) (accepted-cases (lines-accepted (source v) (lined v .judged .given .1)))))
 
 slice-aggregate-write-form : tie.Need-slice-aggregate-write-form
 slice-aggregate-write-form c = sym (c .before .before .before .convert .ensures .size)
@@ -144,7 +145,7 @@ write-form-requires : tie.Need-write-form-requires
 write-form-requires c κs =
     let v = c .before .before .before in
     let r = source v in
-    let e = lined v .n .given .1 in
+    let e = lined v .judged .given .1 in
     (omega (arith, to-room r e, v .convert .ensures .size), (lines-accepted r e .most, writable v))
 
 -- what was written is the carried sheet
@@ -165,8 +166,8 @@ written w = subst (λ l. Wrote w (sheetOf (to (origin w)) l)) (carried-lines (ma
 abbrev kept : tie.After-write-form → tie.After-first-change
 kept w = made w .before .before .before .before .before
 
-returns-2 : tie.Need-returns-2
-returns-2 c = answered-source _ _ _ (judged-is (c .before .before .before .before)) (c .before .number .given .1)
+returns : tie.Need-returns
+returns c = answered-source _ _ _ (judged-is (c .before .before .before)) (c .enum-told .given .1)
 
 same-length : tie.Need-same-length
 same-length c = written-size (c .before .before .before .before .write-form .ensures)
@@ -176,8 +177,8 @@ returns-3 c =
     let w = c .before .before .before .before in
     let v = made w in
     let r = source v in
-    answered-short _ _ _ (judged-is r) (lined v .n .given .1) (change-is (kept w)) (v .before .before .before .enum-told .given .1)
-    (written w) (c .enum-told2 .given .1)
+    answered-short _ _ _ (judged-is r) (lined v .judged .given .1) (change-is (kept w)) (v .before .before .before .enum-told3 .given .1)
+    (written w) (c .enum-told4 .given .1)
 
 same-length-2 : tie.Need-same-length-2
 same-length-2 c = written-size (c .before .before .before .before .before .write-form .ensures)
@@ -187,12 +188,12 @@ returns-4 c =
     let w = c .before .before .before .before .before in
     let v = made w in
     let r = source v in
-    answered-written _ _ _ (judged-is r) (lined v .n .given .1) (change-is (kept w)) (v .before .before .before .enum-told .given .1)
+    answered-written _ _ _ (judged-is r) (lined v .judged .given .1) (change-is (kept w)) (v .before .before .before .enum-told3 .given .1)
     (written w) (c .before .k .given .1)
 
 pub carry-to-spec : {M : Type 1} → statement M
 carry-to-spec =
-    tie.close (tie.spec (λ c κs. search needs) (λ c. search needs) read-requires (λ c. search needs) (λ c. search needs)
-    slice-aggregate-first-change first-change-requires (λ c. search needs) returns (λ c. search needs) slice-aggregate-convert
-    (λ c. search needs) convert-requires slice-aggregate-write-form write-form-requires (λ c. search needs) (λ c. search needs) returns-2
+    tie.close (tie.spec (λ c κs. search needs) (λ c. search needs) read-requires (λ c. search needs) (λ c. search needs) returns
+    slice-aggregate-first-change first-change-requires (λ c. search needs) returns-2 (λ c. search needs) slice-aggregate-convert
+    (λ c. search needs) convert-requires slice-aggregate-write-form write-form-requires (λ c. search needs) (λ c. search needs)
     same-length returns-3 same-length-2 returns-4)

@@ -7,7 +7,7 @@ use borrow.Rule.Slice.PartMut.{mid-len}
 use lib.ListN.{length, take, drop, getD}
 use Rattle.tables.{specs.Parts.{partsOf}, proofs.Parts.{parts-length, parts-at}}
 use Rattle.case.specs.Columns.{nameCount}
-use Rattle.judgement.specs.declared.Judgement.the-variants.{Lines}
+use Rattle.case.specs.declared.Counted.the-variants.{Count}
 use Rattle.carried_values.specs.Changes.{lineChange}
 use Rattle.carried_values.proofs.LineChanges.{Changing, changing-start, changing-refused, changing-step, changing-end}
 use Rattle.carried_values.proofs.changes.changes_of.Statement.{statement}
@@ -36,7 +36,7 @@ line-there c = omega (arith, c .loop-test .taken, parts-length nameCount (start 
 -- what is found of line i
 change-is : (c : tie.After-line-change Inv-loop μ-loop)
     → c .line-change .result
-    ≡ lineChange (c .before .before .before .loop .i + 2) (Lines 0)
+    ≡ lineChange (c .before .before .before .loop .i + 2) (Count 0)
     (getD (partsOf nameCount (start (c .before .before) .args .n) (start (c .before .before) .args .values .now))
     (c .before .before .before .loop .i) [])
 change-is c =
@@ -44,8 +44,8 @@ change-is c =
     let k = i .before .loop .i in
     let v = start i .args .values .now in
     let w : nameCount * k + nameCount - nameCount * k ≡ nameCount = omega arith in
-    c .line-change .ensures ∙ ap (λ m. lineChange (k + 2) (Lines 0) (take m (drop (nameCount * k) v))) w
-    ∙ ap (lineChange (k + 2) (Lines 0)) (sym (parts-at nameCount (start i .args .n) k v (i .loop-test .taken)))
+    c .line-change .ensures ∙ ap (λ m. lineChange (k + 2) (Count 0) (take m (drop (nameCount * k) v))) w
+    ∙ ap (lineChange (k + 2) (Count 0)) (sym (parts-at nameCount (start i .args .n) k v (i .loop-test .taken)))
 
 mul-a : tie.Need-mul-a Inv-loop μ-loop
 mul-a c = omega (arith, within c)

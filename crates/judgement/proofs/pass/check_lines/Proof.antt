@@ -6,8 +6,9 @@ use borrow.Author.Needs.{needs}
 use lib.ListN.{length}
 use Rattle.text.proofs.{FieldTurns.{part-length}, LineTurns.{line-shorter}}
 use Rattle.case.{specs.Parts.{formOf}, proofs.Findings.{rods-place}}
+use Rattle.case.specs.declared.Counted.the-variants.{Count}
 use Rattle.line_finding.{specs.Parts.{AtMost}, proofs.Keys.{form-keyed, at-most-more}}
-use Rattle.judgement.specs.{declared.Judgement.the-variants.{Lines}, Limits.{mostLines}}
+use Rattle.judgement.specs.Limits.{mostLines}
 use Rattle.judgement.proofs.LineJudged.{sound-line}
 use Rattle.judgement.proofs.Passing.{Passing, passing-start, passing-room, passing-store, stored-value, stored-first}
 use Rattle.judgement.proofs.{Passing.{passing-refused, passing-step, passing-end}, pass.check_lines.Statement.{statement}}
@@ -15,7 +16,7 @@ use Rattle.judgement.proofs.pass.check_lines.Tie as tie
 
 abbrev Inv-loop : tie.InvT-loop
 Inv-loop form s at order count values₀ width keys₀ most₀ rest₀ n₀ values keys most rest n =
-    Passing (formOf form) s at keys rest n (Lines count) values₀ values × AtMost keys n most
+    Passing (formOf form) s at keys rest n (Count count) values₀ values × AtMost keys n most
 
 abbrev μ-loop : tie.MeasureT-loop
 μ-loop form s at order count values₀ width keys₀ most₀ rest₀ n₀ values keys most rest n = length rest

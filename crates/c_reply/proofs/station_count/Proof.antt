@@ -1,9 +1,9 @@
 -- `station_count` answers the count of stations.
 use mathlib.Core.Path.{sym, ap}
 use borrow.Author.Needs.{needs}
-use Rattle.c_counts.specs.Counts.{stationCount}
-use Rattle.c_counts.proofs.station_count.Statement.{statement}
-use Rattle.c_counts.proofs.station_count.Tie as tie
+use Rattle.c_reply.specs.Stations.{stationCount}
+use Rattle.c_reply.proofs.station_count.Statement.{statement}
+use Rattle.c_reply.proofs.station_count.Tie as tie
 
 returns : tie.Need-returns
 unfolding stationCount
