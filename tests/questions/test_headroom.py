@@ -1,0 +1,134 @@
+"""Judges the questions of kind `headroom` of crates/questions by the words and by the program's own rows."""
+
+import unittest
+
+from tests.calculator import calculator as calc
+from tests.calculator.calculator import Case, Refusal
+from tests.calculator.printed import read_asked
+from tests.questions import headroom, questions
+from tests.questions.headroom import LEAST, MOST, NONE
+
+
+def one_more(case, got):
+    return LEAST if got == NONE else got + 1
+
+
+def one_less(case, got):
+    return NONE if got in (NONE, LEAST) else got - 1
+
+
+def never(case, got):
+    return NONE
+
+
+def always(case, got):
+    return MOST
+
+
+def range_cut_short(case, got):
+    return got if got == NONE else min(got, 60000)
+
+
+def least_fault_lost(case, got):
+    return NONE if got == LEAST else got
+
+
+def own_fault_kept(case, got):
+    """Every row is worked with the case's own fault current: all of the range, or none of it."""
+    return MOST if got != NONE and case.fault <= got else NONE
+
+
+def own_fault_the_most(case, got):
+    return got if got == NONE else min(got, case.fault)
+
+
+def step_not_tested(case, got):
+    """By mesh voltage alone, at the least that every right program answers."""
+    known = headroom.Known(case)
+    pair = known.ends.mesh, known.ends.tolerable_touch
+    most = MOST if pair[0].upper <= 0 else int(LEAST * pair[1].lower / pair[0].upper)
+    return NONE if most < LEAST else min(most, MOST)
+
+
+WRONG = (one_more, one_less, never, always, range_cut_short, least_fault_lost, own_fault_kept, own_fault_the_most,
+         step_not_tested)
+
+
+class Headrooms(unittest.TestCase):
+    @classmethod
+    def setUpClass(cls):
+        lines, printed = questions.stored()
+        cls.answers, cls.verdicts = {}, {}
+        for line, out in zip(lines, printed):
+            kind, *fields = line.split(",")
+            text = out[len(line) + 1 :]
+            if headroom.is_question(line):
+                cls.answers[Case(*map(int, fields))] = headroom.read_answer(text)
+            elif kind == "row" and len(fields) == calc.COLUMN_COUNT and not text.startswith("refused"):
+                cls.verdicts[Case(*map(int, fields))] = read_asked(text)[2]
+
+    def sound(self):
+        return {case: got for case, got in self.answers.items() if not isinstance(got, Refusal)}
+
+    def judge(self, case, got):
+        return headroom.judge(case, got, self.verdicts.get)
+
+    def test_the_questions_are_those_of_the_maker(self):
+        self.assertEqual(list(self.answers), headroom.questions(questions.YARD))
+
+    def test_every_answer_is_right(self):
+        for case, got in self.answers.items():
+            self.assertEqual([], self.judge(case, got), case)
+
+    def test_the_rows_that_tell_are_stored(self):
+        """Each is judged by test_asked.py as every row is."""
+        for case, got in self.sound().items():
+            told = LEAST - 1 if got == NONE else got
+            for fault in {told, told + 1}:
+                if LEAST <= fault <= MOST:
+                    self.assertIn(case._replace(fault=fault), self.verdicts)
+
+    def test_the_sample(self):
+        """Season 1 is unsafe at 3,180 A, season 2 safe; the manual tells both."""
+        self.assertEqual([self.answers[case] for case in headroom.sample()], [2600, 10023])
+
+    def test_edges(self):
+        told = list(self.sound().values())
+        self.assertLessEqual({NONE, LEAST, LEAST + 1, 1000, MOST}, set(told))
+        self.assertGreaterEqual(len([got for got in told if got not in (NONE, LEAST, MOST)]), 50)
+        self.assertTrue(any(got != NONE and 20000 < got < MOST for got in told))
+
+    def test_the_own_fault_current_does_not_matter(self):
+        by_yard = {}
+        for case, got in self.sound().items():
+            by_yard.setdefault(case._replace(fault=0), []).append(got)
+        several = [some for some in by_yard.values() if len(some) > 1]
+        self.assertGreaterEqual(len(several), 6)
+        self.assertTrue(all(len(set(some)) == 1 for some in several))
+
+    def test_refusals(self):
+        refused = {got for got in self.answers.values() if isinstance(got, Refusal)}
+        self.assertEqual(refused, {Refusal(5, 0, column) for column in range(1, calc.COLUMN_COUNT + 1)}
+                         | {Refusal(6, 0, 1 + calc.NAMES.index(name)) for name in ("layer", "rods")})
+
+    def test_wrong_programs_are_told(self):
+        for wrong in WRONG:
+            others = {case: wrong(case, got) for case, got in self.sound().items()}
+            told = [case for case, other in others.items() if other != self.answers[case] and self.judge(case, other)]
+            self.assertTrue(told, wrong.__name__)
+            if wrong in (one_more, one_less):
+                changed = [case for case, other in others.items() if other != self.answers[case]]
+                self.assertEqual(changed, told, wrong.__name__)
+
+    def test_changed_refusals_are_told(self):
+        for case, got in self.answers.items():
+            if isinstance(got, Refusal):
+                for other in (got._replace(number=11 - got.number), got._replace(line=1), got._replace(column=got.column + 1),
+                              NONE, LEAST, MOST):
+                    self.assertTrue(self.judge(case, other))
+            else:
+                self.assertTrue(self.judge(case, Refusal(5, 0, 10)))
+
+
+if __name__ == "__main__":
+    unittest.main()

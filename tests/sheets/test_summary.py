@@ -1,0 +1,259 @@
+"""Judges the station summary: the sheets of kind `summary` of crates/sheets with their answers, and the run of the program
+`summary`, against the summary written from the document and the separately written calculator.
+"""
+
+import unittest
+from pathlib import Path
+
+from tests.calculator import calculator as calc
+from tests.calculator.calculator import Refusal
+from tests.calculator.printed import ROW_NAMES, lines_of, read_row, whole
+from tests.sheets import differential, stored, summary
+
+PROGRAM = Path(__file__).parents[2] / "crates" / "summary"
+NAMES = ("station", "seasons", "safe", "unsafe", "undecided", "highest_mesh_season")
+DEPTH = 9
+
+
+class Told:
+    """An answer of `sheets`: a refusal, or counts, stations and rows; and how much both tables kept."""
+
+    def __init__(self, lines):
+        *lines, kept = lines
+        word, *numbers = kept.split(",")
+        self.kept = tuple(map(whole, numbers))
+        if word != "kept" or len(self.kept) != 2:
+            raise ValueError(f"not what was kept: {kept!r}")
+        word, *numbers = lines[0].split(",")
+        self.refusal = Refusal(*map(whole, numbers)) if word == "refused" else None
+        self.stations, self.rows = [], []
+        if self.refusal:
+            if lines[1:]:
+                raise ValueError("more than a refusal is printed")
+            return
+        if word != "summary":
+            raise ValueError(f"neither counts nor a refusal: {lines[0]!r}")
+        self.counts = n, m = tuple(map(whole, numbers))
+        names, stations, more, rows = lines[1], lines[2 : 2 + m], lines[2 + m], lines[3 + m :]
+        if names != ",".join(NAMES) or more != ",".join(ROW_NAMES) or len(rows) != n:
+            raise ValueError("not the lines that the counts say")
+        self.stations = [read_station(line) for line in stations]
+        self.rows = [read_row(line.split(",")) for line in rows]
+
+
+def read_station(line):
+    numbers = [whole(field) for field in line.split(",")]
+    if len(numbers) != summary.STATION_LENGTH:
+        raise ValueError(f"a station has not {summary.STATION_LENGTH} numbers")
+    return numbers
+
+
+def answers_of(text):
+    answers, lines = [], []
+    for line in lines_of(text):
+        lines.append(line)
+        if line.startswith("kept,"):
+            answers.append(Told(lines))
+            lines = []
+    if lines:
+        raise ValueError("the last answer does not say what was kept")
+    return answers
+
+
+# --------------------------------------------------------------------------
+# Wrong programs.
+# --------------------------------------------------------------------------
+
+def by_station(rows, numbers_of):
+    return [numbers_of(station, [row for row in rows if row[0] == station]) for station in summary.stations_of(rows)]
+
+
+def later_line_on_a_tie(rows):
+    return by_station(rows, lambda station, own: [
+        *summary.numbers_of(station, own)[:5], summary.worst(own[::-1])[1]])
+
+
+def lower_mesh_end(rows):
+    return by_station(rows, lambda station, own: [
+        *summary.numbers_of(station, own)[:5], max(own, key=lambda row: row[summary.MESH_LOWER])[1]])
+
+
+def touch_for_mesh(rows):
+    return by_station(rows, lambda station, own: [
+        *summary.numbers_of(station, own)[:5], max(own, key=lambda row: row[summary.MESH_UPPER - 4])[1]])
+
+
+def first_season(rows):
+    return by_station(rows, lambda station, own: [*summary.numbers_of(station, own)[:5], own[0][1]])
+
+
+def undecided_is_unsafe(rows):
+    return [[station, seasons, safe, unsafe + undecided, 0, worst]
+            for station, seasons, safe, unsafe, undecided, worst in summary.summary_of(rows)]
+
+
+def seasons_counted_twice(rows):
+    return [[station, 2 * seasons, *rest] for station, seasons, *rest in summary.summary_of(rows)]
+
+
+def stations_by_number(rows):
+    return sorted(summary.summary_of(rows))
+
+
+def stations_by_last_appearance(rows):
+    return summary.summary_of(rows)[::-1]
+
+
+def runs_of_a_station(rows):
+    """A station named again where its lines are not together."""
+    runs = []
+    for row in rows:
+        if not runs or runs[-1][0][0] != row[0]:
+            runs.append([])
+        runs[-1].append(row)
+    return [summary.numbers_of(run[0][0], run) for run in runs]
+
+
+def worst_first(rows):
+    def highest(numbers):
+        return -summary.worst([row for row in rows if row[0] == numbers[0]])[summary.MESH_UPPER]
+    return sorted(summary.summary_of(rows), key=highest)
+
+
+WRONG_SUMMARIES = (
+    later_line_on_a_tie, lower_mesh_end, touch_for_mesh, first_season, undecided_is_unsafe, seasons_counted_twice,
+    stations_by_number, stations_by_last_appearance, runs_of_a_station, worst_first)
+
+
+def twenty_before_eight(sheet, rows_room, summary_room):
+    cases = summary.answer(sheet, summary.MOST_ROWS, summary_room)
+    return cases if isinstance(cases, Refusal) else calc.read_sheet(sheet, rows_room)
+
+
+def twenty_before_all(sheet, rows_room, summary_room):
+    return Refusal(20, 0, 0) if summary_room == 0 else summary.answer(sheet, rows_room, summary_room)
+
+
+def exact_fit_refused(sheet, rows_room, summary_room):
+    return summary.answer(sheet, rows_room, summary_room - 1)
+
+
+def never_twenty(sheet, rows_room, summary_room):
+    return calc.read_sheet(sheet, rows_room)
+
+
+def room_for_every_line(sheet, rows_room, summary_room):
+    cases = calc.read_sheet(sheet, rows_room)
+    if isinstance(cases, Refusal) or summary_room >= summary.STATION_LENGTH * len(cases):
+        return cases
+    return Refusal(20, 0, 0)
+
+
+def five_a_station(sheet, rows_room, summary_room):
+    return summary.answer(sheet, rows_room, summary_room * 6 // 5)
+
+
+WRONG_ANSWERS = (
+    twenty_before_eight, twenty_before_all, exact_fit_refused, never_twenty, room_for_every_line, five_a_station)
+
+
+# --------------------------------------------------------------------------
+# The tests.
+# --------------------------------------------------------------------------
+
+class Stored(unittest.TestCase):
+    @classmethod
+    def setUpClass(cls):
+        cls.asked = summary.blocks()
+        cls.wanted = [summary.answer(*asked) for asked in cls.asked]
+        cls.text, printed = stored.stored_of("summary")
+        cls.told = answers_of(printed)
+
+    def answered(self):
+        return [(wanted, told) for wanted, told in zip(self.wanted, self.told) if not told.refusal]
+
+    def test_the_sheets_are_those_of_the_maker(self):
+        self.assertEqual(self.text, summary.text_of(self.asked))
+
+    def test_every_sheet_has_its_answer(self):
+        self.assertEqual(len(self.told), len(self.asked))
+        for asked, wanted, told in zip(self.asked, self.wanted, self.told):
+            got = told.refusal or told.counts
+            if not isinstance(wanted, Refusal):
+                wanted = len(wanted), len(summary.stations_of(wanted))
+            self.assertEqual(got, wanted, asked)
+
+    def test_the_rows_are_right(self):
+        for cases, told in self.answered():
+            self.assertEqual([], differential.judge(cases, told.rows, lambda: False))
+
+    def test_the_summary_is_that_of_the_rows(self):
+        for _, told in self.answered():
+            self.assertEqual(told.stations, summary.summary_of(told.rows))
+
+    def test_counts_add_up_and_every_station_stands_once(self):
+        for _, told in self.answered():
+            for _, seasons, *counts, _ in told.stations:
+                self.assertEqual(sum(counts), seasons)
+            self.assertEqual(sum(numbers[1] for numbers in told.stations), len(told.rows))
+            self.assertEqual(sorted(numbers[0] for numbers in told.stations), sorted({row[0] for row in told.rows}))
+
+    def test_all_else_in_both_tables_is_kept(self):
+        for told in self.told:
+            n, m = (0, 0) if told.refusal else told.counts
+            self.assertEqual(told.kept, (summary.MOST_ROWS - calc.ROW_LENGTH * n,
+                                         summary.MOST_SUMMARY - summary.STATION_LENGTH * m))
+
+    def test_what_is_stored(self):
+        """Refusals of every kind, ties at the highest end, four seasons, the most stations, scattered lines."""
+        refused = {told.refusal.number for told in self.told if told.refusal}
+        self.assertLessEqual({1, 2, 3, 6, 7, 8, 20}, refused)
+        tables = [told for _, told in self.answered()]
+        self.assertIn((calc.MAX_VALUE_LINES, calc.MAX_VALUE_LINES), [told.counts for told in tables])
+        self.assertIn((calc.MAX_VALUE_LINES, calc.MAX_VALUE_LINES // 4), [told.counts for told in tables])
+        self.assertTrue(any(told.counts == (4, 1) for told in tables))
+        verdicts = {row[2] for told in tables for row in told.rows}
+        self.assertEqual(verdicts, set(summary.VERDICTS))
+
+    def test_wrong_summaries_are_told(self):
+        for wrong in WRONG_SUMMARIES:
+            self.assertTrue(any(wrong(told.rows) != told.stations for _, told in self.answered()), wrong.__name__)
+
+    def test_wrong_answers_are_told(self):
+        for wrong in WRONG_ANSWERS:
+            self.assertTrue(any(wrong(*asked) != wanted for asked, wanted in zip(self.asked, self.wanted)), wrong.__name__)
+
+
+class Reader(unittest.TestCase):
+    def test_only_whole_answers_are_read(self):
+        whole_answer = "refused,20,0,0\nkept,5120,1536\n"
+        self.assertEqual(answers_of(whole_answer)[0].refusal, Refusal(20, 0, 0))
+        for text in ("refused,20,0,0\n", "refused,20,0,0\nkept,5120\n", "refused,20,0,0\n1,2\nkept,5120,1536\n",
+                     "summary,1,1\nkept,5120,1536\n", "kept,1,2\n", "refused,020,0,0\nkept,5120,1536\n"):
+            with self.assertRaises((ValueError, IndexError)):
+                answers_of(text)
+
+
+class Program(unittest.TestCase):
+    def test_the_stored_run(self):
+        """No two seasons of a station tie here, so the exact ends name the highest mesh season of every right program."""
+        cases = calc.read_sheet((PROGRAM / "stdin").read_bytes())
+        names, *lines = lines_of((PROGRAM / "stdout").read_text(encoding="ascii"))
+        self.assertEqual(names, ",".join(NAMES))
+        rows = [exact_row(case) for case in cases]
+        self.assertEqual([read_station(line) for line in lines], summary.summary_of(rows))
+        self.assertGreater(len(lines), 1)
+
+
+def exact_row(case):
+    """Station, season, verdict and mesh voltage by the exact ends, which are far from every limit."""
+    ends = calc.exact_ends(case, DEPTH)
+    row = [case.station, case.season, 0, 0]
+    for quantity, pair in zip(calc.QUANTITIES, ends):
+        row += [int(end * quantity.units) for end in pair]
+    row[2] = calc.verdict_of(row)
+    return row
+
+
+if __name__ == "__main__":
+    unittest.main()
