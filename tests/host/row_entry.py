@@ -20,7 +20,6 @@ from tests.calculator.calculator import Refusal
 from tests.sheets import differential, sheets
 
 HARNESS = "target/host/harness"
-NUMBER_BYTES = 8
 ROW = struct.Struct(f"<{calc.ROW_LENGTH}q")  # "eight-byte little-endian signed numbers"
 LINE_BYTES = 160  # "A buffer short of 160 bytes a line is refused with 8."
 LENGTHS, ANSWER = struct.Struct("<II"), struct.Struct("<qQQ")

@@ -2,7 +2,6 @@
 
 import random
 import re
-import struct
 import unittest
 from math import ceil, floor
 from pathlib import Path
@@ -56,22 +55,6 @@ class WrongEntries(unittest.TestCase):
         self.assertEqual(Entry(self.sheet, 3 * 160).wrong(), [])
         self.assertEqual(Entry(self.sheet, 3 * 160 - 1).told, [-8, 0, 0])
 
-    def test_big_endian(self):
-        entry = Entry(self.sheet)
-        entry.write(struct.Struct(f">{calc.ROW_LENGTH}q"))
-        self.assertTrue(entry.wrong())
-
-    def test_four_bytes(self):
-        entry = Entry(self.sheet)
-        entry.rows = [[number % 2**32 for number in row] for row in entry.rows]
-        entry.write(row_entry.ROW)
-        self.assertTrue(entry.wrong())
-
-    def test_refusal_not_negated(self):
-        entry = Entry(self.refused, 1000)
-        entry.told[0] = -entry.told[0]
-        self.assertTrue(entry.wrong())
-
     def test_refusal_that_writes(self):
         for entry in (Entry(self.refused, 1000), Entry(self.sheet, 479)):
             entry.after[0] ^= 1
@@ -82,11 +65,6 @@ class WrongEntries(unittest.TestCase):
             entry = Entry(self.sheet)
             entry.after[at] ^= 1
             self.assertTrue(entry.wrong())
-
-    def test_short_buffer_answered(self):
-        entry = Entry(self.sheet, 479)
-        entry.told[0] = 2
-        self.assertTrue(entry.wrong())
 
     def test_other_count(self):
         entry = Entry(self.sheet)

@@ -103,16 +103,6 @@ class Soundings(unittest.TestCase):
     def assert_wrong(self, numbers, report):
         self.assertTrue(judge(numbers, flat(report), DEPTHS[:1]), f"{numbers} {report}")
 
-    def assert_told(self, change, least):
-        """The report changed so is wrong wherever it is another one, in no fewer lists than told."""
-        told = 0
-        for numbers, report in self.reports:
-            changed = change(numbers, report)
-            if changed != report:
-                self.assert_wrong(numbers, changed)
-                told += 1
-        self.assertGreaterEqual(told, least)
-
 
 class Printed(Soundings):
     def test_the_lists_are_those_of_the_script(self):
@@ -152,50 +142,6 @@ class Printed(Soundings):
 class Judging(Soundings):
     """Wrong programs are told."""
 
-    def test_pi_as_one_fraction(self):
-        """355/113, rounded outward to whole micro-ohm metres."""
-        pi = Fraction(355, 113)
-
-        def ends(exact):
-            value = 2 * pi * exact / 10**6 * readings.UNITS
-            return floor(value), ceil(value)
-
-        def change(numbers, report):
-            products = [a * r for a, r in pairs_of(numbers)]
-            mean = ends(Fraction(sum(products), len(products)))
-            return Report(ends(min(products)), ends(max(products)), mean, readings.soil_of(mean[1]))
-
-        wrong = [numbers for numbers, report in self.reports if judge(numbers, flat(change(numbers, report)), DEPTHS)]
-        self.assertGreaterEqual(len(wrong), 100)
-
-    def test_the_mean_of_least_and_greatest(self):
-        def change(numbers, report):
-            if abs(sum(report.least) + sum(report.greatest) - 2 * sum(report.mean)) * 1000 < sum(report.mean):
-                return report  # these are the same mean
-            mean = tuple((a + b) // 2 for a, b in zip(report.least, report.greatest))
-            return report._replace(mean=mean, soil=readings.soil_of(mean[1]))
-
-        self.assert_told(change, 150)
-
-    def test_the_soil_from_the_lower_mean(self):
-        self.assert_told(lambda numbers, r: r._replace(soil=readings.soil_of(r.mean[0])), 20)
-
-    def test_the_soil_rounded_down_or_to_nearest(self):
-        self.assert_told(lambda numbers, r: r._replace(soil=r.mean[1] // readings.UNITS), 150)
-        self.assert_told(lambda numbers, r: r._replace(soil=round(Fraction(r.mean[1], readings.UNITS))), 80)
-
-    def test_least_and_greatest_exchanged(self):
-        self.assert_told(lambda numbers, r: r._replace(least=r.greatest, greatest=r.least), 150)
-
-    def test_one_pair_left_out(self):
-        """The first or the last pair left out of each of the three."""
-        for part in (slice(2, None), slice(None, -2)):
-            def change(numbers, report):
-                return report_of(right_answer(numbers[part])) if len(numbers) > 2 else report
-            told = [numbers for numbers, report in self.reports
-                    if len(numbers) > 2 and judge(numbers, flat(change(numbers, report)), DEPTHS[:1])]
-            self.assertGreaterEqual(len(told), 150)
-
     def test_ends_moved_or_wide(self):
         for name in readings.PAIR_NAMES:
             for numbers, report in self.reports[::5]:
@@ -204,17 +150,6 @@ class Judging(Soundings):
                 for pair in ((upper + width + 3, upper + 2 * width + 6), (lower - width - 3, lower - 3),
                              (upper + 1, lower), (0, 10**12)):
                     self.assert_wrong(numbers, report._replace(**{name: pair}))
-
-    def test_a_resistance_judged_before_a_distance(self):
-        """14 before 13, and both by the pair that comes first."""
-        told = 0
-        for numbers, refusal in self.refused:
-            pairs = pairs_of(numbers)
-            wrong = [line for line, (_, r) in enumerate(pairs, 1) if not RESISTANCES[0] <= r <= RESISTANCES[1]]
-            if refusal.number == 13 and wrong:
-                self.assertTrue(judge(numbers, Refusal(14, wrong[0], 2), DEPTHS))
-                told += wrong[0] < refusal.line
-        self.assertGreaterEqual(told, 5)
 
     def test_a_changed_refusal(self):
         for numbers, refusal in self.refused:

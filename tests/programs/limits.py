@@ -17,7 +17,7 @@ from pathlib import Path
 
 from tests.calculator import calculator as calc
 from tests.calculator.calculator import Case, Refusal
-from tests.calculator.printed import VERDICT_NAMES, WORDS, read_margins, read_rows, read_verdicts
+from tests.calculator.printed import VERDICT_NAMES, WORDS, read_margins, read_rows
 from tests.questions import fewest, margins
 from tests.sheets import carry, differential, sheets, summary
 

@@ -15,7 +15,6 @@ from tests.sheets import carry
 
 DEPTH = 12
 SHEETS, README = examples.stored()
-LISTINGS = tuple(examples.READERS)
 
 
 # --------------------------------------------------------------------------
@@ -41,97 +40,16 @@ def right(program, sheet):
     return carry.sheet_text(VERDICT_NAMES, lines).decode("ascii")
 
 
-def changed(change, *programs):
-    """The programs with a change to what these print."""
-    return lambda program, sheet: (change if program in programs else str)(right(program, sheet))
+def raised(text):
+    """A text with each number of its last line one higher."""
+    *lines, last = text.splitlines(keepends=True)
+    return "".join((*lines, re.sub(r"\d+", lambda found: str(int(found[0]) + 1), last)))
 
 
-def is_refused(text):
-    return text.startswith("refused,")
+def changed(program, change):
+    """Right programs but for one, whose text is changed."""
+    return lambda asked, sheet: change(right(asked, sheet)) if asked == program else right(asked, sheet)
 
-
-def of_rows(change):
-    """A change to the lines of an answer that is no refusal."""
-    def made(text):
-        names, *lines = text[:-1].split("\n")
-        return text if is_refused(text) else "\n".join((names, *change(lines))) + "\n"
-    return made
-
-
-def of_field(place, change):
-    """A change to one field of each line."""
-    def made(line):
-        fields = line.split(",")
-        fields[place] = change(fields[place])
-        return ",".join(fields)
-    return of_rows(lambda lines: [made(line) for line in lines])
-
-
-def of_refusal(place):
-    """A number of each refusal one higher: its own, its line or its column."""
-    def made(text):
-        if not is_refused(text):
-            return text
-        fields = text[:-1].split(",")
-        fields[place] = str(int(fields[place]) + 1)
-        return ",".join(fields) + "\n"
-    return made
-
-
-def swapped(a, b):
-    return lambda field: {a: b, b: a}.get(field, field)
-
-
-def moved(field):
-    """A number higher by a thousandth."""
-    return str(int(field) + int(field) // 1000)
-
-
-def one_more(field):
-    return str(int(field) + 1)
-
-
-def refuses_nothing(program, sheet):
-    text = right(program, sheet)
-    return right(program, SHEETS["bare.csv"]) if is_refused(text) else text
-
-
-def breaks_off(program, sheet):
-    raise ValueError("exit status 1")
-
-
-WRONG = {
-    "verdicts flipped": changed(of_field(2, swapped("safe", "unsafe")), "verdict"),
-    "verdicts flipped in margins": changed(of_field(2, swapped("safe", "unsafe")), "margins"),
-    "verdicts flipped in rows": changed(of_field(2, swapped("1", "2")), "rows"),
-    "verdicts flipped everywhere": lambda program, sheet: changed(
-        of_field(2, swapped("1", "2") if program == "rows" else swapped("safe", "unsafe")), *LISTINGS)(program, sheet),
-    "undecided told safe": changed(of_field(2, lambda word: "safe" if word == "undecided" else word), "verdict"),
-    "other size": changed(of_field(3, one_more), "rows", "verdict"),
-    "other station": changed(of_field(0, one_more), *LISTINGS),
-    "rows exchanged": changed(of_rows(lambda lines: lines[::-1]), *LISTINGS),
-    "first row copied down": changed(of_rows(lambda lines: lines[:1] * len(lines)), *LISTINGS),
-    "other margins": changed(of_field(3, one_more), "margins"),
-    "other step margins": changed(of_field(4, one_more), "margins"),
-    "margins with the worst line first": changed(
-        of_rows(lambda lines: sorted(lines, key=lambda line: -int(line.split(",")[3]))), "margins"),
-    "a season more": changed(of_field(1, one_more), "summary"),
-    "other highest season": changed(of_field(5, one_more), "summary"),
-    "refuses nothing": refuses_nothing,
-    "breaks off": breaks_off,
-    **{f"row left out by {program}": changed(of_rows(lambda lines: lines[:-1]), program) for program in LISTINGS},
-    **{f"nothing printed by {program}": changed(lambda text: "", program) for program in (*LISTINGS, "summary", "carry", "carry_back")},
-    **{f"{program} refuses all": changed(lambda text: "refused,1,0,0\n", program) for program in (*LISTINGS, "summary", "carry_back")},
-    **{f"other refusal, field {place}, by {program}": changed(of_refusal(place), program)
-       for place in (1, 2, 3) for program in (*LISTINGS, "summary", "carry_back")},
-    **{f"other {ROW_NAMES[place]}": changed(of_field(place, moved), "rows")
-       for place in range(calc.FIRST_PAIR, calc.ROW_LENGTH)},
-}
-
-
-# --------------------------------------------------------------------------
-# The tests.
-# --------------------------------------------------------------------------
 
 class Sheets(unittest.TestCase):
     def test_refused_as_the_name_says(self):
@@ -162,8 +80,10 @@ class Judge(unittest.TestCase):
         self.assertEqual([], examples.judge(SHEETS, README, right))
 
     def test_wrong_programs(self):
-        for name, wrong in WRONG.items():
-            self.assertTrue(examples.judge(SHEETS, README, wrong), name)
+        """Each program in turn with other numbers, nothing printed, or every sheet refused."""
+        for program in (*examples.READERS, "summary", "carry_back"):
+            for change in (raised, lambda text: "", lambda text: "refused,1,0,0\n"):
+                self.assertTrue(examples.judge(SHEETS, README, changed(program, change)), program)
 
     def test_no_program(self):
         self.assertTrue(examples.judge(SHEETS, README, examples.runner("target/none")))
@@ -181,8 +101,7 @@ class Text(unittest.TestCase):
         for name, commands in examples.sections(README):
             for at, (command, shown) in enumerate(commands):
                 lines = shown.splitlines(keepends=True)
-                last = re.sub(r"\d+", lambda found: one_more(found[0]), lines[-1])
-                for other in (lines[:-1], lines + lines[-1:], lines[:-1] + [last], []):
+                for other in (lines[:-1], lines + lines[-1:], [raised(shown)], []):
                     altered = [*commands[:at], [command, "".join(other)], *commands[at + 1 :]]
                     self.assertTrue(examples.judge_section(name, altered, right), command)
 

@@ -7,11 +7,11 @@ program prints for crates/questions/stdin, against the separately written calcul
 import unittest
 from collections import defaultdict
 from fractions import Fraction
-from itertools import combinations, permutations, product
+from itertools import product
 
 from tests.calculator import calculator as calc
 from tests.calculator.calculator import Case, Refusal
-from tests.calculator.printed import lines_of, read_asked, whole
+from tests.calculator.printed import read_asked, whole
 from tests.measurements import readings, staged
 from tests.questions import fewest, headroom, questions, working
 from tests.questions.questions import RECORD_KINDS, SIZE_KINDS, TABLE_10, TABLE_10_XR
@@ -27,23 +27,8 @@ MOST_NUMBER = 2**64 - 1
 # The least count of different questions of each kind.
 LEAST = {"factor": 750, "size": 270, "tolerable": 220, "resistance": 480, "row": 800,
          "ln": 400}
-# Which clocks each number of an answer hangs on.
-NUMBERS_BY_CLOCK = {
-    "factor": {"factor": ("clear",)},
-    "size": {"size": ("clear", "wire")},
-    "tolerable": {"tolerable_touch": ("shock",), "tolerable_step": ("shock",)},
-    "row": {
-        "size": ("clear", "wire"), "current": ("clear",), "factor": ("clear",),
-        "tolerable_touch": ("shock",), "tolerable_step": ("shock",), "mesh": ("clear",),
-        "step": ("clear",), "rise": ("clear",),
-    },
-}
-# Which numbers hang on the frequency.
-NUMBERS_BY_HZ = {"factor": ("factor",), "size": ("size",),
-                 "row": ("size", "current", "factor", "mesh", "step", "rise")}
 # Which numbers hang on the two counts.
 NUMBERS_BY_COUNT = {"resistance": ("resistance",), "row": ("mesh", "step", "resistance", "rise")}
-TELL_DEPTH = 6
 RESISTANCE_NAMES = ("soil", *calc.COUNTS, "space", "depth", "rods", "rodlen", "place")
 
 
@@ -110,17 +95,6 @@ def quantity_of(name):
 
 def is_refused(answer):
     return isinstance(answer, Refusal)
-
-
-def is_told(name, right, wrong):
-    """Whether two sizes differ by more than right ends of one factor make them, or two pairs by more than
-    any width: a hundredth, and ten times what is allowed beside a share.
-    """
-    if name == "size":
-        return abs(right - wrong) > 1
-    quantity = quantity_of(name)
-    apart = max(right.lower - wrong.upper, wrong.lower - right.upper)
-    return apart > max(map(abs, (*right, *wrong))) / 100 + Fraction(10 * quantity.plus, quantity.units)
 
 
 def has_one_time(case):
@@ -207,25 +181,6 @@ class Judging(Asked):
             for changed in ((number + 1,), (number - 1,), (number, number), Refusal(5, 0, 1)):
                 self.assertTrue(self.judge("size", case, changed))
 
-    def test_a_size_by_the_lower_end_is_wrong(self):
-        """In the cases at which a billionth more of the factor takes one kcmil more; and there a size
-        with another upper end than that of the factor asked alone.
-        """
-        told = defaultdict(int)
-        for case, size in self.answered("size").items():
-            lower, _ = self.questions["factor"][case]
-            by_lower = (calc.conductor_kcmil(case, lower),)
-            if by_lower != size:
-                self.assertTrue(self.judge("size", case, by_lower))
-                self.assertTrue(judge("size", case, size, {case: (lower, lower)}))
-                told[case.metal] += 1
-        self.assertTrue(all(told[metal] >= 2 for metal in range(1, 12)), told)
-
-    def test_a_size_without_its_factor_is_not_judged(self):
-        for case, size in self.answered("size").items():
-            self.assertTrue(judge("size", case, size, {}))
-            self.assertTrue(judge("size", case, size, {case: Refusal(5, 0, 22)}))
-
     def test_a_row_with_another_factor_than_the_one_asked_alone_is_wrong(self):
         """Wider by a billionth, which the row's own rules allow."""
         at, factors = calc.pair_place("factor"), self.answered("factor")
@@ -256,10 +211,6 @@ class Judging(Asked):
                                  (lower,), (lower, upper, upper)):
                         changed = answer[:at] + pair + answer[at + 2 :]
                         self.assertTrue(self.judge(kind, asked, changed), f"{kind} {asked} {changed}")
-
-    def test_touch_and_step_exchanged_are_wrong(self):
-        for asked, answer in list(self.answered("tolerable").items())[::7]:
-            self.assertTrue(self.judge("tolerable", asked, answer[2:] + answer[:2]))
 
     def test_a_changed_row_is_wrong(self):
         for case, row in list(self.answered("row").items())[::7]:
@@ -365,6 +316,12 @@ class Coverage(Asked):
     def triples(self):
         """Clear time, X/R and frequency of each factor that is answered, with its pair."""
         return {(case.clear, case.xr, case.hz): answer for case, answer in self.answered("factor").items()}
+
+    def test_each_clock_at_both_ends_with_the_others(self):
+        for kind in questions.CLOCK_KINDS:
+            times = {tuple(getattr(case, clock) for clock in calc.CLOCKS) for case in self.answered(kind)}
+            ends = [calc.SPANS[clock][0] for clock in calc.CLOCKS]
+            self.assertLessEqual(set(product(*ends)), times, kind)
 
     def test_table_10(self):
         """At 60 Hz both ends are the printed entry to the nearest thousandth."""
@@ -530,83 +487,6 @@ class Coverage(Asked):
         refused = self.refused("ln")
         for fraction, column in wanted.items():
             self.assertEqual(refused.get(fraction), (5, 0, column))
-
-
-def numbers_by(kind, case):
-    """The size and the pairs that the calculator answers, by name."""
-    numbers = {**calc.exact_ends(case, TELL_DEPTH)._asdict(), "size": calc.row_at(case, TELL_DEPTH)[3]}
-    if kind == "row":
-        return numbers
-    return {name: numbers[name] for name in PAIRS.get(kind, (kind,))}
-
-
-class Told(unittest.TestCase):
-    """What the stored questions tell from a right program."""
-
-    @classmethod
-    def setUpClass(cls):
-        cls.sound = defaultdict(list)  # by kind: the records that are not refused
-        for line in lines_of(questions.text()):
-            question = read_question(line)
-            if question and question[0] in RECORD_KINDS and not calc.check_record(question[1]):
-                cls.sound[question[0]].append(question[1])
-
-    def assert_told(self, kind, names, change):
-        """Each of these numbers changes in some question changed so."""
-        untold = set(names)
-        for case in self.sound[kind]:
-            if not untold:
-                return
-            right, wrong = numbers_by(kind, case), numbers_by(kind, change(case))
-            untold = {name for name in untold if not is_told(name, right[name], wrong[name])}
-        self.assertEqual(set(), untold, kind)
-
-
-class Clocks(Told):
-    """A program that reads one clock for another is told, in any one number."""
-
-    def assert_clocks_told(self, kind, clocks, change):
-        names = [name for name, by in NUMBERS_BY_CLOCK[kind].items() if clocks & set(by)]
-        self.assert_told(kind, names, change)
-
-    def test_one_clock_read_for_another(self):
-        for kind, (read, meant) in product(NUMBERS_BY_CLOCK, permutations(calc.CLOCKS, 2)):
-            self.assert_clocks_told(kind, {meant}, lambda case: case._replace(
-                **{meant: getattr(case, read)}))
-
-    def test_two_clocks_exchanged(self):
-        for kind, (one, other) in product(NUMBERS_BY_CLOCK, combinations(calc.CLOCKS, 2)):
-            self.assert_clocks_told(kind, {one, other}, lambda case: case._replace(
-                **{one: getattr(case, other), other: getattr(case, one)}))
-
-    def test_each_clock_at_both_ends_with_the_others(self):
-        for kind in questions.CLOCK_KINDS:
-            times = {tuple(getattr(case, clock) for clock in calc.CLOCKS)
-                     for case in self.sound[kind]}
-            ends = [calc.SPANS[clock][0] for clock in calc.CLOCKS]
-            self.assertLessEqual(set(product(*ends)), times, kind)
-
-
-class Frequencies(Told):
-    """A program that works one frequency for both is told, in any one number."""
-
-    def test_one_frequency_for_both(self):
-        for (kind, names), hz in product(NUMBERS_BY_HZ.items(), (50, 60)):
-            self.assert_told(kind, names, lambda case: case._replace(hz=hz))
-
-
-class Counts(Told):
-    """A program that works a rectangle as another yard is told, in any one number."""
-
-    def test_one_count_read_for_another(self):
-        for (kind, names), (read, meant) in product(
-                NUMBERS_BY_COUNT.items(), permutations(calc.COUNTS)):
-            self.assert_told(kind, names, lambda case: case._replace(**{meant: getattr(case, read)}))
-
-    def test_the_mean_count_for_both(self):
-        for kind, names in NUMBERS_BY_COUNT.items():
-            self.assert_told(kind, names, lambda case: calc.with_lines(
-                case, (case.across + case.along) // 2))
 
 
 if __name__ == "__main__":

@@ -11,30 +11,6 @@ from tests.questions import fewest, questions
 from tests.sheets import sheets
 
 
-def rods_four_first(case, side):
-    return sorted(fewest.yards(case, side), key=lambda yard: (yard.across, yard.rods == 0, yard.rods))
-
-
-def counts_falling(case, side):
-    return sorted(fewest.yards(case, side), key=lambda yard: (-yard.across, yard.rods))
-
-
-def spacing_of_the_case(case, side):
-    return [yard._replace(space=7000) for yard in fewest.yards(case, side)]
-
-
-def a_count_skipped(case, side):
-    some = list(fewest.yards(case, side))
-    return [yard for yard in some if yard.across != max(found.across for found in some)]
-
-
-def rods_inside(case, side):
-    return [yard._replace(place=2 if yard.rods else 0) for yard in fewest.yards(case, side)]
-
-
-WRONG_LISTS = (rods_four_first, counts_falling, spacing_of_the_case, a_count_skipped, rods_inside)
-
-
 class Searches(unittest.TestCase):
     @classmethod
     def setUpClass(cls):
@@ -70,17 +46,6 @@ class Searches(unittest.TestCase):
         self.assertTrue(any(got[0] == "found" and got[3] == 1 for got in told))
         self.assertTrue(any(got[0] == "found" and got[3] > 11 for got in told))
         self.assertLessEqual(max(got[-1] for got in told), fewest.MOST_YARDS)
-
-    def test_wrong_lists_are_told(self):
-        for wrong in WRONG_LISTS:
-            told = 0
-            for (case, side), got in self.sound().items():
-                tried = next((place for place, yard in enumerate(wrong(case, side), start=1)
-                              if fewest.told_by_all(yard)), None)
-                yard = None if tried is None else list(wrong(case, side))[tried - 1]
-                other = ("none", len(list(wrong(case, side)))) if yard is None else ("found", yard.across, yard.rods, tried)
-                told += other != got
-            self.assertGreater(told, 0, wrong.__name__)
 
     def test_unread_values_change_nothing(self):
         anything = self.answers[questions.YARD._replace(across=26), 70000]

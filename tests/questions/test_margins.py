@@ -10,14 +10,13 @@ wherever one is above its limit by more than both widths. The order is that of t
 import math
 import random
 import unittest
-from fractions import Fraction
 from itertools import product
 
 from tests.calculator import calculator as calc
 from tests.calculator.calculator import Refusal
 from tests.calculator.printed import MARGIN_NAMES, read_margins
 from tests.questions import margins
-from tests.questions.margins import Margin, above, margin_of, margins_of
+from tests.questions.margins import Margin, above, margins_of
 
 DEPTHS = (6, 9)
 ROW_DEPTH = 12  # of the calculator's own rows
@@ -89,91 +88,6 @@ def judge_told(cases, told):
 
 
 # --------------------------------------------------------------------------
-# Wrong programs.
-# --------------------------------------------------------------------------
-
-def ends_of(row):
-    pairs = calc.row_pairs(row)
-    return [(getattr(pairs, voltage), getattr(pairs, limit)) for voltage, limit in PAIRS]
-
-
-def with_numbers(number):
-    """A program whose numbers are others: a function of the ends of a voltage and of its limit."""
-    def wrong(rows):
-        return [Margin(*row[:3], *(number(*ends) for ends in ends_of(row))) for row in rows]
-    return wrong
-
-
-def with_verdict(verdict):
-    """A program whose verdicts are others: a function of a right margin."""
-    def wrong(rows):
-        return [margin._replace(verdict=verdict(margin)) for margin in margins_of(rows)]
-    return wrong
-
-
-def by_key(key):
-    """A program with another order: a sort of the lines by a key of the margin."""
-    return lambda rows: sorted(margins_of(rows), key=key)
-
-
-def sign(number):
-    return calc.UNSAFE if number > 0 else calc.SAFE
-
-
-def worst(margin):
-    return max(margin.mesh, margin.step)
-
-
-def gathered(rows, key):
-    """The lines of each station together, stations by first appearance, by a key within a station."""
-    stations = [row[0] for row in rows]
-    return sorted(margins_of(rows), key=lambda margin: (stations.index(margin.station), key(margin)))
-
-
-def step_against_touch(rows):
-    def wrong(row):
-        pairs = calc.row_pairs(row)
-        return margin_of(row)._replace(step=above(pairs.step[1], pairs.tolerable_touch[0]))
-    return [wrong(row) for row in rows]
-
-
-def only_the_worst(rows):
-    first = {}
-    for margin in gathered(rows, lambda margin: -worst(margin)):
-        first.setdefault(margin.station, margin)
-    return list(first.values())
-
-
-WRONG = {
-    "lower ends used": with_numbers(lambda voltage, limit: above(voltage[0], limit[1])),
-    "lower end of the voltage": with_numbers(lambda voltage, limit: above(voltage[0], limit[0])),
-    "upper end of the limit": with_numbers(lambda voltage, limit: above(voltage[1], limit[1])),
-    "rounded down": with_numbers(lambda voltage, limit: above(voltage[1] - limit[0] // 1000, limit[0])),
-    "rounded to zero": with_numbers(lambda voltage, limit: int(Fraction(1000 * (voltage[1] - limit[0]), limit[0]))),
-    "one more where nothing is rounded": with_numbers(lambda voltage, limit: 1000 * (voltage[1] - limit[0]) // limit[0] + 1),
-    "whole percent": with_numbers(lambda voltage, limit: -(100 * (limit[0] - voltage[1]) // limit[0])),
-    "share of the voltage": with_numbers(lambda voltage, limit: -(1000 * (limit[0] - voltage[1]) // voltage[1])),
-    "below for above": with_numbers(lambda voltage, limit: -above(voltage[1], limit[0])),
-    "voltage as a share of its limit": with_numbers(lambda voltage, limit: 1000 + above(voltage[1], limit[0])),
-    "mesh and step exchanged": lambda rows: [margin._replace(mesh=margin.step, step=margin.mesh) for margin in margins_of(rows)],
-    "step against tolerable touch": step_against_touch,
-    "verdict by mesh alone": with_verdict(lambda margin: sign(margin.mesh)),
-    "verdict by step alone": with_verdict(lambda margin: sign(margin.step)),
-    "undecided told unsafe": with_verdict(lambda margin: sign(worst(margin))),
-    "undecided told safe": with_verdict(lambda margin: 1 if margin.verdict == calc.UNDECIDED else margin.verdict),
-    "stations by number": by_key(lambda margin: margin.station),
-    "lines of a station together": lambda rows: gathered(rows, lambda margin: 0),
-    "within a station the worst first": lambda rows: gathered(rows, lambda margin: -worst(margin)),
-    "within a station by season": lambda rows: gathered(rows, lambda margin: margin.season),
-    "worst of all first": by_key(lambda margin: -worst(margin)),
-    "last line first": lambda rows: margins_of(rows)[::-1],
-    "only the worst row": only_the_worst,
-    "last row left out": lambda rows: margins_of(rows[:-1]),
-    "first row in every line": lambda rows: margins_of(rows)[:1] * len(rows),
-}
-
-
-# --------------------------------------------------------------------------
 # The tests.
 # --------------------------------------------------------------------------
 
@@ -223,14 +137,6 @@ class WrongPrograms(unittest.TestCase):
         right = margins_of(self.rows)
         self.assertEqual([], margins.judge(self.rows, list(map(list, right))))
         self.assertEqual([], judge_told(self.cases, right))
-
-    def test_wrong_beside_the_rows(self):
-        for name, wrong in WRONG.items():
-            self.assertTrue(margins.judge(self.rows, list(map(list, wrong(self.rows)))), name)
-
-    def test_wrong_by_the_calculator(self):
-        for name, wrong in WRONG.items():
-            self.assertTrue(judge_told(self.cases, wrong(self.rows)), name)
 
     def test_numbers_two_off(self):
         """Told of every number that is not large; the ends leave room for at most two of them."""

@@ -111,32 +111,6 @@ class Judging(Workings):
                 for wrong in (Refusal(5, 0, 1), got[:-1], got + (0,)):
                     self.assertTrue(working.judge(case, wrong, DEPTHS))
 
-    def test_wrong_programs_are_told(self):
-        """Quantities of another case, put in by name; each changes some answer."""
-        programs = {
-            "cs": lambda case: case._replace(layer=0, thick=0),  # Cs is 1 with a layer too
-            "root_time": lambda case: case._replace(shock=case.clear),
-            "side": lambda case: case._replace(along=case.across),
-            "lc": lambda case: case._replace(along=case.across),
-            "lm": lambda case: case._replace(place=2 if case.place else 0),  # rods weighed as conductors
-            "n": lambda case: case._replace(along=case.across),
-            "ki": lambda case: case._replace(along=case.across),
-            "kii": lambda case: case._replace(place=1 if case.place else 0),  # 1 wherever there are rods
-            "kh": lambda case: case._replace(depth=case.depth + 1),
-            "km": lambda case: case._replace(place=1 if case.place else 0),
-            "ks": lambda case: case._replace(along=case.across),
-            "driven": lambda case: case._replace(place=2 if case.place else 0),
-        }
-        for name, change in programs.items():
-            at = Working._fields.index(name)
-            units = working.QUANTITIES[at].units
-            told = 0
-            for case, got in list(self.sound().items())[::5]:
-                ends = working.working(change(case), DEPTHS[-1])[at]
-                pair = (int(ends.lower * units), -int(-ends.upper * units // 1))
-                told += bool(working.judge(case, self.changed(got, name, pair), DEPTHS))
-            self.assertGreater(told, 3, name)
-
 
 class AnnexB(Workings):
     """Each printed figure is the rounding of ours, or is what the Annex makes of figures that it has rounded."""

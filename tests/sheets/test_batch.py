@@ -221,12 +221,6 @@ class Coverage(Batch):
         self.assertGreaterEqual(min(first.count(calc.SAFE), first.count(calc.UNSAFE)), LEAST_OF_EACH)
         self.assertIn(calc.SAFE, {told[1] for told in seasons if told[0] != calc.SAFE})
 
-    def test_a_yard_that_turns_red_is_told(self):
-        safe, unsafe, undecided = calc.SAFE, calc.UNSAFE, calc.UNDECIDED
-        self.assertTrue(stays_safe([unsafe, undecided, safe, safe]))
-        for told in ([safe, unsafe, safe, safe], [unsafe, safe, undecided, safe], [safe, safe, safe, unsafe]):
-            self.assertFalse(stays_safe(told))
-
     def test_one_sheet_is_of_the_pairs_of_counts(self):
         share = sheets.cases_of_pairs(sheets.BATCH_SEED)[:: sheets.PAIRS_EVERY]
         self.assertLessEqual(len(share), calc.MAX_VALUE_LINES)

@@ -49,17 +49,6 @@ class Answers(Rows):
         ]
         self.assertEqual([], wrong)
 
-    def test_changed_rows_are_wrong(self):
-        """Each number a little off, and the neighbour's row, are told."""
-        for i, case in enumerate(self.cases):
-            row = self.rows[i]
-            for place in range(calc.ROW_LENGTH):
-                off = 1 if place < calc.FIRST_PAIR else 10**8
-                for by in (-off, off):
-                    changed = row[:place] + [row[place] + by] + row[place + 1 :]
-                    self.assertTrue(calc.judge_row(case, changed, DEPTHS[:1]), ROW_NAMES[place])
-            self.assertTrue(calc.judge_row(case, self.rows[i - 1], DEPTHS[:1]))
-
     def test_example_b2(self):
         """Annex B: unsafe without rods; with them touch 840.5 V, Rg 2.75, mesh and step below."""
         bare, rodded = self.row_of(B1), self.row_of(B2)

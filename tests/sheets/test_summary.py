@@ -61,103 +61,6 @@ def answers_of(text):
 
 
 # --------------------------------------------------------------------------
-# Wrong programs.
-# --------------------------------------------------------------------------
-
-def by_station(rows, numbers_of):
-    return [numbers_of(station, [row for row in rows if row[0] == station]) for station in summary.stations_of(rows)]
-
-
-def later_line_on_a_tie(rows):
-    return by_station(rows, lambda station, own: [
-        *summary.numbers_of(station, own)[:5], summary.worst(own[::-1])[1]])
-
-
-def lower_mesh_end(rows):
-    return by_station(rows, lambda station, own: [
-        *summary.numbers_of(station, own)[:5], max(own, key=lambda row: row[summary.MESH_LOWER])[1]])
-
-
-def touch_for_mesh(rows):
-    return by_station(rows, lambda station, own: [
-        *summary.numbers_of(station, own)[:5], max(own, key=lambda row: row[summary.MESH_UPPER - 4])[1]])
-
-
-def first_season(rows):
-    return by_station(rows, lambda station, own: [*summary.numbers_of(station, own)[:5], own[0][1]])
-
-
-def undecided_is_unsafe(rows):
-    return [[station, seasons, safe, unsafe + undecided, 0, worst]
-            for station, seasons, safe, unsafe, undecided, worst in summary.summary_of(rows)]
-
-
-def seasons_counted_twice(rows):
-    return [[station, 2 * seasons, *rest] for station, seasons, *rest in summary.summary_of(rows)]
-
-
-def stations_by_number(rows):
-    return sorted(summary.summary_of(rows))
-
-
-def stations_by_last_appearance(rows):
-    return summary.summary_of(rows)[::-1]
-
-
-def runs_of_a_station(rows):
-    """A station named again where its lines are not together."""
-    runs = []
-    for row in rows:
-        if not runs or runs[-1][0][0] != row[0]:
-            runs.append([])
-        runs[-1].append(row)
-    return [summary.numbers_of(run[0][0], run) for run in runs]
-
-
-def worst_first(rows):
-    def highest(numbers):
-        return -summary.worst([row for row in rows if row[0] == numbers[0]])[summary.MESH_UPPER]
-    return sorted(summary.summary_of(rows), key=highest)
-
-
-WRONG_SUMMARIES = (
-    later_line_on_a_tie, lower_mesh_end, touch_for_mesh, first_season, undecided_is_unsafe, seasons_counted_twice,
-    stations_by_number, stations_by_last_appearance, runs_of_a_station, worst_first)
-
-
-def twenty_before_eight(sheet, rows_room, summary_room):
-    cases = summary.answer(sheet, summary.MOST_ROWS, summary_room)
-    return cases if isinstance(cases, Refusal) else calc.read_sheet(sheet, rows_room)
-
-
-def twenty_before_all(sheet, rows_room, summary_room):
-    return Refusal(20, 0, 0) if summary_room == 0 else summary.answer(sheet, rows_room, summary_room)
-
-
-def exact_fit_refused(sheet, rows_room, summary_room):
-    return summary.answer(sheet, rows_room, summary_room - 1)
-
-
-def never_twenty(sheet, rows_room, summary_room):
-    return calc.read_sheet(sheet, rows_room)
-
-
-def room_for_every_line(sheet, rows_room, summary_room):
-    cases = calc.read_sheet(sheet, rows_room)
-    if isinstance(cases, Refusal) or summary_room >= summary.STATION_LENGTH * len(cases):
-        return cases
-    return Refusal(20, 0, 0)
-
-
-def five_a_station(sheet, rows_room, summary_room):
-    return summary.answer(sheet, rows_room, summary_room * 6 // 5)
-
-
-WRONG_ANSWERS = (
-    twenty_before_eight, twenty_before_all, exact_fit_refused, never_twenty, room_for_every_line, five_a_station)
-
-
-# --------------------------------------------------------------------------
 # The tests.
 # --------------------------------------------------------------------------
 
@@ -214,14 +117,6 @@ class Stored(unittest.TestCase):
         self.assertTrue(any(told.counts == (4, 1) for told in tables))
         verdicts = {row[2] for told in tables for row in told.rows}
         self.assertEqual(verdicts, set(summary.VERDICTS))
-
-    def test_wrong_summaries_are_told(self):
-        for wrong in WRONG_SUMMARIES:
-            self.assertTrue(any(wrong(told.rows) != told.stations for _, told in self.answered()), wrong.__name__)
-
-    def test_wrong_answers_are_told(self):
-        for wrong in WRONG_ANSWERS:
-            self.assertTrue(any(wrong(*asked) != wanted for asked, wanted in zip(self.asked, self.wanted)), wrong.__name__)
 
 
 class Reader(unittest.TestCase):
