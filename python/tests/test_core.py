@@ -1,4 +1,4 @@
-"""The binding: numbers that the library's types cannot hold, empty sheets, and answers beside the stored runs of the proved programs."""
+"""The binding: numbers that the library's types cannot hold, empty sheets, and answers compared with the stored runs of the proved programs."""
 from __future__ import annotations
 
 import dataclasses

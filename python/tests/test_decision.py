@@ -170,7 +170,7 @@ class Licences(unittest.TestCase):
         self.assertFalse(station([case(104, 1), case(104, 2)], [1]).released)
         self.assertTrue(station([case(104, 1)], [1]).released)
 
-    def test_stations_outside_the_licence_are_told(self):
+    def test_stations_outside_the_licence_are_reported(self):
         portfolio = decision.portfolio(SHEET, granted(104, (1, 2)))
         self.assertEqual(portfolio.unlicensed, (101, 110, 118, 123, 131, 140, 152, 160, 171, 188, 204))
         self.assertEqual(EXAMPLE.unlicensed, ())

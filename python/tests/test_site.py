@@ -96,7 +96,7 @@ class Readings(unittest.TestCase):
                          [(Pair(3048, 3048), Pair(712, 713)), (Pair(5000, 5000), Pair(2000, 2000))])
 
     def test_readings_between_milliohms(self):
-        """Both sides are asked; the ends hold what the exact reading gives, and the soil is that of the upper side."""
+        """Both sides are asked; the ends enclose what the exact reading gives, and the soil is that of the upper side."""
         done = run("wenner", "--reading", "3.0005,0.7125", "--reading", "10ft,2")
         low, high = core.soil([(3000, 712), (3048, 2000)]), core.soil([(3001, 713), (3048, 2000)])
         self.assertEqual(done.err, "warning: the greatest apparent resistivity is over 2.8 times the least. IEEE Std 80, 13.4: \"If there is a large "

@@ -87,7 +87,7 @@ CLOCKS = ("shock", "clear", "wire")
 # The conductors one way and the other.
 COUNTS = ("across", "along")
 
-# Groups whose members are all 0 or all not 0; the first one's column is told,
+# Groups whose members are all 0 or all not 0; the first one's column is reported,
 # and the first group comes before the second.
 ZERO_GROUPS = (("layer", "thick"), ("rods", "rodlen", "place"))
 
@@ -125,7 +125,7 @@ QUANTITIES = (
 )
 FIRST_PAIR = 4  # place in the row of the first pair's lower end
 
-LN_UNITS = 10**9  # the logarithm is told in billionths
+LN_UNITS = 10**9  # the logarithm is reported in billionths
 LN_WIDTH = 200
 LN_MAX = 10**15
 
@@ -136,7 +136,7 @@ MIN_DEPTH = 3
 DEFAULT_DEPTH = 12
 SHOWN_DECIMALS = 6
 
-Grid = namedtuple("Grid", (*COUNTS, "space"))  # what n hangs on
+Grid = namedtuple("Grid", (*COUNTS, "space"))  # what n depends on
 Refusal = namedtuple("Refusal", "number line column")
 Ends = namedtuple("Ends", [quantity.name for quantity in QUANTITIES])
 
@@ -197,7 +197,7 @@ def as_pair(value):
 
 
 def different_ends(pair):
-    """The ends of a pair, told once if they are equal."""
+    """The ends of a pair, given once if they are equal."""
     return pair[:1] if pair.lower == pair.upper else pair[:]
 
 
@@ -456,7 +456,7 @@ def read_value_lines(names, value_lines, form):
 def wrong_form_column(fields, count):
     """Refusal 3: the leftmost wrong, missing or surplus value, or 0, where there are so many names.
 
-    An empty line parts into one empty field, "an empty value in column 1".
+    An empty line splits into one empty field, "an empty value in column 1".
     """
     for column, field in enumerate(fields[:count], start=1):
         if not has_value_form(field):
@@ -484,7 +484,7 @@ def in_document_order(order, values, form):
 
 
 def check_case(case, line, order, form):
-    """Refusals 5 and 6 of one case; order tells each column's place in the form's names."""
+    """Refusals 5 and 6 of one case; order gives each column's place in the form's names."""
     for column, place in enumerate(order, start=1):
         if not any(low <= case[place] <= high for low, high in form.ranges[place]):
             return Refusal(5, line, column)
@@ -788,8 +788,8 @@ def upper_current(row):
     return Fraction(row_pairs(row).current[1], CURRENT_UNITS)
 
 
-def holds(lower, upper, ends, units):
-    """Whether a reported pair holds the exact value at one depth: "its lower
+def encloses(lower, upper, ends, units):
+    """Whether a reported pair encloses the exact value at one depth: "its lower
     end is not above the depth's upper end and its upper end not below the
     depth's lower end".
     """
@@ -867,7 +867,7 @@ def judge_pair(name, pair, ends_at, units, allowed):
     if lower > upper:
         complaints.append(f"{name}: lower end {lower} is above upper end {upper}")
     for k, ends in ends_at.items():
-        if not holds(lower, upper, ends, units):
+        if not encloses(lower, upper, ends, units):
             shown = " .. ".join(shown_ends(ends, units))
             complaints.append(f"{name}: {lower} .. {upper} misses {shown} of depth {k}")
     if upper - lower > allowed:
@@ -897,13 +897,13 @@ def judge_verdict(case, row, depths):
 
 
 def judge_ln(p, q, lower, upper, depths):
-    """What is wrong with a logarithm told in signed billionths."""
+    """What is wrong with a logarithm reported in signed billionths."""
     ends_at = {k: ln_ends(p, q, k) for k in depths}
     return judge_pair(f"ln {p}/{q}", (lower, upper), ends_at, LN_UNITS, LN_WIDTH)
 
 
 def judge_factor(clear, xr, hz, lower, upper, depths):
-    """What is wrong with a decrement factor told in billionths."""
+    """What is wrong with a decrement factor reported in billionths."""
     ends_at = {k: factor_ends(clear, xr, hz, k) for k in depths}
     name = f"factor of {clear} ms, X/R {xr}, {hz} Hz"
     return judge_pair(name, (lower, upper), ends_at, FACTOR_UNITS, FACTOR_WIDTH)

@@ -1,4 +1,4 @@
-"""Reads what the programs print: whole numbers, rows and refusals, and nothing beside them."""
+"""Reads what the programs print: whole numbers, rows and refusals, and nothing else."""
 
 from tests.calculator import calculator as calc
 from tests.calculator.calculator import Refusal
@@ -42,10 +42,10 @@ def lines_of(text):
     return text[:-1].split("\n")
 
 
-def sheet_answers(asked, told):
+def sheet_answers(asked, reported):
     """What `sheets` printed for each part of its input, without the part's first line and the empty line after the answers."""
     parts = asked.split(SHEET_END)[:-1]
-    *printed, rest = told.split("\n\n")
+    *printed, rest = reported.split("\n\n")
     heads = [part.split(b"\n")[0].decode("ascii") + "\n" for part in parts]
     if rest or len(printed) != len(parts) or not all(map(str.startswith, printed, heads)):
         raise ValueError("not an answer to each part, after its first line")

@@ -89,7 +89,7 @@ def is_wider(pair, ends, most=ROUNDED):
 
 
 def clear_caches():
-    """So that a replaced function of the calculator, or its own again, is asked anew."""
+    """So that a replaced function of the calculator, or its own again, is asked again."""
     for function in vars(calc).values():
         if hasattr(function, "cache_clear"):
             function.cache_clear()

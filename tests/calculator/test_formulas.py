@@ -1,4 +1,4 @@
-"""The formulas in the calculator: the decrement factor, the conductor size, times, rectangles and counts, beside doubles."""
+"""The formulas in the calculator: the decrement factor, the conductor size, times, rectangles and counts, against doubles."""
 
 import itertools
 import math
@@ -165,7 +165,7 @@ class ConductorSize(unittest.TestCase):
 
 
 class Clocks(unittest.TestCase):
-    """Three times that differ: each number reads its own, as worked by hand."""
+    """Three times that differ: each number reads its own, as computed by hand."""
 
     # Shock 1000 ms and bare soil 100 as in document 01; clear 100 ms with X/R 40, at which Table 10
     # has Df 1.378.
@@ -441,7 +441,7 @@ class Rectangles(unittest.TestCase):
 
 
 class Counts(unittest.TestCase):
-    """How large and how small what hangs on the counts is, over all unequal ones."""
+    """How large and how small what depends on the counts is, over all unequal ones."""
 
     def spans(self, k, spaces):
         """By name the least lower and the greatest upper end, each with its counts."""
@@ -505,7 +505,7 @@ class Counts(unittest.TestCase):
         self.assertEqual(found, {"kii": set(range(3)), "half-power": set(range(6))})
 
     def test_mesh_factor_and_lengths(self):
-        """Over the ends of all that Km and LM hang on, for the corners of the counts."""
+        """Over the ends of all that Km and LM depend on, for the corners of the counts."""
         km, longer = [], []
         for counts, place, space, depth, dia in itertools.product(
                 COUNTS, (0, 1), (2500, 30000), (250, 2500), (50, 300)):

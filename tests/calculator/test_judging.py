@@ -1,4 +1,4 @@
-"""The calculator judges rows, and tells wrong calculators."""
+"""The calculator judges rows: every changed number, width and verdict is seen."""
 
 import math
 import random

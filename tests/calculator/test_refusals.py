@@ -42,7 +42,7 @@ class Refusals(unittest.TestCase):
             fewer = ",".join(names[: column - 1])
             self.assert_refused(sheet_of(line, header=fewer), 2, 1, column)
 
-    def test_2_repeated_name_is_told_where_it_is_repeated(self):
+    def test_2_repeated_name_is_refused_where_it_is_repeated(self):
         names = HEADER.split(",")
         names[9] = "soil"
         self.assert_refused(sheet_of(SAMPLE_LINES[0], header=",".join(names)), 2, 1, 10)
@@ -68,7 +68,7 @@ class Refusals(unittest.TestCase):
             self.assertEqual(calc.read_sheet(text(turned[0] + ",hz", turned[1] + ",60")), [YARD])
 
     def test_2_names_of_document_01(self):
-        """One time, one count of lines, or both: told at the leftmost of them."""
+        """One time, one count of lines, or both: refused at the leftmost of them."""
         one_count = OLD_HEADER.replace("ms", "shock,clear,wire")
         one_time = OLD_HEADER.replace("lines", "across,along")
         self.assertEqual(one_count.replace("lines", "across,along") + ",hz", HEADER)
@@ -82,7 +82,7 @@ class Refusals(unittest.TestCase):
                 self.assert_refused(sheet_of(",".join("1" * len(names)), header=",".join(turned)),
                                     2, 1, column)
 
-    def test_2_a_name_of_document_01_beside_the_new_ones(self):
+    def test_2_a_name_of_document_01_next_to_the_new_ones(self):
         for old, new in (("ms", calc.CLOCKS), ("lines", calc.COUNTS)):
             self.assert_refused(sheet_of(SAMPLE_LINES[0] + ",11", header=HEADER + "," + old), 2, 1, 23)
             self.assert_refused(sheet_of("11," + SAMPLE_LINES[0], header=old + "," + HEADER), 2, 1, 1)

@@ -1,4 +1,4 @@
-"""Yards worked by hand, by the separately written calculator: document 01's, and those of IEEE Std 80, Annex B."""
+"""Yards computed by hand, by the separately written calculator: document 01's, and those of IEEE Std 80, Annex B."""
 
 import unittest
 from fractions import Fraction
@@ -11,16 +11,16 @@ from tests.calculator.samples import BARE, DEPTHS, SAMPLE_LINES, YARD, column_of
 
 class StarredYards(unittest.TestCase):
     def assert_tolerable(self, case, touch, step):
-        """The pairs with both ends there hold the exact values, and pairs
-        one mV beside do not, once the depth is great enough.
+        """The pairs with both ends there enclose the exact values, and pairs
+        one mV off do not, once the depth is great enough.
         """
         for k in DEPTHS:
             ends = calc.exact_ends(case, k)
-            self.assertTrue(calc.holds(touch, touch, ends.tolerable_touch, 1000), k)
-            self.assertTrue(calc.holds(step, step, ends.tolerable_step, 1000), k)
-        for beside in (-1, 1):
-            self.assertFalse(calc.holds(touch + beside, touch + beside, ends.tolerable_touch, 1000))
-            self.assertFalse(calc.holds(step + beside, step + beside, ends.tolerable_step, 1000))
+            self.assertTrue(calc.encloses(touch, touch, ends.tolerable_touch, 1000), k)
+            self.assertTrue(calc.encloses(step, step, ends.tolerable_step, 1000), k)
+        for off in (-1, 1):
+            self.assertFalse(calc.encloses(touch + off, touch + off, ends.tolerable_touch, 1000))
+            self.assertFalse(calc.encloses(step + off, step + off, ends.tolerable_step, 1000))
 
     def test_bare_soil(self):
         self.assert_tolerable(BARE, 133400, 185600)
@@ -35,7 +35,7 @@ class StarredYards(unittest.TestCase):
         return calc.row_at(calc.with_one_time(YARD._replace(**changes), ms), 12)
 
     def test_conductor_sizes(self):
-        """Worked anew for request (d); document 01's edge at 1000 A is now at 986 A."""
+        """Computed again for request (d); document 01's edge at 1000 A is now at 986 A."""
         for fault, ms, metal, kcmil in (
             (20000, 3000, 1, 244), (20000, 3000, 4, 364), (20000, 3000, 8, 640),
             (1000, 1000, 1, 8), (1001, 1000, 1, 8), (1000, 1000, 5, 13),
@@ -44,14 +44,14 @@ class StarredYards(unittest.TestCase):
             self.assertEqual(self.row_at_one_time(ms, fault=fault, metal=metal)[3], kcmil)
 
     def test_decrement(self):
-        """Worked anew for request (d): the ends in billionths."""
+        """Computed again for request (d): the ends in billionths."""
         for ms, xr, lower in ((99, 11, 1137716322), (100, 11, 1136431380), (499, 40, 1101187708),
                               (500, 40, 1100994761)):
             row = self.row_at_one_time(ms, xr=xr)
             self.assertEqual(calc.row_pairs(row).factor, (lower, lower + 1))
 
     def test_grid_current(self):
-        """Worked anew for request (d): 1908 A times 1.026183047851.."""
+        """Computed again for request (d): 1908 A times 1.026183047851.."""
         row = self.row_at_one_time(500, fault=3180, split=600)
         self.assertEqual(calc.row_pairs(row).current, (1957957255, 1957957256))
 
@@ -115,7 +115,7 @@ class AnnexB(unittest.TestCase):
     """IEEE Std 80-2013, Annex B, examples B.1 to B.3.
 
     A figure printed with some digits may be half a last digit off.  Where the
-    Annex works on with a figure it has rounded (Cs 0.74, Rg 2.78, 2.75 and 2.62,
+    Annex continues with a figure it has rounded (Cs 0.74, Rg 2.78, 2.75 and 2.62,
     n 11.35, Ki 2.324, Km 0.89 and 0.77, Ks 0.406), half that figure's last digit,
     carried through the formula, is added; and the formula with the rounded figure
     put in must give the printed one to its last digit.

@@ -1,5 +1,5 @@
-"""Runs every command that README.md and docs/manual.md show after a `$`, and the lines of JavaScript of docs/api.md, and holds each to
-printing exactly the lines below it; and the lines of Rattle of docs/api.md to those of the crate `caller`.
+"""Runs every command that README.md and docs/manual.md show after a `$`, and the lines of JavaScript of docs/api.md, and compares
+what each prints with the lines below it; and the lines of Rattle of docs/api.md with those of the crate `caller`.
 
     python3 -m tests.docs.readme
 
@@ -12,7 +12,7 @@ import sys
 from pathlib import Path
 
 ROOT = Path(__file__).parents[2]
-PAPERS = (ROOT / "README.md", ROOT / "docs" / "manual.md")
+DOCUMENTS = (ROOT / "README.md", ROOT / "docs" / "manual.md")
 API = ROOT / "docs" / "api.md"
 CALLER = ROOT / "crates" / "caller" / "src" / "lib.rt"
 BLOCK = "    "
@@ -42,7 +42,7 @@ def rattle_lines(text):
 
 
 def judge(text, run):
-    """What is wrong with a paper, where commands are run so."""
+    """What is wrong with a document, where commands are run so."""
     shown = commands(text)
     wrong = [] if shown else ["no command is shown"]
     return wrong + [f"another text is printed: {command}" for command, lines in shown if run(command) != lines]
@@ -74,14 +74,14 @@ def judge_javascript(text, run):
 def main():
     api = API.read_text(encoding="utf-8")
     count, wrong = 0, judge_rattle(api, CALLER.read_text(encoding="utf-8")) + judge_javascript(api, printed_by_node)
-    for paper in PAPERS:
-        text = paper.read_text(encoding="utf-8")
+    for document in DOCUMENTS:
+        text = document.read_text(encoding="utf-8")
         count += len(commands(text))
-        wrong += [f"{paper.name}: {complaint}" for complaint in judge(text, printed)]
+        wrong += [f"{document.name}: {complaint}" for complaint in judge(text, printed)]
     for complaint in wrong:
-        print(f"papers: {complaint}")
+        print(f"docs: {complaint}")
     if not wrong:
-        print(f"papers: {count} commands and the lines of JavaScript print what is shown")
+        print(f"docs: {count} commands and the lines of JavaScript print what is shown")
     return 1 if wrong else 0
 
 

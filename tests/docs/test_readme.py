@@ -1,4 +1,4 @@
-"""Holds the judge of the papers to telling one that shows something else than is printed."""
+"""The judge of the documentation sees a page that shows something else than is printed."""
 
 import re
 import unittest
@@ -77,14 +77,14 @@ class Stored(unittest.TestCase):
         self.assertEqual(readme.judge_rattle(text, caller), [])
 
     def test_each_paper_shows_commands(self):
-        for paper in readme.PAPERS:
-            self.assertTrue(readme.commands(paper.read_text(encoding="utf-8")), paper.name)
+        for document in readme.DOCUMENTS:
+            self.assertTrue(readme.commands(document.read_text(encoding="utf-8")), document.name)
 
     def test_links(self):
-        """Every file that a link of these papers names is there."""
-        for paper in (*readme.PAPERS, readme.API, readme.ROOT / "docs" / "proofs.md"):
-            for name in re.findall(r"\]\(([^)#:]+)\)", paper.read_text(encoding="utf-8")):
-                self.assertTrue((paper.parent / name).exists(), f"{paper.name}: {name}")
+        """Every file that a link of these documents names exists."""
+        for document in (*readme.DOCUMENTS, readme.API, readme.ROOT / "docs" / "proofs.md"):
+            for name in re.findall(r"\]\(([^)#:]+)\)", document.read_text(encoding="utf-8")):
+                self.assertTrue((document.parent / name).exists(), f"{document.name}: {name}")
 
 
 if __name__ == "__main__":

@@ -5,7 +5,7 @@ import unittest
 from pathlib import Path
 
 ROOT = Path(__file__).parents[2]
-PAPER = ROOT / "docs" / "specification.md"
+DOCUMENT = ROOT / "docs" / "specification.md"
 CRATES = ROOT / "crates"
 PAGE = CRATES / "claims" / "specs" / "Claims.antt"
 HEADING = re.compile(r"^### (\d+\.\d+) (.+)$", flags=re.MULTILINE)
@@ -25,7 +25,7 @@ def cited(text):
 
 def sections():
     """Of each section its number, the definitions with their files, and the claims."""
-    text = PAPER.read_text(encoding="utf-8")
+    text = DOCUMENT.read_text(encoding="utf-8")
     text = text[:text.index("## Where each section comes from")]
     starts = list(HEADING.finditer(text))
     for start, end in zip(starts, [one.start() for one in starts[1:]] + [len(text)]):
@@ -62,7 +62,7 @@ class Specification(unittest.TestCase):
         for number, definitions, _ in sections():
             self.assertTrue(definitions, number)
             for name, path in definitions:
-                file = PAPER.parent / path
+                file = DOCUMENT.parent / path
                 self.assertIn(name, declared(file), f"§{number}: {path}: {name}")
                 self.assertIn(number, cited(file.read_text(encoding="utf-8")), f"{path} does not cite §{number}")
 
@@ -91,7 +91,7 @@ class Specification(unittest.TestCase):
             self.assertLessEqual(set(cited(file.read_text(encoding="utf-8"))), numbers, file)
 
     def test_the_origin_of_every_section(self):
-        text = PAPER.read_text(encoding="utf-8")
+        text = DOCUMENT.read_text(encoding="utf-8")
         named = cited(text[text.index("## Where each section comes from"):])
         self.assertEqual(sorted(named), sorted(number for number, _, _ in sections()))
 

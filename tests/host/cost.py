@@ -6,7 +6,7 @@
 It needs valgrind. Three sheets are counted: the stored one, which has squares only, with its lines over and
 over; the same with unequal counts in their place; and one of random cases. Each figure is a difference of two
 runs, on the whole sheet and on its first 16 lines, so that the line of names does not count. A sheet whose
-last line repeats the first one's station and season is judged to its end and no row is computed, which tells
+last line repeats the first one's station and season is judged to its end and no row is computed, which separates
 judging from rows. Headroom and release have the judging of a line in them.
 """
 

@@ -23,7 +23,7 @@ FILL = -7777  # what stands in an array beforehand
 SPARE = 5  # numbers of an array past those that are needed
 DEPTHS = (8, 12)
 SEED = 11
-NUMBERED = 60  # sheets beside those that are stored
+NUMBERED = 60  # sheets in addition to those that are stored
 WIDTHS = {"margins": 2, "working": 30, "headroom": 1}  # numbers of a value line
 
 KINDS = {"u8": ctypes.c_uint8, "u32": ctypes.c_uint32, "i64": ctypes.c_int64, "usize": ctypes.c_size_t}
@@ -108,14 +108,14 @@ def rows_of(library, sheet, count):
 def summaries(library):
     for sheet, rows_room, room in summary.blocks():
         wanted = summary.answer(sheet, rows_room, room)
-        answer, (rows, beside) = library.ask("summary", [("u8", sheet)], [("i64", [FILL] * rows_room), ("i64", [FILL] * room)])
+        answer, (rows, sums) = library.ask("summary", [("u8", sheet)], [("i64", [FILL] * rows_room), ("i64", [FILL] * room)])
         if isinstance(wanted, Refusal):
             right = (wanted, [FILL] * rows_room, [FILL] * room)
         else:
-            worked = rows_of(library, sheet, len(wanted))
-            stations = summary.summary_of(worked)
-            right = (len(stations), filled(sum(worked, []), rows_room), filled(sum(map(list, stations), []), room))
-        yield f"{sheet!r}", [] if (answer, rows, beside) == right else [f"{answer}, not {right[0]}, or other numbers"]
+            computed = rows_of(library, sheet, len(wanted))
+            stations = summary.summary_of(computed)
+            right = (len(stations), filled(sum(computed, []), rows_room), filled(sum(map(list, stations), []), room))
+        yield f"{sheet!r}", [] if (answer, rows, sums) == right else [f"{answer}, not {right[0]}, or other numbers"]
 
 
 def released(licence, cases, rows, numbers):
@@ -146,10 +146,10 @@ def searches(library):
     some = [fewest.parts(text) for text in fewest.inputs()]
     some += [(sheets.sheet_of([case]), side) for case, side in fewest.stored()]
     for sheet, side in some:
-        told = fewest.sheet_answer(sheet, side, fewest.sure)
+        reported = fewest.sheet_answer(sheet, side, fewest.sure)
         for room in (4, 3, 2):
             answer, (numbers,) = library.ask("fewest", [("u8", sheet), ("one", side)], [("i64", [FILL] * room)])
-            wanted = told if isinstance(told, Refusal) else Refusal(8, 0, 0) if room < 3 else (1, [*told[1:]]) if told[0] == "found" else (0, [0, 0, told[1]])
+            wanted = reported if isinstance(reported, Refusal) else Refusal(8, 0, 0) if room < 3 else (1, [*reported[1:]]) if reported[0] == "found" else (0, [0, 0, reported[1]])
             right = (wanted, [FILL] * room) if isinstance(wanted, Refusal) else (wanted[0], filled(wanted[1], room))
             yield f"{side} {sheet[-400:]!r}", [] if (answer, numbers) == right else [f"{answer} and {numbers}, not {wanted}"]
 
@@ -233,14 +233,14 @@ def main():
     library = Library(asked.library)
     failed = library.version() != VERSION
     for name, question in QUESTIONS.items():
-        told = 0
-        for told, (text, wrong) in enumerate(question(library), start=1):
+        reported = 0
+        for reported, (text, wrong) in enumerate(question(library), start=1):
             if wrong:
                 failed = True
                 print(f"{name}: {text[:300]}", *wrong, sep="\n  ")
-            if told == asked.count and name in ("summary", "release"):
+            if reported == asked.count and name in ("summary", "release"):
                 break
-        print(f"{name}: {told} asked")
+        print(f"{name}: {reported} asked")
     return 1 if failed else 0
 
 

@@ -23,7 +23,7 @@ HARNESS = "target/host/harness"
 ROW = struct.Struct(f"<{calc.ROW_LENGTH}q")  # "eight-byte little-endian signed numbers"
 LINE_BYTES = 160  # "A buffer short of 160 bytes a line is refused with 8."
 LENGTHS, ANSWER = struct.Struct("<II"), struct.Struct("<qQQ")
-UNTOLD = 2**64 - 1  # what the harness puts in the place beforehand
+UNSET = 2**64 - 1  # what the harness puts in the place beforehand
 SHORT = 2000
 
 
@@ -35,9 +35,9 @@ def answer_of(sheet, buffer_bytes):
     return wanted
 
 
-def judge(wanted, before, told, after, deep):
+def judge(wanted, before, reported, after, deep):
     """What is wrong with an answer, line and column, and the buffer after it."""
-    answer, *place = told
+    answer, *place = reported
     if len(after) != len(before):
         return [f"a buffer of {len(after)} bytes, not {len(before)}"]
     if isinstance(wanted, Refusal):
@@ -48,7 +48,7 @@ def judge(wanted, before, told, after, deep):
         return [f"answer {answer}, not {len(wanted)}"]
     end = LINE_BYTES * answer
     wrong = [] if after[end:] == before[end:] else ["bytes past the last row are changed"]
-    wrong += [] if place == [UNTOLD, UNTOLD] else [f"place {place} with rows"]
+    wrong += [] if place == [UNSET, UNSET] else [f"place {place} with rows"]
     rows = [list(row) for row in ROW.iter_unpack(after[:end])]
     return wrong + differential.judge(wanted, rows, deep)
 

@@ -1,4 +1,4 @@
-"""The judge of the C entry tells wrong entries, and the lines that the example panel printed are right."""
+"""The judge of the C entry sees wrong entries, and the lines that the example panel printed are right."""
 
 import random
 import re
@@ -28,9 +28,9 @@ class Entry:
         self.wanted = row_entry.answer_of(sheet, size)
         self.after = bytearray(self.before)
         if isinstance(self.wanted, Refusal):
-            self.told = [-self.wanted.number, self.wanted.line, self.wanted.column]
+            self.reported = [-self.wanted.number, self.wanted.line, self.wanted.column]
             return
-        self.told = [len(cases), row_entry.UNTOLD, row_entry.UNTOLD]
+        self.reported = [len(cases), row_entry.UNSET, row_entry.UNSET]
         self.rows = [calc.row_at(case, DEPTH) for case in cases]
         self.write(row_entry.ROW)
 
@@ -39,7 +39,7 @@ class Entry:
             form.pack_into(self.after, row_entry.LINE_BYTES * i, *row)
 
     def wrong(self):
-        return row_entry.judge(self.wanted, self.before, self.told, bytes(self.after), lambda: False)
+        return row_entry.judge(self.wanted, self.before, self.reported, bytes(self.after), lambda: False)
 
 
 class WrongEntries(unittest.TestCase):
@@ -53,7 +53,7 @@ class WrongEntries(unittest.TestCase):
         self.assertEqual(Entry(self.sheet).wrong(), [])
         self.assertEqual(Entry(self.refused, 1000).wrong(), [])
         self.assertEqual(Entry(self.sheet, 3 * 160).wrong(), [])
-        self.assertEqual(Entry(self.sheet, 3 * 160 - 1).told, [-8, 0, 0])
+        self.assertEqual(Entry(self.sheet, 3 * 160 - 1).reported, [-8, 0, 0])
 
     def test_refusal_that_writes(self):
         for entry in (Entry(self.refused, 1000), Entry(self.sheet, 479)):
@@ -68,7 +68,7 @@ class WrongEntries(unittest.TestCase):
 
     def test_other_count(self):
         entry = Entry(self.sheet)
-        entry.told[0] = 2
+        entry.reported[0] = 2
         self.assertTrue(entry.wrong())
 
     def test_rows_exchanged(self):
@@ -79,10 +79,10 @@ class WrongEntries(unittest.TestCase):
 
     def test_place(self):
         entry = Entry(self.refused, 1000)
-        entry.told[1:] = entry.told[:0:-1]
+        entry.reported[1:] = entry.reported[:0:-1]
         self.assertTrue(entry.wrong())
         entry = Entry(self.sheet)
-        entry.told[1:] = [0, 0]
+        entry.reported[1:] = [0, 0]
         self.assertTrue(entry.wrong())
 
     def test_buffer_cut_off(self):
@@ -213,7 +213,7 @@ class Header(unittest.TestCase):
 
 
 class Released(unittest.TestCase):
-    """The judge of a release asked from C tells wrong numbers, on a station of two safe lines."""
+    """The judge of a release asked from C sees wrong numbers, on a station of two safe lines."""
 
     CASE = Case(7, 1, 100, 2500, 102, 500, 500, 500, 70, 3180, 600, 10, 11, 11, 7000, 500, 100, 0, 0, 0, 1, 60)
 
@@ -223,20 +223,20 @@ class Released(unittest.TestCase):
         cls.rows = [calc.row_at(case, DEPTH) for case in cls.cases]
         cls.fault = next(fault for fault in range(9000, 11000) if release.fault_is_right(cls.cases, fault))
 
-    def told(self, *numbers):
+    def wrong(self, *numbers):
         return not entries.released([7, 3, 0], self.cases, self.rows, list(numbers))
 
     def test_right(self):
-        self.assertFalse(self.told(7, 1, 0, 0, 0, 0, 0, self.fault))
+        self.assertFalse(self.wrong(7, 1, 0, 0, 0, 0, 0, self.fault))
 
     def test_wrong(self):
         right = [7, 1, 0, 0, 0, 0, 0, self.fault]
         for place in range(8):
             for by in (1, 1000) if place == 7 else (1,):
                 numbers = [*right[:place], right[place] + (by if place < 7 else by + 99), *right[place + 1:]]
-                self.assertTrue(self.told(*numbers), numbers)
-        self.assertTrue(self.told(*right[:7], 0))
-        self.assertTrue(self.told(*right[:7], self.fault - 100))
+                self.assertTrue(self.wrong(*numbers), numbers)
+        self.assertTrue(self.wrong(*right[:7], 0))
+        self.assertTrue(self.wrong(*right[:7], self.fault - 100))
 
 
 class Stub:
@@ -252,7 +252,7 @@ class Stub:
 
 
 class LineNumbers(unittest.TestCase):
-    """The judges of margins, working and headroom asked from C tell wrong numbers, on two lines of document 01's sample yard."""
+    """The judges of margins, working and headroom asked from C see wrong numbers, on two lines of document 01's sample yard."""
 
     CASES = margins.seasons(7, [(1, margins.SAMPLE), (2, margins.SAMPLE._replace(soil=100))])
     SHEET = sheets.sheet_of(CASES)
@@ -266,7 +266,7 @@ class LineNumbers(unittest.TestCase):
         return [[end for some, pair in zip(working.QUANTITIES, working.working(case, DEPTH))
                  for end in (floor(pair.lower * some.units), ceil(pair.upper * some.units))] for case in self.CASES]
 
-    def told(self, name, numbers, room=None, answer=2, sheet=None):
+    def wrong(self, name, numbers, room=None, answer=2, sheet=None):
         library, judge = Stub(), getattr(entries, name + "_wrong")
         library.answer, library.numbers = answer, numbers
         sheet = self.SHEET if sheet is None else sheet
@@ -274,42 +274,42 @@ class LineNumbers(unittest.TestCase):
 
     def test_right(self):
         for name in entries.WIDTHS:
-            self.assertEqual(self.told(name, sum(self.parts(name), []) + [entries.FILL]), [])
+            self.assertEqual(self.wrong(name, sum(self.parts(name), []) + [entries.FILL]), [])
 
     def test_wrong_number(self):
         for name, width in entries.WIDTHS.items():
             right = sum(self.parts(name), [])
             for place in range(2 * width):
                 wrong = [*right[:place], right[place] + right[place] // 1000 + 10, *right[place + 1:]]
-                self.assertTrue(self.told(name, wrong), (name, place))
+                self.assertTrue(self.wrong(name, wrong), (name, place))
 
     def test_wrong_order(self):
         for name in entries.WIDTHS:
             first, second = self.parts(name)
-            self.assertTrue(self.told(name, second + first))
-            self.assertTrue(self.told(name, first + first))
+            self.assertTrue(self.wrong(name, second + first))
+            self.assertTrue(self.wrong(name, first + first))
         first, second = self.parts("margins")
-        self.assertTrue(self.told("margins", first[::-1] + second))
+        self.assertTrue(self.wrong("margins", first[::-1] + second))
 
     def test_wrong_array(self):
         for name, width in entries.WIDTHS.items():
             right = sum(self.parts(name), [])
-            self.assertTrue(self.told(name, right, answer=1))
-            self.assertTrue(self.told(name, right, answer=Refusal(8, 0, 0)))
-            self.assertTrue(self.told(name, right + [0]))
-            self.assertTrue(self.told(name, [*right[:-1]]))
+            self.assertTrue(self.wrong(name, right, answer=1))
+            self.assertTrue(self.wrong(name, right, answer=Refusal(8, 0, 0)))
+            self.assertTrue(self.wrong(name, right + [0]))
+            self.assertTrue(self.wrong(name, [*right[:-1]]))
             short = [entries.FILL] * (2 * width - 1)
-            self.assertEqual(self.told(name, short, answer=Refusal(8, 0, 0)), [])
-            self.assertTrue(self.told(name, [0, *short[1:]] if width > 1 else [0], answer=Refusal(8, 0, 0)))
-            self.assertTrue(self.told(name, short, answer=Refusal(8, 1, 0)))
+            self.assertEqual(self.wrong(name, short, answer=Refusal(8, 0, 0)), [])
+            self.assertTrue(self.wrong(name, [0, *short[1:]] if width > 1 else [0], answer=Refusal(8, 0, 0)))
+            self.assertTrue(self.wrong(name, short, answer=Refusal(8, 1, 0)))
 
     def test_refused(self):
         sheet = self.SHEET.replace(b"season", b"month")
         refusal = calc.read_sheet(sheet)
         for name in entries.WIDTHS:
-            self.assertEqual(self.told(name, [entries.FILL] * 3, answer=refusal, sheet=sheet), [])
-            self.assertTrue(self.told(name, [entries.FILL, 0, entries.FILL], answer=refusal, sheet=sheet))
-            self.assertTrue(self.told(name, [entries.FILL] * 3, answer=2, sheet=sheet))
+            self.assertEqual(self.wrong(name, [entries.FILL] * 3, answer=refusal, sheet=sheet), [])
+            self.assertTrue(self.wrong(name, [entries.FILL, 0, entries.FILL], answer=refusal, sheet=sheet))
+            self.assertTrue(self.wrong(name, [entries.FILL] * 3, answer=2, sheet=sheet))
 
 
 if __name__ == "__main__":

@@ -140,7 +140,7 @@ def with_grid(injected, grid, pick, branches=1):
 
 
 def edge_tests(pick):
-    """No grid current, a split that is a whole number and those beside it, the largest splits."""
+    """No grid current, a split that is a whole number and those next to it, the largest splits."""
     for branches in (1, 2, MOST_BRANCHES):
         yield with_grid((pick.randint(1, 999), pick.randint(-999, -1)), (0, 0), pick, branches)
     for split in (0, 1, 2, 9, 10, 99, 333, 600, 999, 1000, 1001, 1100, 1999):
@@ -151,9 +151,9 @@ def edge_tests(pick):
                 yield with_grid(injected, (grid[0] + more, grid[1]), pick, 4)
     # with one milliampere injected: a root with a small rest, whose digits are all 0
     for whole in (1, 499, 500, 501, 15_999_999, 16_000_000):
-        for beside in (0, 1, -1, 2):
-            yield with_grid((1, 0), (whole, beside), pick, MOST_BRANCHES)
-            yield with_grid((0, -1), (beside, -whole), pick, MOST_BRANCHES)
+        for offset in (0, 1, -1, 2):
+            yield with_grid((1, 0), (whole, offset), pick, MOST_BRANCHES)
+            yield with_grid((0, -1), (offset, -whole), pick, MOST_BRANCHES)
     # the largest splits and the largest grid current
     for signs in product((MOST_PART, -MOST_PART), repeat=2):
         for injected in ((1, 0), (0, 1), (-1, 0), (1, 1), (MOST_PART,) * 2, (MOST_PART, -MOST_PART)):

@@ -1,5 +1,5 @@
 """Tests of the calculator for four-pin readings, and the judge of the questions of kind `soil` of
-crates/questions: its stdout, which `rt check questions` holds to what the program prints for its stdin.
+crates/questions: its stdout, which `rt check questions` compares with what the program prints for its stdin.
 
     python3 -m unittest discover -s tests
 """
@@ -140,7 +140,7 @@ class Printed(Soundings):
 
 
 class Judging(Soundings):
-    """Wrong programs are told."""
+    """Changed answers are seen."""
 
     def test_ends_moved_or_wide(self):
         for name in readings.PAIR_NAMES:

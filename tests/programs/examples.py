@@ -1,5 +1,5 @@
-"""Runs the sheets of examples/ through the built programs, has the calculator judge all that they print, and holds
-examples/README.md to showing exactly that.
+"""Runs the sheets of examples/ through the built programs, has the calculator judge all that they print, and checks
+that examples/README.md shows exactly that.
 
     python3 -m tests.programs.examples [--bin target/bin]
 
@@ -62,7 +62,7 @@ def carried(way, sheet):
 
 
 def summed(rows):
-    """What summary is to print beside some rows."""
+    """What summary must print for some rows."""
     if isinstance(rows, Refusal):
         return margins.text_of(rows)
     return carry.sheet_text(SUMMARY_NAMES, summary.summary_of(rows)).decode("ascii")
@@ -121,7 +121,7 @@ def seasons(cases, rows):
 
 
 def undecided(cases, rows):
-    """an undecided yard beside a safe one that differs in one value"""
+    """an undecided yard next to a safe one that differs in one value"""
     open_cases = [case for case, row in zip(cases, rows) if row[2] == calc.UNDECIDED]
     safe_cases = [case for case, row in zip(cases, rows) if row[2] == calc.SAFE]
     return any(len(differing(a, b)) == 1 for a in open_cases for b in safe_cases)
@@ -212,7 +212,7 @@ def sections(text):
 
 
 @lru_cache(maxsize=None)
-def mended(command):
+def fixed(command):
     """What a command of the shell writes."""
     done = subprocess.run(["sh", "-c", command], cwd=ROOT, stdout=subprocess.PIPE, timeout=differential.RUN_SECONDS, check=True)
     return done.stdout
@@ -226,7 +226,7 @@ def asked_by(command, run):
     if not piped:
         raise ValueError(f"a command of another form: {command}")
     if not ASKED.fullmatch(piped[1]):
-        return piped[2], mended(piped[1])
+        return piped[2], fixed(piped[1])
     program, sheet = asked_by(piped[1], run)
     return piped[2], run(program, sheet).encode("ascii")
 
@@ -241,12 +241,12 @@ def judge_command(command, shown, run):
 
 
 def judge_section(name, commands, run):
-    """The sheet asked first, then other questions about it; under a refused sheet the last has an answer: the mend."""
+    """The sheet asked first, then other questions about it; under a refused sheet the last has an answer: the fix."""
     if not commands or commands[0][0] != f"target/bin/{shower(name)} < examples/{name}":
         return [f"README.md does not start with target/bin/{shower(name)} < examples/{name}"]
     wrong = [f"README.md names another sheet: {command}" for command, _ in commands if f"examples/{name}" not in command]
     if refusal_of(name) and commands[-1][1].startswith("refused,"):
-        wrong.append("README.md has no mend that is answered")
+        wrong.append("README.md has no fix that is answered")
     return wrong + [complaint for command, shown in commands for complaint in judge_command(command, shown, run)]
 
 

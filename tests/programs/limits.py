@@ -129,14 +129,14 @@ def at_limits(folder):
         wrong += [f"{what}: {complaint}" for complaint in judged(folder, sheet)]
     for text in fewest.inputs():
         count += 1
-        told, wanted = run(folder / "fewest", text), fewest_text(text)
-        if told != wanted:
-            wrong.append(f"fewest prints {told!r}, not {wanted!r}, for {text[:60]!r}")
+        reported, wanted = run(folder / "fewest", text), fewest_text(text)
+        if reported != wanted:
+            wrong.append(f"fewest prints {reported!r}, not {wanted!r}, for {text[:60]!r}")
     return wrong, count
 
 
 def failing(folder, name, text):
-    """What is wrong with what is told of a full disk, a closed output, and a pipe that nobody reads."""
+    """What is wrong with what is reported on a full disk, a closed output, and a pipe that nobody reads."""
     wrong = []
     with open("/dev/full", "wb") as full:
         done = subprocess.run([folder / name], input=text, stdout=full, stderr=subprocess.PIPE, timeout=RUN_SECONDS)
@@ -161,11 +161,11 @@ def slowly(program, text):
     with subprocess.Popen([program], stdin=subprocess.PIPE, stdout=subprocess.PIPE) as running:
         running.stdin.write(text)
         running.stdin.close()
-        told = b""
+        reported = b""
         while chunk := os.read(running.stdout.fileno(), CHUNK):
-            told += chunk
+            reported += chunk
             time.sleep(PAUSE)
-    return told.decode("ascii")
+    return reported.decode("ascii")
 
 
 def on_outputs(folder):

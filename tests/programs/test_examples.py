@@ -1,5 +1,5 @@
-"""The sheets of examples/ are refused by the calculator as their names say, and the judge of them, tests/programs/examples.py, tells
-wrong programs, texts and sheets. The programs are stood in for by the calculator's own rows.
+"""The sheets of examples/ are refused by the calculator as their names say, and the judge of them, tests/programs/examples.py, sees
+wrong programs, texts and sheets. The calculator's own rows stand for the programs.
 """
 
 import re
@@ -63,14 +63,14 @@ class Sheets(unittest.TestCase):
                 self.assertEqual((back if number in examples.BACK_REFUSALS else today)[0], number, name)
 
     def test_one_fault_each(self):
-        """The mend shown makes a sound sheet of each that is refused."""
+        """The fix shown makes a sound sheet of each that is refused."""
         for name, commands in examples.sections(README):
             if examples.refusal_of(name):
                 _, sheet = examples.asked_by(commands[-1][0], right)
                 self.assertNotIsInstance(calc.read_sheet(sheet), Refusal, name)
 
     def test_kept_as_bytes(self):
-        """A checkout that mends line ends would take a fault away."""
+        """A checkout that changes line ends would remove a fault."""
         attributes = (examples.FOLDER / ".gitattributes").read_text(encoding="ascii")
         self.assertIn("*.csv -text\n", attributes)
 
@@ -97,7 +97,7 @@ class Text(unittest.TestCase):
         return examples.judge(SHEETS, readme, right)
 
     def test_every_line_shown(self):
-        """Each number shown, one higher, and each line left out or told twice."""
+        """Each number shown, one higher, and each line left out or shown twice."""
         for name, commands in examples.sections(README):
             for at, (command, shown) in enumerate(commands):
                 lines = shown.splitlines(keepends=True)
@@ -121,7 +121,7 @@ class Text(unittest.TestCase):
                          ("tr -d '\\r' <", "cat"), ("sed 3d", "sed 2d")):
             self.assertTrue(self.wrong(README.replace(old, new, 1)), old)
 
-    def test_no_mend(self):
+    def test_no_fix(self):
         section = dict(examples.sections(README))["refused-5.csv"]
         self.assertTrue(examples.judge_section("refused-5.csv", section[:1], right))
 

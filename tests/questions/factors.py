@@ -48,12 +48,12 @@ def answers(program, asked):
     printed = lines_of(printed_by(program, text.encode("ascii")))
     if len(printed) != len(asked):
         raise ValueError(f"{len(printed)} answers to {len(asked)} questions")
-    for question, told in zip(asked, printed):
-        if not told.startswith(question + ","):
-            raise ValueError(f"{told!r} is no answer to {question!r}")
-        pair = read_asked(told[len(question) + 1 :])
+    for question, reported in zip(asked, printed):
+        if not reported.startswith(question + ","):
+            raise ValueError(f"{reported!r} is no answer to {question!r}")
+        pair = read_asked(reported[len(question) + 1 :])
         if len(pair) != 2:
-            raise ValueError(f"{told!r} is no pair")
+            raise ValueError(f"{reported!r} is no pair")
         yield pair
 
 

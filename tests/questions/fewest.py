@@ -1,4 +1,4 @@
-"""The fewest lines for a given side, after request (k) of document 02, beside the program `questions`.
+"""The fewest lines for a given side, after request (k) of document 02, against the program `questions`.
 
     rt check questions rows && python3 -m tests.questions.fewest [--seed S] [--count N] [--programs target/bin]
 
@@ -23,7 +23,7 @@ RODS = range(0, 41, 4)  # "0, 4, 8 up to 40 rods"
 SIDES = (2500, 720000)
 MOST_YARDS = 264
 UNREAD = ("across", "along", "space", "rods", "place")
-CLEAR_OF = Fraction(1, 1000)  # how far a voltage is from its limit for every right program to tell
+CLEAR_OF = Fraction(1, 1000)  # how far a voltage is from its limit for every right program to decide
 DEPTH = 6
 SEED = 1
 
@@ -56,7 +56,7 @@ def refusal(case, side):
 
 
 def answer(case, side, is_safe):
-    """What is answered where is_safe tells of each yard."""
+    """What is answered where is_safe decides each yard."""
     wrong = refusal(case, side)
     if wrong:
         return wrong
@@ -68,7 +68,7 @@ def answer(case, side, is_safe):
     return "none", tried
 
 
-def told_by_all(case):
+def decided_by_all(case):
     """Whether every right program answers a yard safe; nothing where they may differ."""
     ends = calc.exact_ends(case, DEPTH)
     shares = (ends.mesh.upper / ends.tolerable_touch.lower, ends.step.upper / ends.tolerable_step.lower)
@@ -82,10 +82,10 @@ class Unsure(Exception):
 
 
 def sure(case):
-    told = told_by_all(case)
-    if told is None:
+    reported = decided_by_all(case)
+    if reported is None:
         raise Unsure(case)
-    return told
+    return reported
 
 
 def read_answer(text):
@@ -207,12 +207,12 @@ def refused(case):
 
 
 def questions(case):
-    """Each once, with a case that is sound and whose yards every right program tells."""
+    """Each once, with a case that is sound and whose yards every right program decides."""
     return list(dict.fromkeys((*stored(), *refused(case))))
 
 
 # --------------------------------------------------------------------------
-# Beside the programs.
+# Against the programs.
 # --------------------------------------------------------------------------
 
 def asked(program, some):
@@ -241,11 +241,11 @@ def main():
     options = parser.parse_args()
     rng = random.Random(options.seed)
     some = [random_question(rng) for _ in range(options.count)]
-    told = asked(options.programs / "questions", some)
-    wrong = [(question, got) for question, got in zip(some, told)
+    reported = asked(options.programs / "questions", some)
+    wrong = [(question, got) for question, got in zip(some, reported)
              if got != by_rows(options.programs / "rows", *question)]
-    found = sum(got[0] == "found" for got in told)
-    print(f"{len(some)} searches, {found} found, most tried {max(got[-1] for got in told)}; {len(wrong)} differ")
+    found = sum(got[0] == "found" for got in reported)
+    print(f"{len(some)} searches, {found} found, most tried {max(got[-1] for got in reported)}; {len(wrong)} differ")
     for question, got in wrong[:5]:
         print(*question, got)
 

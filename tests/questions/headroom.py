@@ -1,11 +1,11 @@
-"""The headroom of a case, beside the program `questions`.
+"""The headroom of a case, against the program `questions`.
 
     rt check questions && python3 -m tests.questions.headroom [--seed S] [--count N] [--program target/bin/questions]
 
 "After the checks of one case (5, 6), the greatest fault current in 100..80000 at which the case, all else
-equal, is answered safe, or none." Exact fractions and the allowed widths tell up to which fault current
+equal, is answered safe, or none." Exact fractions and the allowed widths give up to which fault current
 every right program answers a case safe, and from which on none does; between the two the program's own
-rows tell. By hand, random yards are asked, and the rows of each at its headroom and at 1 A more: the first
+rows decide. By hand, random yards are asked, and the rows of each at its headroom and at 1 A more: the first
 must be safe and the second not, and both right by the calculator.
 """
 
@@ -85,7 +85,7 @@ def between(case):
 
 
 def needed_rows(case):
-    """The case with every fault current at which a row may tell, least first."""
+    """The case with every fault current at which a row may decide, least first."""
     least, most = between(case)
     return [case._replace(fault=fault) for fault in range(max(least, LEAST), min(most + 1, MOST) + 1)]
 
@@ -97,13 +97,13 @@ def judge(case, answer, verdict_of):
         return [] if answer == wanted else [f"{answer}, not {wanted}"]
     if answer != NONE and not LEAST <= answer <= MOST:
         return [f"{answer} is out of range"]
-    told = LEAST - 1 if answer == NONE else answer
+    reported = LEAST - 1 if answer == NONE else answer
     least, most = between(case)
-    wrong = [] if least <= told <= most else [f"{answer} is not in {least}..{most}"]
-    if told >= LEAST and verdict_of(case._replace(fault=told)) != calc.SAFE:
-        wrong.append(f"not safe at {told}")
-    if told < MOST and verdict_of(case._replace(fault=told + 1)) == calc.SAFE:
-        wrong.append(f"safe at {told + 1}")
+    wrong = [] if least <= reported <= most else [f"{answer} is not in {least}..{most}"]
+    if reported >= LEAST and verdict_of(case._replace(fault=reported)) != calc.SAFE:
+        wrong.append(f"not safe at {reported}")
+    if reported < MOST and verdict_of(case._replace(fault=reported + 1)) == calc.SAFE:
+        wrong.append(f"safe at {reported + 1}")
     return wrong
 
 
@@ -196,7 +196,7 @@ def questions(case):
 
 
 def lines(case):
-    """The questions, each with the rows that tell."""
+    """The questions, each with the rows that decide."""
     for asked in questions(case):
         yield line(asked)
         if not calc.check_record(asked):
@@ -204,19 +204,19 @@ def lines(case):
 
 
 # --------------------------------------------------------------------------
-# Beside the program.
+# Against the program.
 # --------------------------------------------------------------------------
 
 def answers(program, some):
     """What the program prints after each question; it reads so many at a time."""
-    told = []
+    reported = []
     for at in range(0, len(some), MOST_QUESTIONS):
         part = some[at : at + MOST_QUESTIONS]
         text = "".join(question + "\n" for question in part)
         run = subprocess.run([program], input=text.encode("ascii"), stdout=subprocess.PIPE, check=True)
         printed = lines_of(run.stdout.decode("ascii"))
-        told += [out[len(question) + 1 :] for question, out in zip(part, printed, strict=True)]
-    return told
+        reported += [out[len(question) + 1 :] for question, out in zip(part, printed, strict=True)]
+    return reported
 
 
 def main():
@@ -227,16 +227,16 @@ def main():
     options = parser.parse_args()
     rng = random.Random(options.seed)
     cases = [sheets.random_case(rng) for _ in range(options.count)]
-    told = [read_answer(text) for text in answers(options.program, [line(case) for case in cases])]
+    reported = [read_answer(text) for text in answers(options.program, [line(case) for case in cases])]
     near = [case._replace(fault=fault)
-            for case, got in zip(cases, told)
+            for case, got in zip(cases, reported)
             for fault in ((LEAST,) if got == NONE else (got, got + 1)) if fault <= MOST]
     rows = {case: read_asked(text) for case, text in zip(near, answers(options.program, [row_line(case) for case in near]))}
-    wrong = [(case, got, complaint) for case, got in zip(cases, told)
+    wrong = [(case, got, complaint) for case, got in zip(cases, reported)
              for complaint in judge(case, got, lambda row: rows[row][2])]
     wrong += [(case, row, complaint) for case, row in rows.items()
               for complaint in calc.judge_row(case, row, (DEPTH,))]
-    none, most = told.count(NONE), told.count(MOST)
+    none, most = reported.count(NONE), reported.count(MOST)
     print(f"{len(cases)} yards: {none} with none, {most} at {MOST}, {len(cases) - none - most} between; "
           f"{len(rows)} rows, {len(wrong)} wrong")
     for some in wrong[:5]:

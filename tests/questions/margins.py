@@ -1,5 +1,5 @@
 """How far each row is above or below what is tolerable, in the sheet's order: the numbers in whole numbers from the rows
-that the program `rows` prints, a judge of what the program `margins` prints beside them, and the sheet that it is run on.
+that the program `rows` prints, a judge of what the program `margins` prints for the same sheet, and the sheet that it is run on.
 
     python3 -m tests.questions.margins --write                   crates/margins/stdin, and by target/bin/rows its stdout
     python3 -m tests.questions.margins [--seed S] [--count N]    random sheets through target/bin/rows and target/bin/margins
@@ -53,13 +53,13 @@ def text_of(answer):
     return carry.sheet_text(MARGIN_NAMES, lines).decode("ascii")
 
 
-def judge(rows, told):
-    """What is wrong with the margins told where these are the rows; either may be a refusal."""
-    if isinstance(rows, Refusal) or isinstance(told, Refusal):
-        return [] if rows == told else [f"margins: {told}, where rows has {rows}"]
-    if len(told) != len(rows):
-        return [f"margins: {len(told)} rows, not {len(rows)}"]
-    lines = enumerate(zip(map(list, margins_of(rows)), told), start=2)
+def judge(rows, reported):
+    """What is wrong with the margins reported where these are the rows; either may be a refusal."""
+    if isinstance(rows, Refusal) or isinstance(reported, Refusal):
+        return [] if rows == reported else [f"margins: {reported}, where rows has {rows}"]
+    if len(reported) != len(rows):
+        return [f"margins: {len(reported)} rows, not {len(rows)}"]
+    lines = enumerate(zip(map(list, margins_of(rows)), reported), start=2)
     return [f"margins: {got} in line {line}, not {wanted}" for line, (wanted, got) in lines if got != wanted]
 
 

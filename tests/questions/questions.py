@@ -142,7 +142,7 @@ ANNEX_B = (B1, B1._replace(rods=20, rodlen=7500, place=1),
 
 SOUND_WORKINGS, UNSOUND_WORKINGS = 100, 30  # random records
 
-# Upper and lower number: one, the ends, beside one, and refused ones.
+# Upper and lower number: one, the ends, next to one, and refused ones.
 MOST = calc.LN_MAX
 FRACTIONS = (
     (1, 1), (MOST, MOST), (MOST - 1, MOST), (MOST, MOST - 1), (MOST - 1, MOST - 2),
@@ -221,7 +221,7 @@ def tolerable():
             soil=soil, layer=layer, thick=thick, body=body, shock=shock))
 
 
-def worked():
+def computed():
     for metal, fault, ms in WORKED_SIZES:
         yield from with_size(calc.with_one_time(YARD._replace(metal=metal, fault=fault), ms))
     for ms, xr in WORKED_FACTORS:
@@ -364,7 +364,7 @@ def no_questions():
 
 def questions():
     """All on cases and logarithms, each once, in a fixed order."""
-    series = (factors, sizes, tolerable, worked, clocks, resistances, counts, edges, broken,
+    series = (factors, sizes, tolerable, computed, clocks, resistances, counts, edges, broken,
               random_records, logarithms, searches, headrooms, workings, no_questions)
     return list(dict.fromkeys(question for make in series for question in make()))
 
@@ -392,7 +392,7 @@ def stored_of(kind):
 
 def main():
     parser = argparse.ArgumentParser(description=__doc__.split("\n")[0])
-    parser.add_argument("--write", action="store_true", help="write the stored questions anew")
+    parser.add_argument("--write", action="store_true", help="rewrite the stored questions")
     if parser.parse_args().write:
         FILE.write_text(text(), encoding="ascii")
     else:

@@ -1,4 +1,4 @@
-"""Judges the questions asked alone: crates/questions/stdout, which `rt check questions` holds to what the
+"""Judges the questions asked alone: crates/questions/stdout, which `rt check questions` compares with what the
 program prints for crates/questions/stdin, against the separately written calculator.
 
     python3 -m unittest discover -s tests
@@ -27,7 +27,7 @@ MOST_NUMBER = 2**64 - 1
 # The least count of different questions of each kind.
 LEAST = {"factor": 750, "size": 270, "tolerable": 220, "resistance": 480, "row": 800,
          "ln": 400}
-# Which numbers hang on the two counts.
+# Which numbers depend on the two counts.
 NUMBERS_BY_COUNT = {"resistance": ("resistance",), "row": ("mesh", "step", "resistance", "rise")}
 RESISTANCE_NAMES = ("soil", *calc.COUNTS, "space", "depth", "rods", "rodlen", "place")
 
@@ -82,7 +82,7 @@ def judge_row_factor(row, factor):
 
 
 def judge_ends(name, case, pair):
-    """Order, exactness at each depth, and width, which hangs on the lower end."""
+    """Order, exactness at each depth, and width, which depends on the lower end."""
     quantity = quantity_of(name)
     ends_at = {k: getattr(calc.exact_ends(case, k), name) for k in DEPTHS}
     allowed = quantity.share * pair[0] + quantity.plus
@@ -174,7 +174,7 @@ class Answers(Asked):
 
 
 class Judging(Asked):
-    """Lines changed by a little are told from right ones."""
+    """Lines changed by a little are seen to be wrong."""
 
     def test_a_changed_size_is_wrong(self):
         for case, (number,) in self.answered("size").items():
@@ -223,7 +223,7 @@ class Judging(Asked):
 
 
 class Yards(Asked):
-    """The yards of document 01, those of factor, current and size worked anew for request (d): at 60 Hz,
+    """The yards of document 01, those of factor, current and size computed again for request (d): at 60 Hz,
     with X/R 10 where none is named.
     """
 
@@ -268,12 +268,12 @@ class Yards(Asked):
             (70, 1000): (180550, 251200),
         }
         for (body, ms), voltages in wanted.items():
-            told = [
+            reported = [
                 answer for case, answer in self.answered("tolerable").items()
                 if (case.soil, case.layer, case.body, case.shock) == (100, 0, body, ms)
             ]
-            self.assertGreaterEqual(len(told), 2)  # one of them with one time for all clocks
-            for touch_lower, touch_upper, step_lower, step_upper in told:
+            self.assertGreaterEqual(len(reported), 2)  # one of them with one time for all clocks
+            for touch_lower, touch_upper, step_lower, step_upper in reported:
                 self.assertTrue(touch_lower <= voltages[0] <= touch_upper)
                 self.assertTrue(step_lower <= voltages[1] <= step_upper)
 
@@ -381,12 +381,12 @@ class Coverage(Asked):
         for metal in range(1, 12):
             self.assertGreaterEqual(edges[metal], 4, f"metal {metal}")
 
-    def test_sizes_that_tell_one_billionth_of_the_upper_end(self):
+    def test_sizes_that_change_with_one_billionth_of_the_upper_end(self):
         """So that the factor of a size is the one that is asked alone, and no other."""
         for by in (-1, 1):
-            told = [case for case, size in self.answered("size").items()
+            reported = [case for case, size in self.answered("size").items()
                     if (calc.conductor_kcmil(case, self.questions["factor"][case][1] + by),) != size]
-            self.assertGreaterEqual(len(told), 10, by)
+            self.assertGreaterEqual(len(reported), 10, by)
 
     def test_surfaces(self):
         layers = {

@@ -1,4 +1,4 @@
-"""Tests of the run over all factors: what it asks, and that it tells wrong programs."""
+"""Tests of the run over all factors: what it asks, and that it sees wrong programs."""
 
 import math
 import unittest
@@ -31,8 +31,8 @@ def fault_of(question):
 def with_pairs(answer):
     """A program that answers each question so."""
     def program(_, text):
-        told = [f"{question},{answer(*fault_of(question))}\n" for question in lines_of(text.decode("ascii"))]
-        return "".join(told)
+        reported = [f"{question},{answer(*fault_of(question))}\n" for question in lines_of(text.decode("ascii"))]
+        return "".join(reported)
     return program
 
 
@@ -79,11 +79,11 @@ class Judging(unittest.TestCase):
             wrong, count, (width, (_, *at)) = self.run_with(program, run)
             self.assertEqual((wrong, count, width, tuple(at)), ([], len(SOME_TIMES), 1 + sum(slack), run))
 
-    def test_wrong_programs_are_told(self):
+    def test_wrong_programs_are_seen(self):
         for (what, program), run in product(WRONG.items(), RUNS):
             self.assertTrue(self.run_with(program, run)[0], what)
 
-    def test_the_widest_is_told(self):
+    def test_the_widest_is_seen(self):
         def wider_at_once(clear, xr, hz):
             lower, upper = pair_of(clear, xr, hz)
             return f"{lower},{upper + (5 if clear == SOME_TIMES[3] else 0)}"

@@ -40,12 +40,12 @@ class Searches(unittest.TestCase):
         self.assertFalse({got for got in refused if got.number == 5 and got.column not in read})
 
     def test_found_first_found_late_none_and_none_tried(self):
-        told = set(self.sound().values())
-        self.assertIn(("none", 0), told)
-        self.assertTrue(any(got[0] == "none" and got[1] > 0 for got in told))
-        self.assertTrue(any(got[0] == "found" and got[3] == 1 for got in told))
-        self.assertTrue(any(got[0] == "found" and got[3] > 11 for got in told))
-        self.assertLessEqual(max(got[-1] for got in told), fewest.MOST_YARDS)
+        reported = set(self.sound().values())
+        self.assertIn(("none", 0), reported)
+        self.assertTrue(any(got[0] == "none" and got[1] > 0 for got in reported))
+        self.assertTrue(any(got[0] == "found" and got[3] == 1 for got in reported))
+        self.assertTrue(any(got[0] == "found" and got[3] > 11 for got in reported))
+        self.assertLessEqual(max(got[-1] for got in reported), fewest.MOST_YARDS)
 
     def test_unread_values_change_nothing(self):
         anything = self.answers[questions.YARD._replace(across=26), 70000]

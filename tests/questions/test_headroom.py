@@ -43,23 +43,23 @@ class Headrooms(unittest.TestCase):
         for case, got in self.answers.items():
             self.assertEqual([], self.judge(case, got), case)
 
-    def test_the_rows_that_tell_are_stored(self):
+    def test_the_rows_that_decide_are_stored(self):
         """Each is judged by test_asked.py as every row is."""
         for case, got in self.sound().items():
-            told = LEAST - 1 if got == NONE else got
-            for fault in {told, told + 1}:
+            reported = LEAST - 1 if got == NONE else got
+            for fault in {reported, reported + 1}:
                 if LEAST <= fault <= MOST:
                     self.assertIn(case._replace(fault=fault), self.verdicts)
 
     def test_the_sample(self):
-        """Season 1 is unsafe at 3,180 A, season 2 safe; the manual tells both."""
+        """Season 1 is unsafe at 3,180 A, season 2 safe; the manual shows both."""
         self.assertEqual([self.answers[case] for case in headroom.sample()], [2600, 10023])
 
     def test_edges(self):
-        told = list(self.sound().values())
-        self.assertLessEqual({NONE, LEAST, LEAST + 1, 1000, MOST}, set(told))
-        self.assertGreaterEqual(len([got for got in told if got not in (NONE, LEAST, MOST)]), 50)
-        self.assertTrue(any(got != NONE and 20000 < got < MOST for got in told))
+        reported = list(self.sound().values())
+        self.assertLessEqual({NONE, LEAST, LEAST + 1, 1000, MOST}, set(reported))
+        self.assertGreaterEqual(len([got for got in reported if got not in (NONE, LEAST, MOST)]), 50)
+        self.assertTrue(any(got != NONE and 20000 < got < MOST for got in reported))
 
     def test_the_own_fault_current_does_not_matter(self):
         by_yard = {}
@@ -81,7 +81,7 @@ class Headrooms(unittest.TestCase):
             self.assertTrue(changed)
             self.assertEqual(changed, [case for case in changed if self.judge(case, others[case])])
 
-    def test_changed_refusals_are_told(self):
+    def test_changed_refusals_are_seen(self):
         for case, got in self.answers.items():
             if isinstance(got, Refusal):
                 for other in (got._replace(number=11 - got.number), got._replace(line=1), got._replace(column=got.column + 1),

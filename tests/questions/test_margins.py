@@ -1,7 +1,7 @@
 """Judges the run of the program `margins`, crates/margins/stdin and stdout, by the separately written calculator, and
-holds the judges to telling wrong programs.
+tests the judges.
 
-The ends of a row are the free part of it, so a number told is right if some right row has it: it is not below the exact
+The ends of a row are the free part of it, so a number reported is right if some right row has it: it is not below the exact
 share, and less than one above the share of a voltage that is a whole allowed width higher with a limit that is a whole
 allowed width lower. Safe is both numbers at most 0; unsafe needs an exact voltage that is not within its limit, and stands
 wherever one is above its limit by more than both widths. The order is that of the sheet's lines.
@@ -45,9 +45,9 @@ def volts(case, k):
             for names in PAIRS]
 
 
-def judge_numbers(case, told, k):
+def judge_numbers(case, reported, k):
     complaints = []
-    for name, number, (voltage, limit, wide, limit_wide) in zip(("mesh", "step"), told[3:], volts(case, k)):
+    for name, number, (voltage, limit, wide, limit_wide) in zip(("mesh", "step"), reported[3:], volts(case, k)):
         least = 1000 * (voltage.lower / limit.upper - 1)
         most = 1000 * ((voltage.upper + wide) / (limit.lower - limit_wide) - 1) + 1
         if not least <= number < most:
@@ -55,35 +55,35 @@ def judge_numbers(case, told, k):
     return complaints
 
 
-def judge_verdict(case, told, k):
+def judge_verdict(case, reported, k):
     found = volts(case, k)
-    is_safe = max(told[3:]) <= 0
+    is_safe = max(reported[3:]) <= 0
     within = all(voltage.upper <= limit.lower for voltage, limit, *_ in found)
     far_above = any(voltage.lower - wide > limit.upper + limit_wide for voltage, limit, wide, limit_wide in found)
     complaints = []
-    if is_safe != (told[2] == calc.SAFE):
+    if is_safe != (reported[2] == calc.SAFE):
         complaints.append("safe is not both numbers at most 0")
-    if told[2] == calc.UNSAFE and within:
+    if reported[2] == calc.UNSAFE and within:
         complaints.append("unsafe, yet both exact voltages are within")
-    if told[2] != calc.UNSAFE and far_above:
+    if reported[2] != calc.UNSAFE and far_above:
         complaints.append("not unsafe, yet an exact voltage is far above its limit")
     return complaints
 
 
-def judge_order(cases, told):
+def judge_order(cases, reported):
     """Every line once, in the sheet's order."""
     lines = [(case.station, case.season) for case in cases]
-    keys = [tuple(margin[:2]) for margin in told]
+    keys = [tuple(margin[:2]) for margin in reported]
     return [] if keys == lines else [f"the lines are {keys}, not {lines}"]
 
 
-def judge_told(cases, told):
-    """What is wrong with the margins told of a sheet with these cases, whatever the ends that its rows have."""
-    complaints = judge_order(cases, told)
+def judge_reported(cases, reported):
+    """What is wrong with the margins reported for a sheet with these cases, whatever the ends that its rows have."""
+    complaints = judge_order(cases, reported)
     if complaints:
         return complaints
     of_key = {(case.station, case.season): case for case in cases}
-    return [f"{margin}: {complaint}" for margin in told for k in DEPTHS for judge in (judge_numbers, judge_verdict)
+    return [f"{margin}: {complaint}" for margin in reported for k in DEPTHS for judge in (judge_numbers, judge_verdict)
             for complaint in judge(of_key[tuple(margin[:2])], margin, k)]
 
 
@@ -97,16 +97,16 @@ class Stored(unittest.TestCase):
         sheet = margins.FILE.read_bytes()
         cls.names = sheet.split(b"\n")[0].split(b",")
         cls.cases = calc.read_sheet(sheet)
-        cls.told = [Margin(*told) for told in read_margins(margins.FILE.with_name("stdout").read_text(encoding="ascii"))]
+        cls.reported = [Margin(*reported) for reported in read_margins(margins.FILE.with_name("stdout").read_text(encoding="ascii"))]
 
     def of_station(self, station):
-        return [margin for margin in self.told if margin.station == station]
+        return [margin for margin in self.reported if margin.station == station]
 
     def test_the_sheet_is_that_of_the_maker(self):
         self.assertEqual(margins.FILE.read_bytes(), margins.sheet())
 
     def test_the_margins_are_right(self):
-        self.assertEqual([], judge_told(self.cases, self.told))
+        self.assertEqual([], judge_reported(self.cases, self.reported))
 
     def test_document_01s_sample(self):
         self.assertEqual(self.of_station(7), [(7, 2, calc.SAFE, -682, -939), (7, 1, calc.UNSAFE, 223, -767)])
@@ -118,13 +118,13 @@ class Stored(unittest.TestCase):
 
     def test_verdicts_and_limits(self):
         """Each verdict, numbers at 0 and next to it, each of the two the worse, and step alone above its limit."""
-        self.assertEqual({margin.verdict for margin in self.told}, {calc.SAFE, calc.UNSAFE, calc.UNDECIDED})
+        self.assertEqual({margin.verdict for margin in self.reported}, {calc.SAFE, calc.UNSAFE, calc.UNDECIDED})
         for verdict, numbers in ((calc.SAFE, {0}), (calc.UNDECIDED, {1})):
-            found = [margin for margin in self.told if margin.verdict == verdict]
+            found = [margin for margin in self.reported if margin.verdict == verdict]
             for name in ("mesh", "step"):
                 self.assertLessEqual(numbers, {getattr(margin, name) for margin in found}, name)
-        self.assertTrue(any(margin.mesh > margin.step for margin in self.told))
-        self.assertTrue(any(margin.mesh <= 0 < margin.step and margin.verdict == calc.UNSAFE for margin in self.told))
+        self.assertTrue(any(margin.mesh > margin.step for margin in self.reported))
+        self.assertTrue(any(margin.mesh <= 0 < margin.step and margin.verdict == calc.UNSAFE for margin in self.reported))
 
 
 class WrongPrograms(unittest.TestCase):
@@ -136,23 +136,23 @@ class WrongPrograms(unittest.TestCase):
     def test_right(self):
         right = margins_of(self.rows)
         self.assertEqual([], margins.judge(self.rows, list(map(list, right))))
-        self.assertEqual([], judge_told(self.cases, right))
+        self.assertEqual([], judge_reported(self.cases, right))
 
     def test_numbers_two_off(self):
-        """Told of every number that is not large; the ends leave room for at most two of them."""
+        """Seen for every number that is not large; the ends leave room for at most two of them."""
         of_key = {case[:2]: case for case in self.cases}
         for margin in margins_of(self.rows):
             for name, by in product(("mesh", "step"), (-2, 2)):
                 number = getattr(margin, name)
-                told = margin._replace(**{name: number + by})
+                reported = margin._replace(**{name: number + by})
                 if abs(number) < LARGE:
-                    self.assertTrue(judge_numbers(of_key[margin[:2]], told, DEPTHS[-1]), told)
+                    self.assertTrue(judge_numbers(of_key[margin[:2]], reported, DEPTHS[-1]), reported)
 
     def test_refusals(self):
         refusal, right = Refusal(5, 2, 13), list(map(list, margins_of(self.rows)))
         self.assertEqual([], margins.judge(refusal, refusal))
-        for rows, told in ((refusal, Refusal(5, 2, 12)), (refusal, right), (self.rows, refusal)):
-            self.assertTrue(margins.judge(rows, told))
+        for rows, reported in ((refusal, Refusal(5, 2, 12)), (refusal, right), (self.rows, refusal)):
+            self.assertTrue(margins.judge(rows, reported))
 
 
 class Numbers(unittest.TestCase):

@@ -1,5 +1,5 @@
 """Judges the working of a case: the questions of kind `working` of crates/questions, against the separately written
-calculator, and holds what is answered for examples B.1 to B.3 of IEEE Std 80-2013, Annex B, to the figures printed there.
+calculator, and compares what is answered for examples B.1 to B.3 of IEEE Std 80-2013, Annex B, with the figures printed there.
 """
 
 import unittest
@@ -23,7 +23,7 @@ PRINTED = {
     B3: {"lc": "1659", "lr": "380", "lt": "2039", "kii": "1", "kh": "1.225", "km": "0.77"},
 }
 # Figures of the Annex that are no rounding of ours, each with what the Annex puts in: in B.3 it multiplies na and nb rounded
-# to 11.29 and 1.005, where n is 11.344, and works Ki from that product rounded to 11.35, where Ki is 2.3229.
+# to 11.29 and 1.005, where n is 11.344, and computes Ki from that product rounded to 11.35, where Ki is 2.3229.
 UNLIKE = {B3: {"n": ("11.35", Fraction("11.29") * Fraction("1.005")), "ki": ("2.324", calc.ki(Fraction("11.35")))}}
 # Mesh voltages: printed with IG 1908 A, of a decrement factor of 1.0, and with Km as printed; and of B.3 with Ki as printed.
 MESH = {B1: "1002.1", B2: "747.4", B3: "595.8"}
@@ -87,7 +87,7 @@ class Answers(Workings):
 
 
 class Judging(Workings):
-    """Answers changed a little, and answers of wrong programs, are told from right ones."""
+    """Answers changed a little are seen to be wrong."""
 
     def changed(self, got, name, pair):
         at = 2 * Working._fields.index(name)

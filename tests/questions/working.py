@@ -1,6 +1,6 @@
 """The working of a case: the quantities that IEEE Std 80-2013, Annex B, prints between a record and its row.
 
-Written from the documents beside the crate `working`, on the calculator's exact fractions, with a judge of what
+Written from the documents, separately from the crate `working`, on the calculator's exact fractions, with a judge of what
 the program `questions` answers to a question of kind `working`: a lower and an upper end of each quantity.
 """
 

@@ -4,7 +4,7 @@
 
 Any disagreement is printed with its sheet, and the exit status is then 1. With `--pairs` the sheets
 hold every pair of counts at each place of rods, with both ends of spacing and depth, and the widest
-pair of ends of each quantity is told. crates/sheets/stdin holds sheets made by tests/sheets/sheets.py, so that every check
+pair of ends of each quantity is reported. crates/sheets/stdin holds sheets made by tests/sheets/sheets.py, so that every check
 of the crates has a short run; tests/sheets/stored.py writes it.
 """
 
@@ -94,7 +94,7 @@ def run_pairs(program, cases):
     return wrong, widths
 
 
-def tell_sheets(program, seed, count):
+def report_sheets(program, seed, count):
     """Whether all sheets agree; the tallies are printed."""
     tally, rows, failed = run(program, seed, count)
     refused = ", ".join(f"{tally[number]} with {number}" for number in range(1, 9))
@@ -103,7 +103,7 @@ def tell_sheets(program, seed, count):
     return not failed
 
 
-def tell_pairs(program, seed):
+def report_pairs(program, seed):
     """Whether all rows of the pairs of counts are right; the widest ends are printed."""
     cases = sheets.cases_of_pairs(seed)
     wrong, widths = run_pairs(program, cases)
@@ -124,8 +124,8 @@ def main():
     parser.add_argument("--pairs", action="store_true", help="run every pair of counts and end")
     asked = parser.parse_args()
     if asked.pairs:
-        return 0 if tell_pairs(asked.program, asked.seed) else 1
-    return 0 if tell_sheets(asked.program, asked.seed, asked.count) else 1
+        return 0 if report_pairs(asked.program, asked.seed) else 1
+    return 0 if report_sheets(asked.program, asked.seed, asked.count) else 1
 
 
 if __name__ == "__main__":

@@ -11,7 +11,7 @@ from tests.sheets import sheets
 
 HEADER_NAMES = list(calc.NAMES)
 LIMIT_DEPTH = 9
-EQUAL_COUNTS = 0.1  # of the cases, beside those whose counts are equal by chance
+EQUAL_COUNTS = 0.1  # of the cases, in addition to those whose counts are equal by chance
 
 # Names of document 01, each with those that have its place, and the frequency of sheets without one.
 OLD_NAMES = {"ms": calc.CLOCKS, "lines": calc.COUNTS}
@@ -93,7 +93,7 @@ def meeting(case, voltage, limit):
 
 
 def undecided_for_all(case):
-    """Whether whole millivolts cannot tell a voltage from its limit, and the other is within."""
+    """Whether whole millivolts cannot separate a voltage from its limit, and the other is within."""
     ends = calc.exact_ends(case, LIMIT_DEPTH)
     met, within = [], []
     for voltage, limit in ((ends.mesh, ends.tolerable_touch), (ends.step, ends.tolerable_step)):
@@ -436,7 +436,7 @@ def random_sheet(rng):
 def numbered_sheet(seed, number):
     """The generator of a sheet, the sheet, and the name of what was done to it.
 
-    No sheet hangs on those before it.
+    No sheet depends on those before it.
     """
     rng = random.Random(f"{seed},{number}")
     return rng, *random_sheet(rng)

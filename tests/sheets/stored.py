@@ -1,6 +1,6 @@
 """The sheets that the program `sheets` is run on, each with what is asked of it, gathered from the modules that make them.
 
-    python3 -m tests.sheets.stored --write    # crates/sheets/stdin anew
+    python3 -m tests.sheets.stored --write    # rewrites crates/sheets/stdin
 
 A part of the input is a first line, the sheet and a byte 0. What is printed for it is the first line, the answers and an empty line.
 """
@@ -44,14 +44,14 @@ def text():
 def stored():
     """Each stored part, and what is printed for it without its first line."""
     asked = FILE.read_bytes()
-    told = sheet_answers(asked, FILE.with_name("stdout").read_text(encoding="ascii"))
-    return list(zip(asked.split(SHEET_END)[:-1], told))
+    reported = sheet_answers(asked, FILE.with_name("stdout").read_text(encoding="ascii"))
+    return list(zip(asked.split(SHEET_END)[:-1], reported))
 
 
 def stored_of(kind):
     """The stored input of a kind, and what is printed for it without the first lines."""
-    parts = [(part, told) for part, told in stored()[: -len(unknown())] if kind_of(part) == kind]
-    return b"".join(part + SHEET_END for part, _ in parts), "".join(told for _, told in parts)
+    parts = [(part, reported) for part, reported in stored()[: -len(unknown())] if kind_of(part) == kind]
+    return b"".join(part + SHEET_END for part, _ in parts), "".join(reported for _, reported in parts)
 
 
 def kind_of(part):

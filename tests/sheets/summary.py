@@ -2,7 +2,7 @@
 program `sheets` is asked for it on; tests/sheets/stored.py stores them.
 
 The upper mesh ends are the free part of a row: the summary is by the ends that the rows report, so it is
-worked from the rows. Each stored sheet has a length of the table of rows and one of the summary table.
+computed from the rows. Each stored sheet has a length of the table of rows and one of the summary table.
 """
 
 import random

@@ -1,9 +1,9 @@
 """Judges a batch of random sheets, sound and damaged: those of kind `rows` of crates/sheets, whose stdout `rt check sheets`
-holds to what the program prints for its stdin, against the separately written calculator.
+compares with what the program prints for its stdin, against the separately written calculator.
 
 Each sheet is answered four times: all numbers, then the verdicts, each for a table with room for
 every row and for one with room for two. After each answer stands how many numbers of the whole
-table kept what they held.
+table kept their values.
 """
 
 import unittest
@@ -65,7 +65,7 @@ def old_columns(sheet):
 
 def stays_safe(verdicts):
     """Whether no verdict after a safe one is another."""
-    return all(later == calc.SAFE for told, later in zip(verdicts, verdicts[1:]) if told == calc.SAFE)
+    return all(later == calc.SAFE for reported, later in zip(verdicts, verdicts[1:]) if reported == calc.SAFE)
 
 
 class Batch(unittest.TestCase):
@@ -216,10 +216,10 @@ class Coverage(Batch):
         verdicts = [row[2] for row in self.rows[self.wanted.index(cases)]]
         seasons = [verdicts[at : at + sheets.SEASONS]
                    for at in range(0, len(verdicts), sheets.SEASONS)]
-        self.assertEqual([], [told for told in seasons if not stays_safe(told)])
-        first = [told[0] for told in seasons]
+        self.assertEqual([], [reported for reported in seasons if not stays_safe(reported)])
+        first = [reported[0] for reported in seasons]
         self.assertGreaterEqual(min(first.count(calc.SAFE), first.count(calc.UNSAFE)), LEAST_OF_EACH)
-        self.assertIn(calc.SAFE, {told[1] for told in seasons if told[0] != calc.SAFE})
+        self.assertIn(calc.SAFE, {reported[1] for reported in seasons if reported[0] != calc.SAFE})
 
     def test_one_sheet_is_of_the_pairs_of_counts(self):
         share = sheets.cases_of_pairs(sheets.BATCH_SEED)[:: sheets.PAIRS_EVERY]

@@ -1,4 +1,4 @@
-"""Judges sheets carried over: those of kind `carry` of crates/sheets, whose stdout `rt check sheets` holds to what the
+"""Judges sheets carried over: those of kind `carry` of crates/sheets, whose stdout `rt check sheets` compares with what the
 program prints for its stdin, answer by answer by the words of request (e) of document 02; what the
 programs `carry` and `carry_back` print for document 01's sample; and tests the conversion itself.
 
@@ -86,8 +86,8 @@ class Stored(unittest.TestCase):
         cls.text, cls.out = stored.stored_of("carry")
         cls.questions = list(carry.questions(cls.text))
         cls.answers = answers_of(cls.out)
-        cls.told = [(*question, *given) for question, given in zip(cls.questions, cls.answers) if given]
-        cls.texts = [(way, sheet, given) for way, sheet, _, given, _ in cls.told if not isinstance(given, Refusal)]
+        cls.reported = [(*question, *given) for question, given in zip(cls.questions, cls.answers) if given]
+        cls.texts = [(way, sheet, given) for way, sheet, _, given, _ in cls.reported if not isinstance(given, Refusal)]
 
 
 class Answers(Stored):
@@ -131,7 +131,7 @@ def as_document_01(case):
 class Coverage(Stored):
     def test_every_refusal_comes_up_each_way(self):
         sheets = defaultdict(set)
-        for way, sheet, _, given, _ in self.told:
+        for way, sheet, _, given, _ in self.reported:
             if isinstance(given, Refusal):
                 sheets[way.name, given.number].add(sheet)
         refusals = {ON.name: (1, 2, 3, 4, 5, 6, 7, 8), BACK.name: tuple(range(1, 12))}
@@ -142,7 +142,7 @@ class Coverage(Stored):
 
     def test_exact_fit_and_one_byte_short(self):
         found = Counter()
-        for way, sheet, room, given, _ in self.told:
+        for way, sheet, room, given, _ in self.reported:
             needed = written(answer(way, sheet, BUFFER))
             if needed and room in (needed, needed - 1):
                 found[way.name, room - needed] += 1
@@ -153,7 +153,7 @@ class Coverage(Stored):
     def test_the_largest_texts(self):
         for way, largest in LARGEST.items():
             self.assertEqual(max(len(text) for found, _, text in self.texts if found is way), largest)
-            rooms = {room for found, sheet, room, _, _ in self.told
+            rooms = {room for found, sheet, room, _, _ in self.reported
                      if found is way and written(answer(way, sheet, BUFFER)) == largest}
             self.assertLessEqual({largest, largest - 1, BUFFER}, rooms)
 
@@ -166,7 +166,7 @@ class Coverage(Stored):
     def test_limits_of_lines_and_bytes(self):
         counts = {text.count(b"\n") - 1 for _, _, text in self.texts}
         self.assertLessEqual({1, 2, 3, 5, 8, calc.MAX_VALUE_LINES}, counts)
-        given = {(way.name, refusal) for way, _, _, refusal, _ in self.told if isinstance(refusal, Refusal)}
+        given = {(way.name, refusal) for way, _, _, refusal, _ in self.reported if isinstance(refusal, Refusal)}
         past, last = calc.MAX_VALUE_LINES + 2, calc.MAX_VALUE_LINES + 1
         for way in carry.WAYS:
             self.assertLessEqual({(way.name, Refusal(4, line, 0)) for line in (2, past)}, given)
@@ -182,7 +182,7 @@ class Coverage(Stored):
 
     def test_every_column_out_of_range_and_surplus(self):
         for way in carry.WAYS:
-            given = {refusal for found, _, _, refusal, _ in self.told if found is way and isinstance(refusal, Refusal)}
+            given = {refusal for found, _, _, refusal, _ in self.reported if found is way and isinstance(refusal, Refusal)}
             columns = {refusal.column for refusal in given if refusal.number == 5}
             self.assertEqual(columns, set(range(1, way.source.count + 1)))
             self.assertIn(way.source.count + 1, {refusal.column for refusal in given if refusal.number == 3})
@@ -247,7 +247,7 @@ class Conversion(unittest.TestCase):
                 (b",ms,", b",shock,", (2, 1, 6)), (b"7,2,", b"7,1,", (7, 3, 0))):
             self.assertEqual(answer(ON, SAMPLE.replace(old, new, 1), 0), Refusal(*refusal))
 
-    def test_the_judge_tells_a_wrong_count_of_kept_bytes(self):
+    def test_the_judge_sees_a_wrong_count_of_kept_bytes(self):
         self.assertEqual(judge(ON, SAMPLE, BUFFER, CARRIED, BUFFER - len(CARRIED)), [])
         for kept in (BUFFER, BUFFER - len(CARRIED) - 1, 0):
             self.assertNotEqual(judge(ON, SAMPLE, BUFFER, CARRIED, kept), [])

@@ -1,4 +1,4 @@
-"""Tests of the differential run: it passes a right program and tells wrong ones."""
+"""Tests of the differential run: it passes a right program and sees wrong ones."""
 
 import io
 import random
@@ -69,7 +69,7 @@ class Differential(unittest.TestCase):
         self.assertEqual(sum(tally.values()), COUNT)
         self.assertGreater(rows, COUNT)
 
-    def test_wrong_programs_are_told(self):
+    def test_wrong_programs_are_seen(self):
         for what, program in WRONG.items():
             self.assertGreater(self.run_with(program)[2], 0, what)
 
@@ -121,7 +121,7 @@ class Pairs(unittest.TestCase):
         self.assertTrue(wrong)
         self.assertEqual(widths, [])
 
-    def test_a_wide_pair_is_told(self):
+    def test_a_wide_pair_is_seen(self):
         """Tolerable touch twice as wide as it may be."""
         at = calc.pair_place("tolerable_touch")
 

@@ -9,7 +9,7 @@ from tests.calculator.printed import ROW_NAMES, lines_of, read_row, whole
 from tests.sheets import differential, release, stored
 
 
-class Told:
+class Answer:
     """An answer of `sheets`: a refusal, or the entries and the sheet's rows; and how much the table kept."""
 
     def __init__(self, lines):
@@ -46,7 +46,7 @@ def answers_of(text):
     for line in lines_of(text):
         lines.append(line)
         if line.startswith("kept,"):
-            answers.append(Told(lines))
+            answers.append(Answer(lines))
             lines = []
     if lines:
         raise ValueError("the last answer does not say what was kept")
@@ -63,37 +63,37 @@ class Stored(unittest.TestCase):
         cls.asked = release.blocks()
         cls.wanted = [release.answer(*asked) for asked in cls.asked]
         cls.text, printed = stored.stored_of("release")
-        cls.told = answers_of(printed)
+        cls.reported = answers_of(printed)
 
     def answered(self):
-        return [(licence, wanted, told) for (_, licence, _), wanted, told in zip(self.asked, self.wanted, self.told)
-                if not told.refusal]
+        return [(licence, wanted, reported) for (_, licence, _), wanted, reported in zip(self.asked, self.wanted, self.reported)
+                if not reported.refusal]
 
     def stations(self):
         """The lines of each entry's station and its eight numbers."""
-        for licence, cases, told in self.answered():
-            for numbers in told.entries:
+        for licence, cases, reported in self.answered():
+            for numbers in reported.entries:
                 yield [case for case in cases if case.station == numbers[0]], numbers
 
     def test_the_portfolios_are_those_of_the_maker(self):
         self.assertEqual(self.text, release.text_of(self.asked))
 
     def test_every_portfolio_has_its_answer(self):
-        self.assertEqual(len(self.told), len(self.asked))
-        for (_, licence, _), wanted, told in zip(self.asked, self.wanted, self.told):
+        self.assertEqual(len(self.reported), len(self.asked))
+        for (_, licence, _), wanted, reported in zip(self.asked, self.wanted, self.reported):
             if isinstance(wanted, Refusal):
-                self.assertEqual(told.refusal, wanted)
+                self.assertEqual(reported.refusal, wanted)
             else:
-                self.assertIsNone(told.refusal)
-                self.assertEqual(len(told.entries), len(licence) // 3)
+                self.assertIsNone(reported.refusal)
+                self.assertEqual(len(reported.entries), len(licence) // 3)
 
     def test_the_rows_are_right(self):
-        for _, cases, told in self.answered():
-            self.assertEqual([], differential.judge(cases, told.rows, lambda: False))
+        for _, cases, reported in self.answered():
+            self.assertEqual([], differential.judge(cases, reported.rows, lambda: False))
 
     def test_the_numbers_are_those_of_the_rows(self):
-        for licence, cases, told in self.answered():
-            self.assertEqual([numbers[:-1] for numbers in told.entries], release.release_of(licence, cases, told.rows))
+        for licence, cases, reported in self.answered():
+            self.assertEqual([numbers[:-1] for numbers in reported.entries], release.release_of(licence, cases, reported.rows))
 
     def test_the_fault_currents_are_right(self):
         for cases, numbers in self.stations():
@@ -106,21 +106,21 @@ class Stored(unittest.TestCase):
                 self.assertLessEqual(max(case.fault for case in cases), release.MOST_FAULT)
 
     def test_all_else_in_the_table_is_kept(self):
-        for told in self.told:
-            self.assertEqual(told.kept, release.TABLE - release.ENTRY_LENGTH * len(told.entries))
+        for reported in self.reported:
+            self.assertEqual(reported.kept, release.TABLE - release.ENTRY_LENGTH * len(reported.entries))
 
     def test_what_is_stored(self):
         """Refusals of every kind, stations released and held for each of the five reasons alone, stations without a line."""
-        refused = {(told.refusal.number, told.refusal.column if told.refusal.number == 22 else 0)
-                   for told in self.told if told.refusal}
+        refused = {(reported.refusal.number, reported.refusal.column if reported.refusal.number == 22 else 0)
+                   for reported in self.reported if reported.refusal}
         self.assertEqual({*((number, 0) for number in range(1, 8)), (21, 0), (22, 1), (22, 2), (22, 3), (23, 0)}, refused)
-        entries = [numbers for _, _, told in self.answered() for numbers in told.entries]
+        entries = [numbers for _, _, reported in self.answered() for numbers in reported.entries]
         self.assertTrue(any(numbers[1] == 1 for numbers in entries))
         for place in range(2, 7):
             self.assertTrue(any(numbers[place] and not any(numbers[2:place] + numbers[place + 1 : 7]) for numbers in entries), place)
         self.assertTrue(any(numbers[7] == 0 for numbers in entries))
         self.assertTrue(any(0 < numbers[7] < release.MOST_FAULT for numbers in entries))
-        self.assertIn(release.MOST_NUMBERS // 3, [len(told.entries) for told in self.told])
+        self.assertIn(release.MOST_NUMBERS // 3, [len(reported.entries) for reported in self.reported])
 
     def test_wrong_fault_currents_are_seen(self):
         """None at all, the line's own, and a hundredth more or less."""

@@ -1,4 +1,4 @@
-"""Holds the stored input of `sheets` to what the modules make, and judges the answers to parts that ask nothing.
+"""Compares the stored input of `sheets` with what the modules make, and judges the answers to parts that ask nothing.
 test_batch.py, test_summary.py, test_carry.py and test_release.py judge the others.
 """
 
@@ -27,19 +27,19 @@ class Stored(unittest.TestCase):
     def test_what_asks_nothing_is_unknown(self):
         last = self.stored[-len(stored.unknown()) :]
         self.assertEqual([part for part, _ in last], stored.unknown())
-        self.assertEqual({told for _, told in last}, {"unknown\n"})
+        self.assertEqual({reported for _, reported in last}, {"unknown\n"})
 
 
 class Apart(unittest.TestCase):
-    """What is printed is taken apart strictly."""
+    """What is printed is split strictly."""
 
     def test_answers(self):
         asked = b"rows\nx" + SHEET_END + b"\n" + SHEET_END
         self.assertEqual(sheet_answers(asked, "rows\nkept,1\n\n\nunknown\n\n"), ["kept,1\n", "unknown\n"])
-        for told in ("", "rows\nkept,1\n\n", "rows\nkept,1\n\n\nunknown\n", "row\nkept,1\n\n\nunknown\n\n",
+        for reported in ("", "rows\nkept,1\n\n", "rows\nkept,1\n\n\nunknown\n", "row\nkept,1\n\n\nunknown\n\n",
                      "\nunknown\n\nrows\nkept,1\n\n", "rows\nkept,1\n\n\nunknown\n\nmore\n\n", "too long\n"):
             with self.assertRaises(ValueError):
-                sheet_answers(asked, told)
+                sheet_answers(asked, reported)
 
 
 if __name__ == "__main__":

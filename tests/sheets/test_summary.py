@@ -15,7 +15,7 @@ NAMES = ("station", "seasons", "safe", "unsafe", "undecided", "highest_mesh_seas
 DEPTH = 9
 
 
-class Told:
+class Answer:
     """An answer of `sheets`: a refusal, or counts, stations and rows; and how much both tables kept."""
 
     def __init__(self, lines):
@@ -53,7 +53,7 @@ def answers_of(text):
     for line in lines_of(text):
         lines.append(line)
         if line.startswith("kept,"):
-            answers.append(Told(lines))
+            answers.append(Answer(lines))
             lines = []
     if lines:
         raise ValueError("the last answer does not say what was kept")
@@ -70,52 +70,52 @@ class Stored(unittest.TestCase):
         cls.asked = summary.blocks()
         cls.wanted = [summary.answer(*asked) for asked in cls.asked]
         cls.text, printed = stored.stored_of("summary")
-        cls.told = answers_of(printed)
+        cls.reported = answers_of(printed)
 
     def answered(self):
-        return [(wanted, told) for wanted, told in zip(self.wanted, self.told) if not told.refusal]
+        return [(wanted, reported) for wanted, reported in zip(self.wanted, self.reported) if not reported.refusal]
 
     def test_the_sheets_are_those_of_the_maker(self):
         self.assertEqual(self.text, summary.text_of(self.asked))
 
     def test_every_sheet_has_its_answer(self):
-        self.assertEqual(len(self.told), len(self.asked))
-        for asked, wanted, told in zip(self.asked, self.wanted, self.told):
-            got = told.refusal or told.counts
+        self.assertEqual(len(self.reported), len(self.asked))
+        for asked, wanted, reported in zip(self.asked, self.wanted, self.reported):
+            got = reported.refusal or reported.counts
             if not isinstance(wanted, Refusal):
                 wanted = len(wanted), len(summary.stations_of(wanted))
             self.assertEqual(got, wanted, asked)
 
     def test_the_rows_are_right(self):
-        for cases, told in self.answered():
-            self.assertEqual([], differential.judge(cases, told.rows, lambda: False))
+        for cases, reported in self.answered():
+            self.assertEqual([], differential.judge(cases, reported.rows, lambda: False))
 
     def test_the_summary_is_that_of_the_rows(self):
-        for _, told in self.answered():
-            self.assertEqual(told.stations, summary.summary_of(told.rows))
+        for _, reported in self.answered():
+            self.assertEqual(reported.stations, summary.summary_of(reported.rows))
 
     def test_counts_add_up_and_every_station_stands_once(self):
-        for _, told in self.answered():
-            for _, seasons, *counts, _ in told.stations:
+        for _, reported in self.answered():
+            for _, seasons, *counts, _ in reported.stations:
                 self.assertEqual(sum(counts), seasons)
-            self.assertEqual(sum(numbers[1] for numbers in told.stations), len(told.rows))
-            self.assertEqual(sorted(numbers[0] for numbers in told.stations), sorted({row[0] for row in told.rows}))
+            self.assertEqual(sum(numbers[1] for numbers in reported.stations), len(reported.rows))
+            self.assertEqual(sorted(numbers[0] for numbers in reported.stations), sorted({row[0] for row in reported.rows}))
 
     def test_all_else_in_both_tables_is_kept(self):
-        for told in self.told:
-            n, m = (0, 0) if told.refusal else told.counts
-            self.assertEqual(told.kept, (summary.MOST_ROWS - calc.ROW_LENGTH * n,
+        for reported in self.reported:
+            n, m = (0, 0) if reported.refusal else reported.counts
+            self.assertEqual(reported.kept, (summary.MOST_ROWS - calc.ROW_LENGTH * n,
                                          summary.MOST_SUMMARY - summary.STATION_LENGTH * m))
 
     def test_what_is_stored(self):
         """Refusals of every kind, ties at the highest end, four seasons, the most stations, scattered lines."""
-        refused = {told.refusal.number for told in self.told if told.refusal}
+        refused = {reported.refusal.number for reported in self.reported if reported.refusal}
         self.assertLessEqual({1, 2, 3, 6, 7, 8, 20}, refused)
-        tables = [told for _, told in self.answered()]
-        self.assertIn((calc.MAX_VALUE_LINES, calc.MAX_VALUE_LINES), [told.counts for told in tables])
-        self.assertIn((calc.MAX_VALUE_LINES, calc.MAX_VALUE_LINES // 4), [told.counts for told in tables])
-        self.assertTrue(any(told.counts == (4, 1) for told in tables))
-        verdicts = {row[2] for told in tables for row in told.rows}
+        tables = [reported for _, reported in self.answered()]
+        self.assertIn((calc.MAX_VALUE_LINES, calc.MAX_VALUE_LINES), [reported.counts for reported in tables])
+        self.assertIn((calc.MAX_VALUE_LINES, calc.MAX_VALUE_LINES // 4), [reported.counts for reported in tables])
+        self.assertTrue(any(reported.counts == (4, 1) for reported in tables))
+        verdicts = {row[2] for reported in tables for row in reported.rows}
         self.assertEqual(verdicts, set(summary.VERDICTS))
 
 

@@ -1,4 +1,4 @@
-"""Holds docs/commands.md and the Python of docs/api.md to what is printed."""
+"""docs/commands.md and the Python of docs/api.md show what is printed."""
 from __future__ import annotations
 
 import contextlib
