@@ -11,7 +11,7 @@ import tempfile
 import unittest
 
 from hocsimbur import core
-from hocsimbur.command import cli, help_texts, terminal
+from hocsimbur.command import cli, help_texts, terminal, yards
 from hocsimbur.report import document
 from hocsimbur.sheets import layout
 
@@ -151,6 +151,14 @@ class Statuses(unittest.TestCase):
         self.assertIn("give their length, as --rodlen 3m", run("fewest", "tests/sample.csv", "--season", "1", "--side", "70m").err)
         self.assertIn("only one is taken here", run("fewest", "examples/rods.csv", "--side", "60m").err)
         self.assertIn("no line for station 9", run("fewest", "examples/rods.csv", "--side", "60m", "--station", "9").err)
+
+    def test_the_fewest_in_words(self):
+        for found, sentence in (
+                (core.Fewest(True, 9, 28, 63), "9 conductors each way, 7.5 m apart, and 28 rods at the perimeter; 63 yards tried"),
+                (core.Fewest(True, 3, 0, 1), "3 conductors each way, 30 m apart, and no rods; 1 yard tried"),
+                (core.Fewest(False, 0, 0, 88), "none of the 88 yards tried is safe"),
+                (core.Fewest(False, 0, 0, 0), "no yard was tried: no count of conductors from 2 to 25 parts 60 m into whole mm from 2.5 to 30 m")):
+            self.assertEqual(yards.said(found, 60000), sentence)
 
     def test_the_ends_of_a_side(self):
         """A side that the library can be asked about is asked about; the message says who refused it."""

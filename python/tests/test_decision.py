@@ -3,6 +3,7 @@ from __future__ import annotations
 
 import random
 import unittest
+from unittest import mock
 
 from hocsimbur import core
 from hocsimbur.portfolio import advice, asking, decision, licence, reasons
@@ -98,6 +99,12 @@ class Answers(unittest.TestCase):
         for line in lines:
             self.assertEqual(line.small_wire, line.case["fault"] > line.wire_to)
 
+
+    def test_the_guess_needs_no_halving(self):
+        """For every line of the example the library is asked at the guess and one ampere above, and no more."""
+        with mock.patch.object(asking, "small_wires", side_effect=asking.small_wires) as asked:
+            asking.wires_enough_to(CASES, core.rows(SHEET))
+        self.assertEqual(asked.call_count, 2)
 
     def test_a_wrong_guess_changes_nothing(self):
         """The fault current of a wire is asked on both sides; where the guess is wrong, by halving."""

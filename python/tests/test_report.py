@@ -146,6 +146,9 @@ class StationPages(unittest.TestCase):
             self.assertEqual(marked, [name for name in names if len({one[name] for one in lines}) > 1])
             of_yard = [name for name, row in zip(names, rows) if "yard" in row.classes]
             self.assertEqual(of_yard, [name for name in marked if name in YARD])
+            key = "≠differs between seasons" if marked else "nothing differs between seasons"
+            caption = section(station).one("table", "inp").one("caption").text()
+            self.assertEqual(caption, f"Inputs {key}; the yard, which must not" if of_yard else f"Inputs {key}")
 
     def test_bars(self):
         for station in with_lines():
@@ -432,6 +435,52 @@ class Others(unittest.TestCase):
         tree = read(rendered(SHEET, "portfolio.csv", licence.Licence((licence.Licensed(7, "Nowhere", (1, 2)),)), DATE))
         self.assertEqual(len(list(tree.all("section"))), 1)
         self.assertEqual(tree.one("tbody", "st").one("span", "badge").text(), "HELD")
+
+
+class Drawings(unittest.TestCase):
+    """The text of each drawing."""
+
+    SCALE = drawing.Scale(2000, 2500)
+    HEAD = '<svg class="bar" viewBox="0 0 2000 20" preserveAspectRatio="none" role="img" aria-labelledby="a1"><title id="a1">P &amp; Q</title>'
+    BASE = '<rect class="base" x="0" y="2" width="4" height="16"/>'
+    LIMIT = '<rect class="limit" x="996" y="0" width="8" height="20"/></svg>'
+
+    def bar(self, share: int, *others: int) -> str:
+        drawn = drawing.bar(share, self.SCALE, "a1", "P & Q", others)
+        self.assertTrue(drawn.startswith(self.HEAD + self.BASE) and drawn.endswith(self.LIMIT), drawn)
+        return drawn[len(self.HEAD + self.BASE):-len(self.LIMIT)]
+
+    def test_a_bar_below_its_limit(self):
+        self.assertEqual(self.bar(700), '<rect class="fill" x="0" y="5" width="700" height="10"/>')
+        self.assertEqual(self.bar(1000), '<rect class="fill" x="0" y="5" width="1000" height="10"/>')
+
+    def test_a_bar_above_its_limit(self):
+        self.assertEqual(self.bar(2000), '<rect class="fill" x="0" y="5" width="1000" height="10"/>'
+                                         '<rect class="over" x="1000" y="5" width="1000" height="10"/>')
+
+    def test_a_bar_that_is_cut(self):
+        self.assertEqual(self.bar(2001), self.bar(2000) + '<path class="cut" d="M1940 5l25 5-25 5M1970 5l25 5-25 5"/>')
+
+    def test_ticks(self):
+        tick = '<rect class="tick" x="{}" y="5" width="9" height="10"/>'
+        self.assertEqual(self.bar(700, 2, 600, 3000), self.bar(700) + tick.format(0) + tick.format(595) + tick.format(1995))
+
+    def test_no_bar(self):
+        self.assertEqual(drawing.no_bar(self.SCALE, "a1", "P & Q"), self.HEAD + self.BASE + self.LIMIT)
+
+    def test_between_and_axis(self):
+        self.assertEqual(drawing.between(self.SCALE), '<svg class="bar" viewBox="0 0 2000 20" preserveAspectRatio="none" aria-hidden="true" '
+                                                      'focusable="false">' + self.LIMIT)
+        self.assertEqual(drawing.axis(self.SCALE), '<span class="axis" aria-hidden="true"><span style="left:calc(100% * 0 / 2000)">0</span>'
+                                                   '<span style="left:calc(100% * 500 / 2000)">50</span>'
+                                                   '<span style="left:calc(100% * 1000 / 2000)">100 % limit</span></span>')
+
+    def test_marks(self):
+        self.assertEqual(drawing.mark("unsafe"), '<svg class="mark unsafe" viewBox="0 0 160 160" aria-hidden="true" focusable="false">'
+                                                 '<path d="M80 16 150 144H10z"/></svg>')
+
+    def test_cuts(self):
+        self.assertEqual([drawing.Scale(2000, greatest).cuts for greatest in (1999, 2000, 2001)], [False, False, True])
 
 
 if __name__ == "__main__":

@@ -235,6 +235,15 @@ class Staged(unittest.TestCase):
             self.assertEqual((done.status, done.out), (1, ""))
             self.assertTrue(done.err.startswith(said), done.err)
 
+    def test_a_file_or_options(self):
+        for arguments in (["x", "--injected", "1,0"], ["x", "--branch", "1,0"], ["x", "--injected", "1,0", "--branch", "1,0"]):
+            self.assertEqual(run("staged", *arguments), (3, "", "hocsimbur: give either a file or --injected and --branch\n"))
+        for arguments in ([], ["--branch", "1,0"]):
+            self.assertEqual(run("staged", *arguments), (3, "", "hocsimbur: give a file, or --injected and a --branch for each branch\n"))
+        for arguments in ([], ["x", "--reading", "1,1"]):
+            self.assertEqual(run("wenner", *arguments),
+                             (3, "", "hocsimbur: give either a file of readings or --reading METRES,OHMS once for each reading\n"))
+
     def test_the_ends_of_angles(self):
         for angle in ("360", "-360", "0", "0.0", "+360°"):
             self.assertEqual(run("staged", "--csv", "--injected", "1,0", "--branch", f"0.4@{angle}").out.split("\n")[1], "600,0,600")
