@@ -31,6 +31,28 @@ class Amounts(unittest.TestCase):
             with self.assertRaises(amounts.Unclear, msg=text):
                 amounts.length(text)
 
+    def test_the_words_of_a_refusal(self):
+        for question, text, words in (
+                (amounts.decimal, " 1,000 ", "'1,000' has a comma; write thousands without one"),
+                (amounts.decimal, "1,5", "'1,5' has a comma; write a decimal point"),
+                (amounts.decimal, "1" * 41, f"'{'1' * 41}' is no number"),
+                (amounts.length, "70km", "'70km' is no length; write for example 70m, 70000mm or 70000 (mm)"),
+                (amounts.length, "0.0005 m", "0.0005 m is not a whole number of mm; it is not rounded"),
+                (amounts.length, "0.5", "0.5 mm is not a whole number of mm; it is not rounded"),
+                (amounts.voltage, "5MW", "'5MW' is no voltage; write for example 5kV, 5000V or 5000 (V)"),
+                (amounts.voltage, "0.0001", "0.0001 V is not a whole number of mV; it is not rounded")):
+            with self.assertRaises(amounts.Unclear) as caught:
+                question(text)
+            self.assertEqual(str(caught.exception), words)
+
+    def test_the_longest_number(self):
+        self.assertEqual(amounts.decimal("1" * 40), int("1" * 40))
+        self.assertEqual([amounts.decimal(text) for text in ("5.", ".5", "+5", "\u22125.0")], [5, Fraction(1, 2), 5, -5])
+
+    def test_twelve_decimals_are_shown(self):
+        self.assertEqual(amounts.shown(Fraction(1, 10 ** 12)), "0.000000000001")
+        self.assertEqual(amounts.shown(-Fraction(1, 10 ** 13)), "-0.000000…")
+
     def test_cosines_are_enclosed(self):
         for tenths in range(-3600, 3601, 37):
             lower, upper = amounts._cosine(Fraction(tenths, 10))

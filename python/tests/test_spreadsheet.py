@@ -109,6 +109,14 @@ class Made(unittest.TestCase):
             spreadsheet.make(changed(hz="x,y"))
         self.assertEqual([said.split(":")[0] for said in caught.exception.said], ["line 2, hz (column 22)", "line 2, column 23"])
 
+    def test_the_sign_between_fields(self):
+        """That of the first line with two of them; else the first line's own, and without one a comma."""
+        for text, sign in (("", ","), ("\n \n", ","), ("station\n", ","), ("station;season\n", ";"), ("station\tseason\nx\n", "\t"),
+                           ("Yards, 2026\nstation;season;soil\n", ";"), ("Yards, of, 2026\nstation;season;soil;layer\n", ","),
+                           ("Yards\nstation\tseason\tsoil\n1;2;3;4\n", "\t"), ("a;b;c,d,e,f\n", ","), ("sep=;\na,b,c\n", ";"),
+                           ("sep=\t\na,b,c\n", "\t"), ("sep=;,\na,b,c\n", ",")):
+            self.assertEqual(spreadsheet._sign(text), sign, text)
+
     def test_thousands_by_points(self):
         self.assertEqual([spreadsheet.exact(text, ";") for text in ("1.234.567", "1.234.567,0", "1,234,567", "12,5", "12.5")],
                          [1234567, 1234567, 1234567, Fraction(25, 2), Fraction(25, 2)])
