@@ -20,6 +20,7 @@ from hocsimbur.sheets import checking, files, layout
 from hocsimbur.sheets.files import File, Lines, Place
 from hocsimbur.sheets.names import NAMES
 
+from . import dom
 from .common import PYTHON, ROOT, SAMPLE, changed, run
 from .portfolios import CASES, LICENCE, SHEET, case, granted
 
@@ -285,6 +286,18 @@ class Report(Folder):
         for data in (sheet(case(104, 1)), sheet(case(104, 2))):
             self.assertIn(hashlib.sha256(data).hexdigest(), text)
         self.assertNotIn("sign", run("report", first).out.split("</style>")[1])
+
+    def meta(self, *arguments: str):
+        """What stands at the head of a report, by its name."""
+        head = dom.read(run("report", *arguments).out).one("dl", "meta")
+        return {one.one("dt").text(): one.one("dd").text() for one in head.all("div")}
+
+    def test_the_head_of_the_first_page(self):
+        first, second = self.file("a.csv", SAMPLE), self.file("b.csv", sheet(case(104, 1)))
+        version = f"Hocsimbur {core.version()}"
+        self.assertEqual(self.meta(first, "--date", "D", "--project", "P & Q", "--engineer", "E"), {
+            "Project": "P & Q", "Date": "D", "Sheet": "a.csv", "SHA-256": hashlib.sha256(SAMPLE).hexdigest()[:12], "Library": version, "Engineer": "E"})
+        self.assertEqual(self.meta(first, second, "--date", "D"), {"Date": "D", "Sheets": "2", "Library": version})
 
     def test_on_standard_output(self):
         self.assertEqual(run("report", "tests/sample.csv", "--date", "x", "-o", "-").out, run("report", "tests/sample.csv", "--date", "x").out)

@@ -479,6 +479,15 @@ class Drawings(unittest.TestCase):
         self.assertEqual(drawing.mark("unsafe"), '<svg class="mark unsafe" viewBox="0 0 160 160" aria-hidden="true" focusable="false">'
                                                  '<path d="M80 16 150 144H10z"/></svg>')
 
+    def test_shapes(self):
+        """Closed elements alone, inside the box of a mark."""
+        for kind, shape in drawing.SHAPES.items():
+            for one in read(f"<svg>{shape}</svg>").one("svg").children:
+                self.assertIsInstance(one, Node, kind)
+                self.assertIn(one.tag, ("circle", "path"), kind)
+                numbers = [int(number) for number in re.findall(r"\d+", " ".join(one.attributes.values()))]
+                self.assertTrue(numbers and max(numbers) <= 160, kind)
+
     def test_cuts(self):
         self.assertEqual([drawing.Scale(2000, greatest).cuts for greatest in (1999, 2000, 2001)], [False, False, True])
 

@@ -10,7 +10,7 @@ from hocsimbur import core
 from hocsimbur.sheets import amounts, site
 from hocsimbur.core import Pair
 
-from .common import run
+from .common import NAMES, run
 
 # IEEE Std 81.2, the table of section 10.4: currents in A and degrees of 1000 A injected; the induced current of the second ground wire
 # flows towards the grid, so that it counts negative
@@ -150,10 +150,8 @@ class Readings(unittest.TestCase):
                 (["--reading", "1,1001"], "reading 1, resistance: 1,001 Ω is not in 0.001..1,000 Ω"),
                 (["--reading", "4294968.296,10"], "reading 4294968.296,10: distance: 4294968.296 is far out of range"),
                 (["--reading=-1,1"], "reading -1,1: distance: -1 is far out of range"),
-                (["tests/sample.csv"], "tests/sample.csv: line 1: the names must be metres,ohms or feet,ohms; here they are station,season")):
-            done = run("wenner", *arguments)
-            self.assertEqual((done.status, done.out), (1, ""))
-            self.assertTrue(done.err.startswith(said), done.err)
+                (["tests/sample.csv"], "tests/sample.csv: line 1: the names must be metres,ohms or feet,ohms; here they are " + ",".join(NAMES))):
+            self.assertEqual(run("wenner", *arguments), (1, "", said + "\n"))
 
     def test_neither_or_both(self):
         for command, arguments in (("wenner", []), ("wenner", ["x.csv", "--reading", "1,1"]), ("staged", []), ("staged", ["--branch", "1,0"]),
@@ -245,17 +243,20 @@ class Staged(unittest.TestCase):
 
     def test_refused(self):
         for arguments, said in (
-                (["--injected", "1000,0"], "there are 0 branches"),
-                (["--injected", "1000", "--branch", "1,0"], "current 1000: '1000' is not two numbers"),
-                (["--injected", "1000,0", "--branch", "0.0005,0"], "current 0.0005,0: 0.0005 A is not a whole number of mA"),
+                (["--injected", "1000,0"], "there are 0 branches; the injected current and 1 to 16 branches are needed"),
+                (["--injected", "1000", "--branch", "1,0"], "current 1000: '1000' is not two numbers separated by a comma; write IN-PHASE,QUADRATURE in A "
+                 "as 1000,-50, or SIZE@ANGLE in A and degrees as 1000@-22.5 or 1000∠-22.5, with a decimal point inside a number"),
+                (["--injected", "1000,0", "--branch", "0.0005,0"], "current 0.0005,0: 0.0005 A is not a whole number of mA; it is not rounded"),
                 (["--injected", "1000,0", "--branch", "4@x"], "current 4@x: 'x' is no number"),
                 (["--injected", "1000,0", "--branch", "4@360.1"], "current 4@360.1: angle: 360.1 is not in −360..360 degrees"),
-                (["--injected", "0,0", "--branch", "1,0"], "the injected current is 0"),
-                (["--injected", "2000,0", "--branch", "1,0"], "injected, in-phase part: 2,000 A is not in −1,000..1,000 A"),
-                (["tests/sample.csv"], "tests/sample.csv: line 1: the names must be in_phase,quadrature or size,angle")):
-            done = run("staged", *arguments)
-            self.assertEqual((done.status, done.out), (1, ""))
-            self.assertTrue(done.err.startswith(said), done.err)
+                (["--injected", "1000,0", "--branch", "1000000000.1@0"], "current 1000000000.1@0: size: 1000000000.1 A is far out of range"),
+                (["--injected", "1000,0", "--branch", f"{2 ** 62},0"], f"current {2 ** 62},0: a part is far out of range"),
+                (["--injected", "0,0", "--branch", "1,0"], "the injected current is 0 in both parts; nothing was injected, so there is no split"),
+                (["--injected", "2000,0", "--branch", "1,0"], "injected, in-phase part: 2,000 A is not in −1,000..1,000 A; the split is the same for "
+                 "scaled currents"),
+                (["tests/sample.csv"], "tests/sample.csv: line 1: the names must be in_phase,quadrature or size,angle or current; here they are "
+                 + ",".join(NAMES))):
+            self.assertEqual(run("staged", *arguments), (1, "", said + "\n"))
 
     def test_a_file_or_options(self):
         for arguments in (["x", "--injected", "1,0"], ["x", "--branch", "1,0"], ["x", "--injected", "1,0", "--branch", "1,0"]):
