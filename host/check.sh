@@ -126,11 +126,11 @@ status=0
 [ "$status" -eq 1 ] && grep -q 'no value line' "$work/told" || fail "an empty sheet is timed"
 
 # the separate calculators judge, and tell a wrong entry
-python3 tests/host.py --seed 1 --count 400
-python3 tests/host.py --seed 1 --count 40 --harness "$out/wrong-big_endian" >"$work/told" && fail "the calculator does not tell big_endian"
+python3 -m tests.host.row_entry --seed 1 --count 400
+python3 -m tests.host.row_entry --seed 1 --count 40 --harness "$out/wrong-big_endian" >"$work/told" && fail "the calculator does not tell big_endian"
 grep -Eq ', ([1-9][0-9]*) accepted, .* \1 sheets disagree$' "$work/told" \
     || fail "the calculator does not tell big_endian in each sheet with rows"
-python3 tests/entries.py
+python3 -m tests.host.entries
 
 # a release, unpacked in an empty folder and checked with nothing of the kit on the path
 make -s dist

@@ -17,7 +17,7 @@ static void work_rows(const char *text, size_t bytes, uint8_t *buffer) {
     kept += (double)hocsimbur_rows((const uint8_t *)text, bytes, buffer, HOCSIMBUR_LINES * HOCSIMBUR_ROW_BYTES);
 }
 
-/* the same text read with no checks, and each row in doubles; not inlined, so that tests/cost.py finds it by its name */
+/* the same text read with no checks, and each row in doubles; not inlined, so that tests/host/cost.py finds it by its name */
 __attribute__((noinline)) static void work_doubles(const char *text, size_t bytes, uint8_t *buffer) {
     static struct grounding_case cases[HOCSIMBUR_LINES];
     size_t count = read_sheet(text, bytes, cases, HOCSIMBUR_LINES);

@@ -1,6 +1,6 @@
 """The stored report: four stations of the example, at a fixed date.
 
-    cd python && python3 -m tests.golden      writes it anew, after a wanted change of the report or of the library's version
+    cd python && python3 -m tests.golden      writes it again, after an intended change of the report or of the library's version
 """
 from __future__ import annotations
 

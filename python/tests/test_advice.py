@@ -27,7 +27,7 @@ def own(station: int):
 
 
 def length(one, name: str) -> int:
-    """Conductor or rods in micrometres, as the core works them."""
+    """Conductor or rods in micrometres, as the core computes them."""
     return getattr(core.working(layout.text([one]))[0], name).upper
 
 
@@ -91,7 +91,7 @@ class Safe(unittest.TestCase):
     def test_released_stations_need_nothing(self):
         self.assertEqual([station for station, changes in self.found.items() if not changes], [101, 140, 160, 204])
 
-    def test_margin_told(self):
+    def test_margin_shown(self):
         for station, change in self.each():
             if change.kind in KINDS:
                 margins = core.margins(layout.text(list(change.lines)))
@@ -99,8 +99,8 @@ class Safe(unittest.TestCase):
                 size = f"{-greatest // 10}.{-greatest % 10} %" if greatest else "under 0.1 %"
                 self.assertIn(f"nearest limit then {size} below", change.words)
 
-    def test_length_told(self):
-        """Conductor and rods that are added, where the library works them."""
+    def test_length_shown(self):
+        """Conductor and rods that are added, where the library computes them."""
         for station, change in self.each():
             if change.kind not in KINDS:
                 continue

@@ -1,4 +1,4 @@
-"""The command check: every wrong cell of every line, lines that stand twice, and refusals of the whole sheet."""
+"""The command check: every wrong cell of every line, repeated lines, and refusals of the whole sheet."""
 from __future__ import annotations
 
 import unittest
@@ -11,7 +11,7 @@ from .common import NAMES, SAMPLE, changed, run
 HEAD = SAMPLE.split(b"\n")[0]
 
 
-def lines_told(sheet: bytes):
+def lines_reported(sheet: bytes):
     return [(one.number, one.line, one.column) for one in checking.check(sheet)]
 
 
@@ -21,66 +21,66 @@ class Check(unittest.TestCase):
 
     def test_every_wrong_cell_of_every_line(self):
         sheet = changed(changed(fault=318000, soil=9), line=3, depth=50)
-        self.assertEqual(lines_told(sheet), [(5, 2, 3), (5, 2, 10), (5, 3, 16)])
-        self.assertEqual(lines_told(changed(soil="x", depth="", place=3, hz=55, station=0)),
+        self.assertEqual(lines_reported(sheet), [(5, 2, 3), (5, 2, 10), (5, 3, 16)])
+        self.assertEqual(lines_reported(changed(soil="x", depth="", place=3, hz=55, station=0)),
                          [(3, 2, 3), (3, 2, 16), (5, 2, 1), (5, 2, 20), (5, 2, 22)])
-        self.assertEqual(lines_told(changed(layer="x", rods=201, rodlen=0, place=0)), [(3, 2, 4), (5, 2, 18)])
-        self.assertEqual(lines_told(changed(layer=0, rods=5)), [(6, 2, 4), (6, 2, 18)])
+        self.assertEqual(lines_reported(changed(layer="x", rods=201, rodlen=0, place=0)), [(3, 2, 4), (5, 2, 18)])
+        self.assertEqual(lines_reported(changed(layer=0, rods=5)), [(6, 2, 4), (6, 2, 18)])
 
     def test_a_cell_put_right_makes_no_other_wrong(self):
         """Each cell of each name, wrong by itself, is the only one that is reported, whether its companions are 0 or not."""
         for sheet in (SAMPLE, changed(layer=0, thick=0), changed(rods=4, rodlen=3000, place=1)):
             for column, name in enumerate(NAMES, 1):
-                self.assertEqual(lines_told(changed(sheet, **{name: "x"})), [(3, 2, column)], name)
+                self.assertEqual(lines_reported(changed(sheet, **{name: "x"})), [(3, 2, column)], name)
 
     def test_too_few_and_too_many_values(self):
-        self.assertEqual(lines_told(SAMPLE.replace(b",1,60\n", b",1\n", 1)), [(3, 2, 22)])
-        self.assertEqual(lines_told(SAMPLE.replace(b",1,60\n", b",1,60,7\n", 1)), [(3, 2, 23)])
+        self.assertEqual(lines_reported(SAMPLE.replace(b",1,60\n", b",1\n", 1)), [(3, 2, 22)])
+        self.assertEqual(lines_reported(SAMPLE.replace(b",1,60\n", b",1,60,7\n", 1)), [(3, 2, 23)])
 
-        self.assertEqual(lines_told(changed(changed(fault=318000), line=3, thick=0)), [(5, 2, 10), (6, 3, 4)])
+        self.assertEqual(lines_reported(changed(changed(fault=318000), line=3, thick=0)), [(5, 2, 10), (6, 3, 4)])
 
-    def test_repeated_lines_are_all_told(self):
+    def test_repeated_lines_are_all_reported(self):
         line = layout.lines(SAMPLE)[1]
         sheet = SAMPLE + (line + b"\n") * 2
-        self.assertEqual(lines_told(sheet), [(7, 4, 0), (7, 5, 0)])
+        self.assertEqual(lines_reported(sheet), [(7, 4, 0), (7, 5, 0)])
         self.assertIn("stands already in line 2", checking.check(sheet)[1].said)
 
     def test_repeat_of_a_refused_line_is_reported(self):
-        self.assertEqual(lines_told(changed(changed(fault=1), line=3, season=1)), [(5, 2, 10), (7, 3, 0)])
-        self.assertEqual(lines_told(changed(changed(season=5), line=3, season=1)), [(5, 2, 2)])
+        self.assertEqual(lines_reported(changed(changed(fault=1), line=3, season=1)), [(5, 2, 10), (7, 3, 0)])
+        self.assertEqual(lines_reported(changed(changed(season=5), line=3, season=1)), [(5, 2, 2)])
 
     def test_refusals_of_the_whole(self):
-        self.assertEqual(lines_told(b""), [(1, 0, 0)])
-        self.assertEqual(lines_told(HEAD + b"\n"), [(4, 2, 0)])
-        self.assertEqual(lines_told(changed(fault=1)[:-1]), [(1, 0, 0), (5, 2, 10)])
-        self.assertEqual(lines_told(SAMPLE.replace(b"soil", b"sol")), [(2, 1, 3)])
-        self.assertEqual(lines_told(SAMPLE.replace(b"soil", b"sol")[:-1]), [(1, 0, 0), (2, 1, 3)])
-        self.assertEqual(lines_told(b"PK\x03\x04"), [(1, 0, 0)])
+        self.assertEqual(lines_reported(b""), [(1, 0, 0)])
+        self.assertEqual(lines_reported(HEAD + b"\n"), [(4, 2, 0)])
+        self.assertEqual(lines_reported(changed(fault=1)[:-1]), [(1, 0, 0), (5, 2, 10)])
+        self.assertEqual(lines_reported(SAMPLE.replace(b"soil", b"sol")), [(2, 1, 3)])
+        self.assertEqual(lines_reported(SAMPLE.replace(b"soil", b"sol")[:-1]), [(1, 0, 0), (2, 1, 3)])
+        self.assertEqual(lines_reported(b"PK\x03\x04"), [(1, 0, 0)])
         many = HEAD + b"\n" + b"".join(changed(station=1 + i // 4, season=1 + i % 4).split(b"\n")[1] + b"\n" for i in range(257))
-        self.assertEqual(lines_told(many), [])
-        self.assertEqual(lines_told(many + many.split(b"\n")[5] + b"\n"), [(7, 259, 0)])
+        self.assertEqual(lines_reported(many), [])
+        self.assertEqual(lines_reported(many + many.split(b"\n")[5] + b"\n"), [(7, 259, 0)])
 
     def test_too_long_a_line(self):
         sheet = SAMPLE + b"1" * 70000 + b"\n"
-        self.assertEqual(lines_told(sheet), [(1, 4, 0)])
+        self.assertEqual(lines_reported(sheet), [(1, 4, 0)])
         self.assertEqual(checking.check(sheet)[0].said, "line 4: the line is too long for a sheet of 65536 bytes")
 
     def test_far_too_long_a_sheet(self):
-        self.assertEqual(len(lines_told(HEAD + b"\n" + b"x\n" * 100000)), checking.MOST)
+        self.assertEqual(len(lines_reported(HEAD + b"\n" + b"x\n" * 100000)), checking.MOST)
         self.assertEqual(run("check", "-", stdin=HEAD + b"\n" + b"x\n" * 1000).out.split("\n")[-2],
                          "these are the first 1000 refusals, there may be more; nothing was computed")
 
     def test_one_station_a_thousand_times(self):
         line = layout.lines(SAMPLE)[1] + b"\n"
-        told = lines_told(SAMPLE + line * 700)
-        self.assertEqual(told, [(7, number, 0) for number in range(4, 704)])
+        reported = lines_reported(SAMPLE + line * 700)
+        self.assertEqual(reported, [(7, number, 0) for number in range(4, 704)])
 
-    def test_the_first_told_is_what_the_core_refuses(self):
+    def test_the_first_reported_is_what_the_core_refuses(self):
         for sheet in (changed(fault=0), changed(line=3, soil="x"), changed(line=3, season=1), SAMPLE[:-1], SAMPLE.replace(b",", b";")):
             with self.assertRaises(core.Refused) as caught:
                 core.rows(sheet)
             refused = caught.exception
-            self.assertEqual(lines_told(sheet)[0], (refused.number, refused.line, refused.column))
+            self.assertEqual(lines_reported(sheet)[0], (refused.number, refused.line, refused.column))
 
 
 class Command(unittest.TestCase):

@@ -11,7 +11,7 @@ import tempfile
 import unittest
 
 from hocsimbur import core
-from hocsimbur.command import cli, help_texts, terminal
+from hocsimbur.command import cli, help_texts, terminal, yards
 from hocsimbur.report import document
 from hocsimbur.sheets import layout
 
@@ -122,7 +122,7 @@ class Statuses(unittest.TestCase):
         self.assertEqual(lines["station"], ["wire_A", "stranded_caution", "few_rods_caution", "rise_above_limit"])
         self.assertEqual([lines["160"], lines["188"], lines["215"]], [["14568", "1", "0", "1"], ["34946", "0", "1", "0"], ["0", "0", "0", "0"]])
 
-    def test_unlicensed_stations_are_told(self):
+    def test_unlicensed_stations_are_reported(self):
         with tempfile.TemporaryDirectory() as folder:
             licence = pathlib.Path(folder) / "licence.csv"
             licence.write_text("station,name,seasons\n101,Ashgrove,1 2 3 4\n")
@@ -171,8 +171,16 @@ class Statuses(unittest.TestCase):
         none = run("fewest", "examples/rods.csv", "--station", "303", "--side", "719.999m", "--list")
         self.assertTrue(none.out.startswith("no yard was tried: "))
 
+    def test_the_fewest_in_words(self):
+        for found, sentence in (
+                (core.Fewest(True, 9, 28, 63), "9 conductors each way, 7.5 m apart, and 28 rods at the perimeter; 63 yards tried"),
+                (core.Fewest(True, 3, 0, 1), "3 conductors each way, 30 m apart, and no rods; 1 yard tried"),
+                (core.Fewest(False, 0, 0, 88), "none of the 88 yards tried is safe"),
+                (core.Fewest(False, 0, 0, 0), "no yard was tried: no count of conductors from 2 to 25 parts 60 m into whole mm from 2.5 to 30 m")):
+            self.assertEqual(yards.said(found, 60000), sentence)
+
     def test_the_ends_of_a_side(self):
-        """A side that the library can be asked about is asked about; the words tell who refused it."""
+        """A side that the library can be asked about is asked about; the message says who refused it."""
         for side, said in (("0m", "examples/rods.csv: side: 0 m is not in 2.5..720 m\n"), ("-0.001m", "side: -0.001m is not in 2.5..720 m\n"),
                            ("4294967.295m", "examples/rods.csv: side: 4,294,967.295 m is not in 2.5..720 m\n"),
                            ("4294967.296m", "side: 4294967.296m is not in 2.5..720 m\n")):
@@ -261,27 +269,27 @@ class Rises(unittest.TestCase):
 
 
 class Failing(unittest.TestCase):
-    """Input and output that fail are told, with status 3 and without a traceback."""
+    """Failed input and output are reported, with status 3 and without a traceback."""
 
-    def hold(self, done, said: str) -> None:
+    def check(self, done, said: str) -> None:
         self.assertEqual(done.status, 3, done.err)
         self.assertIn(said, done.err)
         self.assertNotIn("Traceback", done.err)
 
     def test_a_full_disk(self):
         with open("/dev/full", "wb") as full:
-            self.hold(process("verdict", "tests/sample.csv", stdout=full), "hocsimbur: standard output: No space left on device")
+            self.check(process("verdict", "tests/sample.csv", stdout=full), "hocsimbur: standard output: No space left on device")
 
     def test_a_full_disk_for_every_command(self):
         for name, arguments in [*PRINTING.items(), ("--help", ["--help"])]:
             if name == "report":
                 arguments = ["report", "tests/sample.csv"]
             with self.subTest(name), open("/dev/full", "w", encoding="utf-8") as full:
-                self.hold(run(*arguments, stdout=full), "hocsimbur: standard output: No space left on device")
+                self.check(run(*arguments, stdout=full), "hocsimbur: standard output: No space left on device")
 
     def test_a_full_disk_for_a_file(self):
-        self.hold(run("report", "tests/sample.csv", "-o", "/dev/full"), "/dev/full: No space left on device")
-        self.hold(run("import", "tests/sample.csv", "-o", "/dev/full"), "/dev/full: No space left on device")
+        self.check(run("report", "tests/sample.csv", "-o", "/dev/full"), "/dev/full: No space left on device")
+        self.check(run("import", "tests/sample.csv", "-o", "/dev/full"), "/dev/full: No space left on device")
 
     def test_a_closed_pipe(self):
         for arguments in (["report", "examples/portfolio.csv"], ["rows", "--csv", "crates/rows/stdin"]):
@@ -310,7 +318,7 @@ class Failing(unittest.TestCase):
         self.assertEqual((done.returncode, done.stdout), (1, b""))
 
     def test_notes_that_are_lost(self):
-        """A note that cannot be told fails a command that is otherwise well; a refusal or a held station keeps its status."""
+        """A note that cannot be written fails a command that is otherwise well; a refusal or a held station keeps its status."""
         for arguments, status in ((["import", "examples/refused-2-semicolons.csv"], 3), (["verdict", "examples/refused-5.csv"], 1),
                                   (["release", "tests/sample.csv"], 2)):
             with open("/dev/full", "wb") as full:
@@ -319,28 +327,28 @@ class Failing(unittest.TestCase):
             self.assertEqual(done.returncode, status, arguments)
 
     def test_files_that_cannot_be_read(self):
-        self.hold(run("verdict", "no-such-file.csv"), "hocsimbur: no-such-file.csv: No such file or directory")
-        self.hold(run("verdict", "crates"), "hocsimbur: crates: the folder has no file that ends in .csv")
-        self.hold(run("import", "examples"), "hocsimbur: examples: Is a directory")
-        self.hold(run("verdict", "tests/sample.csv\0"), "null byte")
-        self.hold(run("release", "tests/sample.csv", "--licence", "no-such-file.csv"), "hocsimbur: no-such-file.csv: No such file or directory")
+        self.check(run("verdict", "no-such-file.csv"), "hocsimbur: no-such-file.csv: No such file or directory")
+        self.check(run("verdict", "crates"), "hocsimbur: crates: the folder has no file that ends in .csv")
+        self.check(run("import", "examples"), "hocsimbur: examples: Is a directory")
+        self.check(run("verdict", "tests/sample.csv\0"), "null byte")
+        self.check(run("release", "tests/sample.csv", "--licence", "no-such-file.csv"), "hocsimbur: no-such-file.csv: No such file or directory")
         with tempfile.TemporaryDirectory() as folder:
             kept = pathlib.Path(folder) / "kept.csv"
             kept.write_bytes(SAMPLE)
             kept.chmod(0)
             if os.geteuid():
-                self.hold(run("verdict", str(kept)), "Permission denied")
-            self.hold(run("report", "tests/sample.csv", "-o", f"{folder}/no/such/page.html"), "No such file or directory")
+                self.check(run("verdict", str(kept)), "Permission denied")
+            self.check(run("report", "tests/sample.csv", "-o", f"{folder}/no/such/page.html"), "No such file or directory")
 
     def test_a_file_without_end(self):
-        self.hold(run("check", "/dev/zero"), "/dev/zero: it has more than 268,435,456 bytes")
+        self.check(run("check", "/dev/zero"), "/dev/zero: it has more than 268,435,456 bytes")
 
     def test_no_library(self):
-        self.hold(process("verdict", "tests/sample.csv", env={"HOCSIMBUR_LIBRARY": "/no/such/libhocsimbur.so.1"}),
+        self.check(process("verdict", "tests/sample.csv", env={"HOCSIMBUR_LIBRARY": "/no/such/libhocsimbur.so.1"}),
                   "build it by `make`, or name it in the environment variable HOCSIMBUR_LIBRARY")
 
     def test_another_library(self):
-        self.hold(process("verdict", "tests/sample.csv", env={"HOCSIMBUR_LIBRARY": "libc.so.6"}), "the library has no hocsimbur_rows_at")
+        self.check(process("verdict", "tests/sample.csv", env={"HOCSIMBUR_LIBRARY": "libc.so.6"}), "the library has no hocsimbur_rows_at")
 
 
 class Terminals(unittest.TestCase):

@@ -1,6 +1,7 @@
-"""The binding: numbers that the library's types cannot hold, empty sheets, and answers beside the stored runs of the proved programs."""
+"""The binding: numbers that the library's types cannot hold, empty sheets, and answers compared with the stored runs of the proved programs."""
 from __future__ import annotations
 
+import ctypes
 import dataclasses
 import unittest
 
@@ -19,6 +20,22 @@ class Types(unittest.TestCase):
                          lambda: core.fewest(rods, wide + 60000), lambda: core.split([((1 << 64) + 1000, 0), (400, 0)])):
             with self.assertRaises(OverflowError):
                 question()
+
+    def test_an_empty_array_is_a_null_pointer(self):
+        for kind in (ctypes.c_uint8, ctypes.c_uint32, ctypes.c_int64):
+            pointer, length = core._slice((kind * 0)())
+            self.assertEqual((pointer, length.value), (None, 0))
+            array = (kind * 2)(3, 4)
+            pointer, length = core._slice(array)
+            self.assertIs(pointer, array)
+            self.assertEqual(length.value, 2)
+
+    def test_the_words_of_a_number_that_does_not_fit(self):
+        for question, words in ((lambda: core.soil([(1 << 32, 10)]), "4294967296 does not fit the library's 32 bits"),
+                                (lambda: core.split([(1 << 63, 0), (400, 0)]), "9223372036854775808 does not fit the library's 64 bits")):
+            with self.assertRaises(OverflowError) as caught:
+                question()
+            self.assertEqual(str(caught.exception), words)
 
     def test_numbers_at_the_ends_of_the_types(self):
         for question, number in ((lambda: core.soil([((1 << 32) - 1, 10)]), 13), (lambda: core.release(SAMPLE, [((1 << 32) - 1, 15)]), 22),

@@ -1,4 +1,4 @@
-"""Damaged sheets: whatever the bytes are, a refusal is told in words, and import makes an accepted sheet of them or tells why not."""
+"""Damaged sheets: whatever the bytes are, a refusal is reported in words, and import makes an accepted sheet of them or says why not."""
 from __future__ import annotations
 
 import random
@@ -41,14 +41,14 @@ class Damaged(unittest.TestCase):
                 except core.Refused as refused:
                     self.assertTrue(words.refusal(refused, Asked(sheet, former=former)))
 
-    def test_the_core_s_refusal_is_among_those_told(self):
+    def test_the_core_s_refusal_is_among_those_reported(self):
         for sheet in self.sheets():
-            told = [(one.number, one.line, one.column) for one in checking.check(sheet)]
+            reported = [(one.number, one.line, one.column) for one in checking.check(sheet)]
             try:
                 core.rows(sheet)
-                self.assertEqual(told, [])
+                self.assertEqual(reported, [])
             except core.Refused as refused:
-                self.assertIn((refused.number, refused.line, refused.column), told)
+                self.assertIn((refused.number, refused.line, refused.column), reported)
 
     def test_what_import_makes_is_its_own_import(self):
         for data in self.sheets():
@@ -67,7 +67,7 @@ class Damaged(unittest.TestCase):
 
 
 def written(source: random.Random) -> bytes:
-    """The sample as a spreadsheet may write it, by any mixture of its manners."""
+    """The sample as a spreadsheet may write it, in any mixture of its ways."""
     sign = source.choice((",", ";", "\t"))
     end = source.choice(("\n", "\r\n", "\r"))
 

@@ -3,6 +3,7 @@ from __future__ import annotations
 
 import random
 import unittest
+from unittest import mock
 
 from hocsimbur import core
 from hocsimbur.portfolio import advice, asking, decision, licence, reasons
@@ -99,6 +100,12 @@ class Answers(unittest.TestCase):
             self.assertEqual(line.small_wire, line.case["fault"] > line.wire_to)
 
 
+    def test_the_guess_needs_no_halving(self):
+        """For every line of the example the library is asked at the guess and one ampere above, and no more."""
+        with mock.patch.object(asking, "small_wires", side_effect=asking.small_wires) as asked:
+            asking.wires_enough_to(CASES, core.rows(SHEET))
+        self.assertEqual(asked.call_count, 2)
+
     def test_a_wrong_guess_changes_nothing(self):
         """The fault current of a wire is asked on both sides; where the guess is wrong, by halving."""
         rows, kept = core.rows(SHEET), asking._guess
@@ -170,7 +177,7 @@ class Licences(unittest.TestCase):
         self.assertFalse(station([case(104, 1), case(104, 2)], [1]).released)
         self.assertTrue(station([case(104, 1)], [1]).released)
 
-    def test_stations_outside_the_licence_are_told(self):
+    def test_stations_outside_the_licence_are_reported(self):
         portfolio = decision.portfolio(SHEET, granted(104, (1, 2)))
         self.assertEqual(portfolio.unlicensed, (101, 110, 118, 123, 131, 140, 152, 160, 171, 188, 204))
         self.assertEqual(EXAMPLE.unlicensed, ())

@@ -11,6 +11,7 @@ import sys
 import tempfile
 import time
 import unittest
+from unittest import mock
 
 from hocsimbur import core
 from hocsimbur.command import progress
@@ -19,6 +20,7 @@ from hocsimbur.sheets import checking, files, layout
 from hocsimbur.sheets.files import File, Lines, Place
 from hocsimbur.sheets.names import NAMES
 
+from . import dom
 from .common import PYTHON, ROOT, SAMPLE, changed, run
 from .portfolios import CASES, LICENCE, SHEET, case, granted
 
@@ -255,6 +257,13 @@ class Names(Folder):
         done = run("verdict", "--csv", "-", "tests/sample.csv", stdin=sheet(case(101, 1)))
         self.assertEqual(done.out.split("\n")[1], "101,1,safe,66,standard input,2")
 
+    def test_standard_input_refused(self):
+        """Standard input is not named, and no command to see every refusal is given."""
+        wrong = "line 2, fault (column 10): 1 A is not in 100..80000\n"
+        self.assertEqual(run("verdict", "-", stdin=changed(fault=1)), (1, "", wrong + "nothing was computed\n"))
+        self.assertEqual(run("verdict", "-", "examples/refused-5.csv", stdin=changed(fault=1)), (
+            1, "", wrong + "examples/refused-5.csv: line 2, depth (column 16): 60 mm is not in 250..2500\nnothing was computed\n"))
+
     def test_a_name_with_a_comma(self):
         name = self.file('a, "b".csv', SAMPLE)
         self.assertIn(',"' + name.replace('"', '""') + '",2\n', run("verdict", "--csv", name, "examples/seasons.csv").out)
@@ -277,6 +286,18 @@ class Report(Folder):
         for data in (sheet(case(104, 1)), sheet(case(104, 2))):
             self.assertIn(hashlib.sha256(data).hexdigest(), text)
         self.assertNotIn("sign", run("report", first).out.split("</style>")[1])
+
+    def meta(self, *arguments: str):
+        """What stands at the head of a report, by its name."""
+        head = dom.read(run("report", *arguments).out).one("dl", "meta")
+        return {one.one("dt").text(): one.one("dd").text() for one in head.all("div")}
+
+    def test_the_head_of_the_first_page(self):
+        first, second = self.file("a.csv", SAMPLE), self.file("b.csv", sheet(case(104, 1)))
+        version = f"Hocsimbur {core.version()}"
+        self.assertEqual(self.meta(first, "--date", "D", "--project", "P & Q", "--engineer", "E"), {
+            "Project": "P & Q", "Date": "D", "Sheet": "a.csv", "SHA-256": hashlib.sha256(SAMPLE).hexdigest()[:12], "Library": version, "Engineer": "E"})
+        self.assertEqual(self.meta(first, second, "--date", "D"), {"Date": "D", "Sheets": "2", "Library": version})
 
     def test_on_standard_output(self):
         self.assertEqual(run("report", "tests/sample.csv", "--date", "x", "-o", "-").out, run("report", "tests/sample.csv", "--date", "x").out)
@@ -312,34 +333,27 @@ class Seasons(Folder):
 class Long(Folder):
     """What takes more than a second."""
 
+    def written(self, count: int, whole: int, terminal: bool = True, clock=None, patience: float = 1.0, between: float = 0.2) -> bytes:
+        """What a command of so many steps writes to standard error, whose times are those of the clock."""
+        stream = mock.Mock(**{"isatty.return_value": terminal})
+        with mock.patch.object(sys, "stderr", stream), mock.patch.multiple(progress, PATIENCE=patience, BETWEEN=between), \
+                mock.patch.object(time, "monotonic", side_effect=clock or time.monotonic):
+            self.assertEqual(list(progress.watched(iter(range(count)), whole, "sheets")), list(range(count)))
+        return b"".join(call.args[0] for call in stream.buffer.write.call_args_list)
+
     def test_progress_on_a_terminal(self):
-        class Terminal:
-            def __init__(self):
-                self.written, self.buffer = b"", self
+        self.assertEqual((progress.PATIENCE, progress.BETWEEN), (1.0, 0.2))
+        self.assertEqual(self.written(3, 3), b"")
+        self.assertEqual(self.written(2, 1000, patience=0.0, between=0.0), b"\r1 of 1,000 sheets\x1b[K\r2 of 1,000 sheets\x1b[K\r\x1b[K")
 
-            def isatty(self):
-                return True
-
-            def write(self, text):
-                self.written += text
-
-            def flush(self):
-                pass
-
-        kept, sys.stderr = sys.stderr, Terminal()
-        patience, between = progress.PATIENCE, progress.BETWEEN
-        try:
-            self.assertEqual(list(progress.watched(iter(range(3)), 3, "sheets")), [0, 1, 2])
-            self.assertEqual(sys.stderr.written, b"")
-            progress.PATIENCE = progress.BETWEEN = 0.0
-            self.assertEqual(list(progress.watched(iter(range(2)), 1000, "sheets")), [0, 1])
-            self.assertEqual(sys.stderr.written, b"\r1 of 1,000 sheets\x1b[K\r2 of 1,000 sheets\x1b[K\r\x1b[K")
-        finally:
-            sys.stderr = kept
-            progress.PATIENCE, progress.BETWEEN = patience, between
+    def test_progress_is_shown_after_a_second_and_then_five_times_a_second(self):
+        clock = [100.0, 100.9, 101.0, 101.125, 101.25, 101.375, 101.5]
+        shown = b"".join(b"\r%d of 6 sheets\x1b[K" % done for done in (2, 4, 6))
+        self.assertEqual(self.written(6, 6, clock=clock), shown + b"\r\x1b[K")
 
     def test_no_progress_elsewhere(self):
         self.assertFalse(progress.shown())
+        self.assertEqual(self.written(2, 2, terminal=False, patience=0.0, between=0.0), b"")
 
     def test_interrupted(self):
         lines = [dict(case(101, season), station=number, season=season) for number in range(1, 20001) for season in (1, 2, 3, 4)]

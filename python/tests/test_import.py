@@ -89,7 +89,7 @@ class Units(unittest.TestCase):
             "line 1, fault (column 10): 'fault [m]' has the unit 'm'; fault may have A or kA"])
         self.assertEqual(refused(SAMPLE.replace(b",rods,", b",rods [m],")), ["line 1, rods (column 18): 'rods [m]' has the unit 'm'; rods has none"])
 
-    def test_every_unit_that_is_told_is_taken(self):
+    def test_every_unit_that_is_shown_is_accepted(self):
         for name, said in units.SHOWN.items():
             for unit in said.replace(", or a wire's size as 4/0", "").replace(" or ", ", ").split(", "):
                 self.assertTrue(units.known(name, unit), (name, unit))
@@ -112,7 +112,7 @@ class Rounded(unittest.TestCase):
         turned = "\n".join(",".join(reversed(line.split(","))) for line in order).encode()
         self.assertEqual(layout.cases(made(turned, True).sheet)[0]["thick"], 101)
 
-    def test_each_is_told(self):
+    def test_each_is_reported(self):
         self.assertEqual(made(changed(soil="187.5", thick="4 in"), True).rounded, [
             "line 2, soil: 187.5 rounded up to 188: a drier soil raises the voltages by more than what is tolerable",
             "line 2, thick: 4 in, 101.6 mm, rounded down to 101: a thinner layer shields less where it is more resistive than the soil"])
@@ -175,7 +175,7 @@ class Names(unittest.TestCase):
         self.assertEqual(made(text).changes.told(), ["1 name: made small letters (Soil is soil)",
                                                      "2 names: read from the head of its column (Surface layer is layer)"])
 
-    def test_an_unknown_column_is_left_out_and_told_once(self):
+    def test_an_unknown_column_is_left_out_and_reported_once(self):
         text = "".join(f"{line},{more}\n" for line, more in ((HEAD, "remark"), (FIRST, "x"), (SECOND, "y"))).encode()
         self.assertEqual(made(text).sheet, SAMPLE)
         self.assertEqual(made(text).changes.told(), ["1 column: no name of a sheet, left out (column 23, 'remark')"])

@@ -109,24 +109,24 @@ class Answers(unittest.TestCase):
 
 
 class Refusals(unittest.TestCase):
-    def hold(self, refused, said, number, line, column):
+    def check(self, refused, said, number, line, column):
         self.assertEqual((str(refused), refused.number, refused.line, refused.column), (said, number, line, column))
         self.assertIsInstance(refused, ValueError)
 
     def test_of_yards(self):
-        self.hold(raised(hocsimbur.rows, [CASES[0], dict(CASES[1], depth=60)]), "[1], depth: 60 mm is not in 250..2500", 5, 1, "depth")
-        self.hold(raised(hocsimbur.rows, [dict(CASES[0], soil=187.5)]), "[0], soil: 187.5 is not a whole number of Ω·m; the cautious side is up", 0, 0, "soil")
-        self.hold(raised(hocsimbur.rows, [dict(CASES[0], split=0.6)]), "[0], split: 0.6 is not a whole number per mille, and it is not in 1..1000", 0, 0, "split")
-        self.hold(raised(hocsimbur.rows, [dict(CASES[0], rods=1.5)]), "[0], rods: 1.5 is not a whole number", 0, 0, "rods")
+        self.check(raised(hocsimbur.rows, [CASES[0], dict(CASES[1], depth=60)]), "[1], depth: 60 mm is not in 250..2500", 5, 1, "depth")
+        self.check(raised(hocsimbur.rows, [dict(CASES[0], soil=187.5)]), "[0], soil: 187.5 is not a whole number of Ω·m; the cautious side is up", 0, 0, "soil")
+        self.check(raised(hocsimbur.rows, [dict(CASES[0], split=0.6)]), "[0], split: 0.6 is not a whole number per mille, and it is not in 1..1000", 0, 0, "split")
+        self.check(raised(hocsimbur.rows, [dict(CASES[0], rods=1.5)]), "[0], rods: 1.5 is not a whole number", 0, 0, "rods")
         for value in ("x", None, True, float("nan"), float("inf"), "4/0", 1j):
-            self.hold(raised(hocsimbur.rows, [dict(CASES[0], fault=value)]), f"[0], fault: {value!r} is no number; it must be a whole number of A", 0, 0, "fault")
-        self.hold(raised(hocsimbur.rows, [dict(CASES[0], fault=-5)]), "[0], fault: -5 has a sign; it must be a whole number of A, 100..80000", 3, 0, "fault")
+            self.check(raised(hocsimbur.rows, [dict(CASES[0], fault=value)]), f"[0], fault: {value!r} is no number; it must be a whole number of A", 0, 0, "fault")
+        self.check(raised(hocsimbur.rows, [dict(CASES[0], fault=-5)]), "[0], fault: -5 has a sign; it must be a whole number of A, 100..80000", 3, 0, "fault")
         lacking = {name: value for name, value in CASES[0].items() if name != "soil"}
         self.assertTrue(str(raised(hocsimbur.rows, [lacking])).startswith("[0], soil: there is no soil; a yard has the names station, season, soil,"))
 
     def test_twice(self):
         said = "station 101, season 1 stands already in [0]; a station has one line for a season"
-        self.hold(raised(hocsimbur.rows, [CASES[0], CASES[1], dict(CASES[0], soil=77)]), "[2]: " + said, 7, 2, None)
+        self.check(raised(hocsimbur.rows, [CASES[0], CASES[1], dict(CASES[0], soil=77)]), "[2]: " + said, 7, 2, None)
         far = [dict(CASES[0], station=number) for number in range(1, 600)] + [dict(CASES[0], station=3)]
         self.assertEqual(str(raised(hocsimbur.rows, far)), "[599]: station 3, season 1 stands already in [2]; a station has one line for a season")
         self.assertEqual(raised(hocsimbur.release, far).line, 599)
@@ -143,18 +143,18 @@ class Refusals(unittest.TestCase):
         self.assertEqual(str(raised(hocsimbur.release, [])), "there is no yard")
 
     def test_of_measurements(self):
-        self.hold(raised(hocsimbur.soil, [(1, 1), (0.4, 1)]), "[1], distance: 0.4 m is not in 0.5..50 m", 13, 1, "distance")
-        self.hold(raised(hocsimbur.soil, [(1, 1001)]), "[0], resistance: 1,001 Ω is not in 0.001..1,000 Ω", 14, 0, "resistance")
-        self.hold(raised(hocsimbur.soil, [(1, "0.0005")]), "[0], resistance: 0.0005 is not a whole number of milliohms", 0, 0, "resistance")
-        self.hold(raised(hocsimbur.soil, []), "there is no reading", 12, None, None)
+        self.check(raised(hocsimbur.soil, [(1, 1), (0.4, 1)]), "[1], distance: 0.4 m is not in 0.5..50 m", 13, 1, "distance")
+        self.check(raised(hocsimbur.soil, [(1, 1001)]), "[0], resistance: 1,001 Ω is not in 0.001..1,000 Ω", 14, 0, "resistance")
+        self.check(raised(hocsimbur.soil, [(1, "0.0005")]), "[0], resistance: 0.0005 is not a whole number of milliohms", 0, 0, "resistance")
+        self.check(raised(hocsimbur.soil, []), "there is no reading", 12, None, None)
         self.assertEqual(raised(hocsimbur.soil, [(-1, 1)]).line, 0)
         self.assertEqual(raised(hocsimbur.split, (0, 0), [(1, 0)]).number, 19)
         self.assertEqual(raised(hocsimbur.split, (2 ** 62, 0), [(1, 0)]).words, "a part is in -1,000..1,000 A")
         self.assertEqual(raised(hocsimbur.split, (1, "x"), [(1, 0)]).column, "quadrature")
-        self.hold(raised(hocsimbur.split, (1, 0), [("0.0001", 0)]), "[1], in-phase: 0.0001 is not a whole number of mA", 0, 1, "in-phase")
-        self.hold(raised(hocsimbur.split, (1, 0), [(0, "0.0001")]), "[1], quadrature: 0.0001 is not a whole number of mA", 0, 1, "quadrature")
-        self.hold(raised(hocsimbur.soil, [("x", 1)]), "[0], distance: 'x' is no number", 0, 0, "distance")
-        self.hold(raised(hocsimbur.soil, [(1, 2 ** 33)]), "[0]: a distance is in 0.5..50 m, a resistance in 0.001..1,000 ohms", 0, 0, None)
+        self.check(raised(hocsimbur.split, (1, 0), [("0.0001", 0)]), "[1], in-phase: 0.0001 is not a whole number of mA", 0, 1, "in-phase")
+        self.check(raised(hocsimbur.split, (1, 0), [(0, "0.0001")]), "[1], quadrature: 0.0001 is not a whole number of mA", 0, 1, "quadrature")
+        self.check(raised(hocsimbur.soil, [("x", 1)]), "[0], distance: 'x' is no number", 0, 0, "distance")
+        self.check(raised(hocsimbur.soil, [(1, 2 ** 33)]), "[0]: a distance is in 0.5..50 m, a resistance in 0.001..1,000 ohms", 0, 0, None)
         self.assertEqual(raised(hocsimbur.soil, [(0, 1)]).number, 13)
 
     def test_of_a_side(self):

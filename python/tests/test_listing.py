@@ -47,7 +47,7 @@ class ForPeople(unittest.TestCase):
         self.assertEqual(shown, sorted(shown, reverse=True))
 
     def test_every_end_encloses(self):
-        """What is shown of a pair holds the pair: not above its lower end, not below its upper."""
+        """What is shown of a pair encloses the pair: not above its lower end, not below its upper."""
         scales = {"grid current": ("current", 6), "decrement factor": ("factor", 9), "tolerable touch": ("tolerable_touch", 3),
                   "mesh": ("mesh", 3), "tolerable step": ("tolerable_step", 3), "step": ("step", 3), "resistance": ("resistance", 6),
                   "potential rise": ("rise", 3)}

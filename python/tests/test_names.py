@@ -1,4 +1,4 @@
-"""Holds the table of names to the library, to the manual and to the header."""
+"""The table of names agrees with the library, the manual and the header."""
 from __future__ import annotations
 
 import re
@@ -10,8 +10,8 @@ from hocsimbur.sheets.names import FORMER, METALS, NAMES
 
 from .common import ROOT, SAMPLE, changed
 
-# what a line needs beside a value so that the value alone decides whether it is refused with 5
-BESIDE = {
+# what a line needs in addition to a value so that the value alone decides whether it is refused with 5
+NEEDED = {
     "layer": lambda value: {"thick": 100 if value else 0},
     "thick": lambda value: {"layer": 2500 if value else 0},
     "rods": lambda value: {"rodlen": 3000, "place": 1} if value else {"rodlen": 0, "place": 0},
@@ -22,9 +22,9 @@ BESIDE = {
 
 def answer(name: str, value: int) -> int:
     """The number of the refusal of the sample with this value, 0 where it is accepted."""
-    beside = BESIDE.get(name, lambda value: {})(value)
+    needed = NEEDED.get(name, lambda value: {})(value)
     try:
-        core.rows(changed(SAMPLE, **{name: value, **beside}))
+        core.rows(changed(SAMPLE, **{name: value, **needed}))
         return 0
     except core.Refused as refused:
         return refused.number

@@ -87,7 +87,7 @@ def with_lines() -> List[int]:
 class StationPages(unittest.TestCase):
     """A station's page against the library."""
 
-    def hold(self, kind: str, expected) -> None:
+    def check(self, kind: str, expected) -> None:
         """Every row of a table, every season of it: expected(key) gives the texts of a season's column, from the top."""
         for station in with_lines():
             table = section(station).one("table", kind)
@@ -106,7 +106,7 @@ class StationPages(unittest.TestCase):
             pairs = [ends(pair, 3, 3) for pair in (row.mesh, row.tolerable_touch, row.step, row.tolerable_step)]
             room = ASKED.headroom[key]
             return [row.verdict.name.lower(), *pairs, f"{row.kcmil:,}", f"{room:,}" if room else "none"]
-        self.hold("res", expected)
+        self.check("res", expected)
 
     def test_working(self):
         def expected(key):
@@ -114,10 +114,10 @@ class StationPages(unittest.TestCase):
             return [ends(work.cs, 9, 6), ends(row.factor, 9, 6), ends(row.current, 6, 3), ends(work.n, 7, 5), ends(work.ki, 10, 6),
                     ends(work.kii, 9, 6), ends(work.kh, 9, 6), ends(work.km, 7, 6), ends(work.ks, 7, 6), ends(work.lm, 6, 3),
                     ends(work.ls, 6, 3), ends(row.resistance, 6, 4), ends(row.rise, 3, 2)]
-        self.hold("wrk", expected)
+        self.check("wrk", expected)
 
     def test_working_is_there(self):
-        """The library works it: a surface layer factor is above 0."""
+        """The library computes it: a surface layer factor is above 0."""
         self.assertTrue(all(work.cs.lower > 0 and work.lm.lower > 0 for work in ASKED.working.values()))
 
     def test_inputs(self):
@@ -135,7 +135,7 @@ class StationPages(unittest.TestCase):
                     str(one["across"]), str(one["along"]), metres(one["space"]), metres(one["depth"]), down(one["dia"], 1, 1),
                     str(one["rods"]), metres(one["rodlen"]) if one["rods"] else "none", places[one["place"]], str(one["metal"]),
                     str(one["hz"])]
-        self.hold("inp", expected)
+        self.check("inp", expected)
 
     def test_what_differs_is_marked(self):
         for station in with_lines():
@@ -146,6 +146,9 @@ class StationPages(unittest.TestCase):
             self.assertEqual(marked, [name for name in names if len({one[name] for one in lines}) > 1])
             of_yard = [name for name, row in zip(names, rows) if "yard" in row.classes]
             self.assertEqual(of_yard, [name for name in marked if name in YARD])
+            key = "≠differs between seasons" if marked else "nothing differs between seasons"
+            caption = section(station).one("table", "inp").one("caption").text()
+            self.assertEqual(caption, f"Inputs {key}; the yard, which must not" if of_yard else f"Inputs {key}")
 
     def test_bars(self):
         for station in with_lines():
@@ -159,16 +162,16 @@ class StationPages(unittest.TestCase):
 
     def bar(self, row: Node, key, volt: str, tolerable: str, margin: str) -> None:
         """A bar's words, and its length per mille of the limit, which stands at 1,000."""
-        told, drawn = cells(row), row.one("svg", "bar")
+        reported, drawn = cells(row), row.one("svg", "bar")
         lengths = {one.classes[0]: int(one.attributes["width"]) for one in drawn.all("rect")}
         self.assertEqual(next(one for one in drawn.all("rect", "limit")).attributes["x"], "996")
         if key not in ASKED.rows:
-            self.assertEqual(told[2:], ["", "", "no line"])
+            self.assertEqual(reported[2:], ["", "", "no line"])
             self.assertEqual(set(lengths), {"base", "limit"})
             return
         answered, excess = ASKED.rows[key], getattr(ASKED.margins[key], margin)
         voltage, limit = getattr(answered, volt), getattr(answered, tolerable)
-        self.assertEqual(told[2:], [up(voltage.upper, 3, 1), down(limit.lower, 3, 1), margin_words(excess, voltage, limit)])
+        self.assertEqual(reported[2:], [up(voltage.upper, 3, 1), down(limit.lower, 3, 1), margin_words(excess, voltage, limit)])
         self.assertEqual(lengths["fill"] + lengths.get("over", 0), 1000 + excess)
         self.assertEqual("over" in lengths, excess > 0)
         self.assertIn(f"is {(1000 + excess) // 10}.{(1000 + excess) % 10} % of", drawn.one("title").children[0].replace("\u00a0", " "))
@@ -215,9 +218,9 @@ class FirstPage(unittest.TestCase):
 
     def test_every_season_has_its_cell(self):
         for station, row in self.rows.items():
-            told = [one.text() for one in row.all("td", "s")]
-            self.assertEqual(len(told), 4)
-            for season, said in enumerate(told, 1):
+            reported = [one.text() for one in row.all("td", "s")]
+            self.assertEqual(len(reported), 4)
+            for season, said in enumerate(reported, 1):
                 key, licensed = (station, season), season in STATIONS[station].seasons
                 if key in ASKED.rows:
                     words = f"{season}{ASKED.rows[key].verdict.name.lower()}" + ("" if licensed else ", not in the licence")
@@ -256,7 +259,7 @@ class FirstPage(unittest.TestCase):
             own = 1000 * ASKED.cases[keys[0]]["dia"] ** 2 // 64516
             self.assertEqual(row.one("td", "wire").text(), f"{needed:,} of {own:,}{'too small' if answer.small_wire else 'enough'}")
 
-    def test_every_reason_is_told(self):
+    def test_every_reason_is_given(self):
         for station, row in self.rows.items():
             reasons = list(row.all("tr", "why"))
             self.assertEqual(len(reasons), 0 if ASKED.release[station].released else 1)
@@ -299,16 +302,16 @@ class Page(unittest.TestCase):
                 said = [reasons.differences(one), reasons.outside(one), *reasons.undecided(one), reasons.current(one), *wire]
                 cautions = [f"Caution: {caution}" for caution in reasons.cautions(one)]
                 changes = [] if one.released else advice.changes(one)
-                told = [item.text() for item in page.all("li")]
-                self.assertEqual(told[:len(told) - len(changes) - bool(changes)], [plain(text) for text in said + cautions if text])
-                self.assertEqual(told[len(told) - len(changes):], [change.words for change in changes])
-                self.assertEqual(any(text.startswith("What to change:") for text in told), bool(changes))
+                reported = [item.text() for item in page.all("li")]
+                self.assertEqual(reported[:len(reported) - len(changes) - bool(changes)], [plain(text) for text in said + cautions if text])
+                self.assertEqual(reported[len(reported) - len(changes):], [change.words for change in changes])
+                self.assertEqual(any(text.startswith("What to change:") for text in reported), bool(changes))
                 word = "Released" if ASKED.release[one.station].released else "Held"
                 self.assertEqual(page.one("p", "decision").text().split(":")[0], word)
 
     def test_cautions(self):
-        told = {station: len(list(section(station).all("li", "caution"))) for station in with_lines()}
-        self.assertEqual({station for station, count in told.items() if count}, {160, 188})
+        reported = {station: len(list(section(station).all("li", "caution"))) for station in with_lines()}
+        self.assertEqual({station for station, count in reported.items() if count}, {160, 188})
 
     def test_nothing_is_fetched_and_nothing_runs(self):
         tags = {one.tag for one in TREE.all()}
@@ -372,7 +375,7 @@ class Bytes(unittest.TestCase):
         self.assertEqual(PAGE, other.replace("2 July 2026", DATE))
 
     def test_stored(self):
-        """After a wanted change: cd python && python3 -m tests.golden"""
+        """After an intended change: cd python && python3 -m tests.golden"""
         self.assertTrue(golden.made() == golden.FILE.read_text(encoding="utf-8"), f"another report than {golden.FILE} has")
 
     def test_today(self):
@@ -432,6 +435,61 @@ class Others(unittest.TestCase):
         tree = read(rendered(SHEET, "portfolio.csv", licence.Licence((licence.Licensed(7, "Nowhere", (1, 2)),)), DATE))
         self.assertEqual(len(list(tree.all("section"))), 1)
         self.assertEqual(tree.one("tbody", "st").one("span", "badge").text(), "HELD")
+
+
+class Drawings(unittest.TestCase):
+    """The text of each drawing."""
+
+    SCALE = drawing.Scale(2000, 2500)
+    HEAD = '<svg class="bar" viewBox="0 0 2000 20" preserveAspectRatio="none" role="img" aria-labelledby="a1"><title id="a1">P &amp; Q</title>'
+    BASE = '<rect class="base" x="0" y="2" width="4" height="16"/>'
+    LIMIT = '<rect class="limit" x="996" y="0" width="8" height="20"/></svg>'
+
+    def bar(self, share: int, *others: int) -> str:
+        drawn = drawing.bar(share, self.SCALE, "a1", "P & Q", others)
+        self.assertTrue(drawn.startswith(self.HEAD + self.BASE) and drawn.endswith(self.LIMIT), drawn)
+        return drawn[len(self.HEAD + self.BASE):-len(self.LIMIT)]
+
+    def test_a_bar_below_its_limit(self):
+        self.assertEqual(self.bar(700), '<rect class="fill" x="0" y="5" width="700" height="10"/>')
+        self.assertEqual(self.bar(1000), '<rect class="fill" x="0" y="5" width="1000" height="10"/>')
+
+    def test_a_bar_above_its_limit(self):
+        self.assertEqual(self.bar(2000), '<rect class="fill" x="0" y="5" width="1000" height="10"/>'
+                                         '<rect class="over" x="1000" y="5" width="1000" height="10"/>')
+
+    def test_a_bar_that_is_cut(self):
+        self.assertEqual(self.bar(2001), self.bar(2000) + '<path class="cut" d="M1940 5l25 5-25 5M1970 5l25 5-25 5"/>')
+
+    def test_ticks(self):
+        tick = '<rect class="tick" x="{}" y="5" width="9" height="10"/>'
+        self.assertEqual(self.bar(700, 2, 600, 3000), self.bar(700) + tick.format(0) + tick.format(595) + tick.format(1995))
+
+    def test_no_bar(self):
+        self.assertEqual(drawing.no_bar(self.SCALE, "a1", "P & Q"), self.HEAD + self.BASE + self.LIMIT)
+
+    def test_between_and_axis(self):
+        self.assertEqual(drawing.between(self.SCALE), '<svg class="bar" viewBox="0 0 2000 20" preserveAspectRatio="none" aria-hidden="true" '
+                                                      'focusable="false">' + self.LIMIT)
+        self.assertEqual(drawing.axis(self.SCALE), '<span class="axis" aria-hidden="true"><span style="left:calc(100% * 0 / 2000)">0</span>'
+                                                   '<span style="left:calc(100% * 500 / 2000)">50</span>'
+                                                   '<span style="left:calc(100% * 1000 / 2000)">100 % limit</span></span>')
+
+    def test_marks(self):
+        self.assertEqual(drawing.mark("unsafe"), '<svg class="mark unsafe" viewBox="0 0 160 160" aria-hidden="true" focusable="false">'
+                                                 '<path d="M80 16 150 144H10z"/></svg>')
+
+    def test_shapes(self):
+        """Closed elements alone, inside the box of a mark."""
+        for kind, shape in drawing.SHAPES.items():
+            for one in read(f"<svg>{shape}</svg>").one("svg").children:
+                self.assertIsInstance(one, Node, kind)
+                self.assertIn(one.tag, ("circle", "path"), kind)
+                numbers = [int(number) for number in re.findall(r"\d+", " ".join(one.attributes.values()))]
+                self.assertTrue(numbers and max(numbers) <= 160, kind)
+
+    def test_cuts(self):
+        self.assertEqual([drawing.Scale(2000, greatest).cuts for greatest in (1999, 2000, 2001)], [False, False, True])
 
 
 if __name__ == "__main__":

@@ -77,7 +77,7 @@ class Directions(unittest.TestCase):
                 self.assertGreater(sum(a.verdict == Verdict.UNSAFE for a in cautious), 500)
 
     def test_the_other_side_is_not_cautious(self):
-        """The pairs tell the two sides apart: turned round, the test fails for every column."""
+        """The pairs separate the two sides: with the sides exchanged, the test fails for every column."""
         for name in SIDED:
             _, cautious, other = self.asked[name]
             turned = [1 for a, b in zip(cautious, other) if b.verdict == Verdict.SAFE and a.verdict == Verdict.UNSAFE or b.kcmil < a.kcmil]

@@ -10,7 +10,7 @@ from hocsimbur import core
 from hocsimbur.sheets import amounts, site
 from hocsimbur.core import Pair
 
-from .common import run
+from .common import NAMES, run
 
 # IEEE Std 81.2, the table of section 10.4: currents in A and degrees of 1000 A injected; the induced current of the second ground wire
 # flows towards the grid, so that it counts negative
@@ -30,6 +30,28 @@ class Amounts(unittest.TestCase):
         for text in ("70.0005m", "70,5m", "1,000m", "70km", "m", "", "1e3", "0.5mm", "7" * 50, "½m", "７0m"):
             with self.assertRaises(amounts.Unclear, msg=text):
                 amounts.length(text)
+
+    def test_the_words_of_a_refusal(self):
+        for question, text, words in (
+                (amounts.decimal, " 1,000 ", "'1,000' has a comma; write thousands without one"),
+                (amounts.decimal, "1,5", "'1,5' has a comma; write a decimal point"),
+                (amounts.decimal, "1" * 41, f"'{'1' * 41}' is no number"),
+                (amounts.length, "70km", "'70km' is no length; write for example 70m, 70000mm or 70000 (mm)"),
+                (amounts.length, "0.0005 m", "0.0005 m is not a whole number of mm; it is not rounded"),
+                (amounts.length, "0.5", "0.5 mm is not a whole number of mm; it is not rounded"),
+                (amounts.voltage, "5MW", "'5MW' is no voltage; write for example 5kV, 5000V or 5000 (V)"),
+                (amounts.voltage, "0.0001", "0.0001 V is not a whole number of mV; it is not rounded")):
+            with self.assertRaises(amounts.Unclear) as caught:
+                question(text)
+            self.assertEqual(str(caught.exception), words)
+
+    def test_the_longest_number(self):
+        self.assertEqual(amounts.decimal("1" * 40), int("1" * 40))
+        self.assertEqual([amounts.decimal(text) for text in ("5.", ".5", "+5", "\u22125.0")], [5, Fraction(1, 2), 5, -5])
+
+    def test_twelve_decimals_are_shown(self):
+        self.assertEqual(amounts.shown(Fraction(1, 10 ** 12)), "0.000000000001")
+        self.assertEqual(amounts.shown(-Fraction(1, 10 ** 13)), "-0.000000…")
 
     def test_cosines_are_enclosed(self):
         for tenths in range(-3600, 3601, 37):
@@ -96,7 +118,7 @@ class Readings(unittest.TestCase):
                          [(Pair(3048, 3048), Pair(712, 713)), (Pair(5000, 5000), Pair(2000, 2000))])
 
     def test_readings_between_milliohms(self):
-        """Both sides are asked; the ends hold what the exact reading gives, and the soil is that of the upper side."""
+        """Both sides are asked; the ends enclose what the exact reading gives, and the soil is that of the upper side."""
         done = run("wenner", "--reading", "3.0005,0.7125", "--reading", "10ft,2")
         low, high = core.soil([(3000, 712), (3048, 2000)]), core.soil([(3001, 713), (3048, 2000)])
         self.assertEqual(done.err, "warning: the greatest apparent resistivity is over 2.8 times the least. IEEE Std 80, 13.4: \"If there is a large "
@@ -128,10 +150,8 @@ class Readings(unittest.TestCase):
                 (["--reading", "1,1001"], "reading 1, resistance: 1,001 Ω is not in 0.001..1,000 Ω"),
                 (["--reading", "4294968.296,10"], "reading 4294968.296,10: distance: 4294968.296 is far out of range"),
                 (["--reading=-1,1"], "reading -1,1: distance: -1 is far out of range"),
-                (["tests/sample.csv"], "tests/sample.csv: line 1: the names must be metres,ohms or feet,ohms; here they are station,season")):
-            done = run("wenner", *arguments)
-            self.assertEqual((done.status, done.out), (1, ""))
-            self.assertTrue(done.err.startswith(said), done.err)
+                (["tests/sample.csv"], "tests/sample.csv: line 1: the names must be metres,ohms or feet,ohms; here they are " + ",".join(NAMES))):
+            self.assertEqual(run("wenner", *arguments), (1, "", said + "\n"))
 
     def test_neither_or_both(self):
         for command, arguments in (("wenner", []), ("wenner", ["x.csv", "--reading", "1,1"]), ("staged", []), ("staged", ["--branch", "1,0"]),
@@ -223,17 +243,29 @@ class Staged(unittest.TestCase):
 
     def test_refused(self):
         for arguments, said in (
-                (["--injected", "1000,0"], "there are 0 branches"),
-                (["--injected", "1000", "--branch", "1,0"], "current 1000: '1000' is not two numbers"),
-                (["--injected", "1000,0", "--branch", "0.0005,0"], "current 0.0005,0: 0.0005 A is not a whole number of mA"),
+                (["--injected", "1000,0"], "there are 0 branches; the injected current and 1 to 16 branches are needed"),
+                (["--injected", "1000", "--branch", "1,0"], "current 1000: '1000' is not two numbers separated by a comma; write IN-PHASE,QUADRATURE in A "
+                 "as 1000,-50, or SIZE@ANGLE in A and degrees as 1000@-22.5 or 1000∠-22.5, with a decimal point inside a number"),
+                (["--injected", "1000,0", "--branch", "0.0005,0"], "current 0.0005,0: 0.0005 A is not a whole number of mA; it is not rounded"),
                 (["--injected", "1000,0", "--branch", "4@x"], "current 4@x: 'x' is no number"),
                 (["--injected", "1000,0", "--branch", "4@360.1"], "current 4@360.1: angle: 360.1 is not in −360..360 degrees"),
-                (["--injected", "0,0", "--branch", "1,0"], "the injected current is 0"),
-                (["--injected", "2000,0", "--branch", "1,0"], "injected, in-phase part: 2,000 A is not in −1,000..1,000 A"),
-                (["tests/sample.csv"], "tests/sample.csv: line 1: the names must be in_phase,quadrature or size,angle")):
-            done = run("staged", *arguments)
-            self.assertEqual((done.status, done.out), (1, ""))
-            self.assertTrue(done.err.startswith(said), done.err)
+                (["--injected", "1000,0", "--branch", "1000000000.1@0"], "current 1000000000.1@0: size: 1000000000.1 A is far out of range"),
+                (["--injected", "1000,0", "--branch", f"{2 ** 62},0"], f"current {2 ** 62},0: a part is far out of range"),
+                (["--injected", "0,0", "--branch", "1,0"], "the injected current is 0 in both parts; nothing was injected, so there is no split"),
+                (["--injected", "2000,0", "--branch", "1,0"], "injected, in-phase part: 2,000 A is not in −1,000..1,000 A; the split is the same for "
+                 "scaled currents"),
+                (["tests/sample.csv"], "tests/sample.csv: line 1: the names must be in_phase,quadrature or size,angle or current; here they are "
+                 + ",".join(NAMES))):
+            self.assertEqual(run("staged", *arguments), (1, "", said + "\n"))
+
+    def test_a_file_or_options(self):
+        for arguments in (["x", "--injected", "1,0"], ["x", "--branch", "1,0"], ["x", "--injected", "1,0", "--branch", "1,0"]):
+            self.assertEqual(run("staged", *arguments), (3, "", "hocsimbur: give either a file or --injected and --branch\n"))
+        for arguments in ([], ["--branch", "1,0"]):
+            self.assertEqual(run("staged", *arguments), (3, "", "hocsimbur: give a file, or --injected and a --branch for each branch\n"))
+        for arguments in ([], ["x", "--reading", "1,1"]):
+            self.assertEqual(run("wenner", *arguments),
+                             (3, "", "hocsimbur: give either a file of readings or --reading METRES,OHMS once for each reading\n"))
 
     def test_the_ends_of_angles(self):
         for angle in ("360", "-360", "0", "0.0", "+360°"):

@@ -1,4 +1,4 @@
-"""The command import: what spreadsheets write, each change told, nothing rounded."""
+"""The command import: what spreadsheets write, each change reported, nothing rounded."""
 from __future__ import annotations
 
 import contextlib
@@ -16,7 +16,7 @@ from .common import ROOT, SAMPLE, changed, run
 SEMICOLONS = SAMPLE.replace(b",", b";")
 FORMER = (ROOT / "crates" / "carry" / "stdin").read_bytes()
 
-# what a spreadsheet wrote, and what is told of making the sample of it
+# what a spreadsheet wrote, and what is reported when the sample is made of it
 WRITTEN = {
     "nothing": (SAMPLE, []),
     "carriage returns": (SAMPLE.replace(b"\n", b"\r\n"), ["3 lines: carriage return removed"]),
@@ -64,11 +64,11 @@ REFUSED = {
 
 class Made(unittest.TestCase):
     def test_each_change(self):
-        for called, (data, told) in WRITTEN.items():
+        for called, (data, reported) in WRITTEN.items():
             with self.subTest(called):
                 made = spreadsheet.make(data)
                 self.assertEqual(made.sheet, SAMPLE)
-                self.assertEqual(made.changes.told(), told)
+                self.assertEqual(made.changes.told(), reported)
 
     def test_all_changes_at_once(self):
         data = b"\xef\xbb\xbf" + SEMICOLONS.upper().replace(b"3180", b'"3180,0"').replace(b"\n", b";;\r\n") + b"\r\n"
@@ -98,7 +98,7 @@ class Made(unittest.TestCase):
                          ["line 2, fault (column 10): '3.000' may be 3000 or 3.000 with decimals; write it in digits alone"])
         self.assertEqual(spreadsheet.make(changed(fault="3180.000")).sheet, SAMPLE)
 
-    def test_every_wrong_cell_is_told(self):
+    def test_every_wrong_cell_is_reported(self):
         with self.assertRaises(spreadsheet.Refusals) as caught:
             spreadsheet.make(changed(changed(fault="1.5", soil="x"), line=3, depth="0.5"))
         self.assertEqual([said.split(":")[0] for said in caught.exception.said],
@@ -108,6 +108,14 @@ class Made(unittest.TestCase):
         with self.assertRaises(spreadsheet.Refusals) as caught:
             spreadsheet.make(changed(hz="x,y"))
         self.assertEqual([said.split(":")[0] for said in caught.exception.said], ["line 2, hz (column 22)", "line 2, column 23"])
+
+    def test_the_sign_between_fields(self):
+        """That of the first line with two of them; else the first line's own, and without one a comma."""
+        for text, sign in (("", ","), ("\n \n", ","), ("station\n", ","), ("station;season\n", ";"), ("station\tseason\nx\n", "\t"),
+                           ("Yards, 2026\nstation;season;soil\n", ";"), ("Yards, of, 2026\nstation;season;soil;layer\n", ","),
+                           ("Yards\nstation\tseason\tsoil\n1;2;3;4\n", "\t"), ("a;b;c,d,e,f\n", ","), ("sep=;\na,b,c\n", ";"),
+                           ("sep=\t\na,b,c\n", "\t"), ("sep=;,\na,b,c\n", ",")):
+            self.assertEqual(spreadsheet._sign(text), sign, text)
 
     def test_thousands_by_points(self):
         self.assertEqual([spreadsheet.exact(text, ";") for text in ("1.234.567", "1.234.567,0", "1,234,567", "12,5", "12.5")],
@@ -201,8 +209,8 @@ class Workbooks(unittest.TestCase):
 
 class Command(unittest.TestCase):
     def test_to_standard_output(self):
-        data, told = WRITTEN["semicolons"]
-        self.assertEqual(run("import", "-", stdin=data), (0, SAMPLE.decode(), "".join(line + "\n" for line in told)))
+        data, reported = WRITTEN["semicolons"]
+        self.assertEqual(run("import", "-", stdin=data), (0, SAMPLE.decode(), "".join(line + "\n" for line in reported)))
         self.assertEqual(run("import", "-", stdin=SAMPLE).err, "nothing had to be changed\n")
 
     def test_to_a_file(self):

@@ -37,13 +37,13 @@ def named(old: bytes, new: bytes) -> bytes:
 class OfSheets(unittest.TestCase):
     """Refusals 1 to 7."""
 
-    def hold(self, cases):
+    def check(self, cases):
         for sheet, sentence in cases:
             with self.subTest(sentence=sentence):
                 self.assertEqual(of_sheet(sheet), sentence)
 
     def test_1(self):
-        self.hold([
+        self.check([
             (b"", "the sheet is empty; it needs a line of names and a line of values"),
             (SAMPLE[:-1], "line 3: the last line has no line end (byte 10); add one, or use `hocsimbur import`"),
             (SAMPLE + b"0" * 65536 + b"\n",
@@ -54,7 +54,7 @@ class OfSheets(unittest.TestCase):
         ])
 
     def test_2_unknown(self):
-        self.hold([
+        self.check([
             (named(b"soil", b"sol"), "line 1, column 3: 'sol' is no name of a sheet; did you mean soil?"),
             (named(b"xr", b"X/R"), "line 1, column 12: 'X/R' is no name of a sheet; did you mean xr?"),
             (named(b"soil", b"Soil"), f"line 1, column 3: names are in small letters, soil and not Soil; {IMPORT}"),
@@ -64,7 +64,7 @@ class OfSheets(unittest.TestCase):
         ])
 
     def test_2_repeated_and_missing(self):
-        self.hold([
+        self.check([
             (named(b"hz", b"soil"), "line 1, soil (column 22): soil stands already in column 3; each name stands once"),
             (named(b"layer", b"soil"), "line 1, soil (column 4): soil stands already in column 3; each name stands once"),
             (named(b",metal,hz", b""), "line 1: metal and hz are missing: a sheet has 22 names, here are 20"),
@@ -74,13 +74,13 @@ class OfSheets(unittest.TestCase):
 
     def test_2_former(self):
         carry = "is a name of the former sheet of 18 names; `hocsimbur carry` makes today's sheet of it"
-        self.hold([
+        self.check([
             (named(b"shock", b"ms"), f"line 1, column 6: ms {carry}"),
             (named(b"across", b"lines"), f"line 1, column 13: lines {carry}"),
         ])
 
     def test_2_spreadsheets(self):
-        self.hold([
+        self.check([
             (SAMPLE.replace(b"\n", b"\r\n"),
              f"line 1, hz (column 22): the line ends with two bytes, 13 and 10 (CRLF), and not with byte 10 alone; {IMPORT}"),
             (b"\xef\xbb\xbf" + SAMPLE, f"line 1: a byte-order mark (bytes 239, 187, 191) stands before the first name; {IMPORT}"),
@@ -94,7 +94,7 @@ class OfSheets(unittest.TestCase):
 
     def test_3(self):
         soil = "line 2, soil (column 3): "
-        self.hold([
+        self.check([
             (changed(soil="62.5"), soil + "62.5 is not a whole number of Ω·m, 10..5000; the cautious side is up"),
             (changed(soil="400.0"), soil + "400.0 has a decimal point; write 400, or let `hocsimbur import` do so"),
             (changed(soil="0400"), soil + "0400 starts with 0; write 400"),
@@ -111,7 +111,7 @@ class OfSheets(unittest.TestCase):
         ])
 
     def test_3_too_few_and_too_many(self):
-        self.hold([
+        self.check([
             (ONE.replace(b",60\n", b"\n"), "line 2, hz (column 22): there are only 21 values for 22 names; this one is missing"),
             (ONE.replace(b",60\n", b",60,\n"), "line 2, column 23: there are 23 values for 22 names; a decimal comma splits a value in two"),
             (SAMPLE + b"\n", "line 4: the line is empty; take it out, or let `hocsimbur import` do so"),
@@ -119,13 +119,13 @@ class OfSheets(unittest.TestCase):
 
     def test_4(self):
         many = HEAD + b"\n" + ONE.split(b"\n")[1].join([b"", b"\n"]) * 300
-        self.hold([
+        self.check([
             (HEAD + b"\n", "line 2: the sheet has names but no line of values"),
             (many, "line 258: the sheet has 300 lines of values, at most 256 are allowed; part it into several"),
         ])
 
     def test_5(self):
-        self.hold([
+        self.check([
             (changed(fault=318000), "line 2, fault (column 10): 318000 A is not in 100..80000"),
             (changed(line=3, depth=50), "line 3, depth (column 16): 50 mm is not in 250..2500"),
             (changed(body=60), "line 2, body (column 9): 60 kg is not 50 or 70"),
@@ -138,7 +138,7 @@ class OfSheets(unittest.TestCase):
         ])
 
     def test_6(self):
-        self.hold([
+        self.check([
             (changed(line=3, thick=0), "line 3, layer (column 4): layer and thick are both 0 (bare soil) or both not 0; "
              "here layer is 2500 Ω·m and thick is 0 mm"),
             (changed(rods=4), "line 2, rods (column 18): rods, rodlen and place are all 0 (no rods) or all not 0; "
@@ -146,7 +146,7 @@ class OfSheets(unittest.TestCase):
         ])
 
     def test_7(self):
-        self.hold([(changed(line=3, season=1), "line 3: station 7, season 1 stands already in line 2; a station has one line for a season")])
+        self.check([(changed(line=3, season=1), "line 3: station 7, season 1 stands already in line 2; a station has one line for a season")])
 
     def test_other_order_of_columns(self):
         lines = [line.split(b",") for line in SAMPLE.splitlines()]
@@ -240,7 +240,7 @@ class Lines(unittest.TestCase):
         self.assertIn("'" + "a" * 40 + "…' is no number", of_sheet(changed(soil="a" * 1000)))
 
     def test_lines_of_the_file(self):
-        """The lines told are those of the file from which the sheet's lines came."""
+        """The lines named are those of the file from which the sheet's lines came."""
         for line, number in ((2, 5), (3, 6)):
             sheet = changed(line=line, fault=99)
             self.assertEqual(said(lambda: core.rows(sheet), Asked(sheet, line_numbers=[3, 5, 6])),

@@ -1,5 +1,5 @@
 // Reads questions from standard input, one a line: a kind, then its numbers, separated by commas. Prints each line, a comma and the answer.
-// tests/questions.py gathers the questions, and tests/test_asked.py, test_readings.py and test_staged.py judge the answers.
+// tests/questions/questions.py gathers the questions, and the tests in tests/questions and tests/measurements judge the answers.
 mod answer;
 mod case_asked;
 mod measured;

@@ -1,4 +1,4 @@
-// Reads a sheet from standard input and prints all numbers of each row, or the refusal. tests/test_rows.py judges the lines.
+// Reads a sheet from standard input and prints all numbers of each row, or the refusal. tests/sheets/test_rows.py judges the lines.
 use listing::Program;
 
 fn main() {

@@ -7,7 +7,7 @@
 // carry,LENGTH,LENGTH..    the sheet carried on and carried back, in a buffer of each length
 // release,LENGTH           the licence in the next line, in a table of this length
 //
-// tests/stored.py gathers the sheets; test_batch.py, test_summary.py, test_carry.py and test_release.py judge the answers.
+// tests/sheets/stored.py gathers the sheets; the tests in that folder judge the answers.
 mod carried;
 mod length;
 mod listed;

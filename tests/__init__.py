@@ -1,0 +1,1 @@
+"""Tests against a separately written calculator; README.md says what each folder asks."""

@@ -1,0 +1,1 @@
+"""The documentation and the files that scripts write."""

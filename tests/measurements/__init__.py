@@ -1,0 +1,1 @@
+"""What is measured at a site: four-pin readings and the staged test."""

@@ -1,0 +1,1 @@
+"""The built programs at their limits and on the example sheets."""

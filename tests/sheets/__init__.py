@@ -1,0 +1,1 @@
+"""Whole sheets: rows, verdicts, the station summary, release and conversion; the stored batches and random sheets."""
