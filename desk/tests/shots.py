@@ -1,14 +1,13 @@
 """Pictures of the main states of the desk page, in target/browser; with a path, also the one that README shows.
 
     python3 desk/tests/shots.py [docs/desk.png]"""
-import base64
 import sys
 from pathlib import Path
 
 HERE = Path(__file__).resolve().parent
 sys.path.insert(0, str(HERE))
 sys.dont_write_bytecode = True
-from devtools import Browser  # noqa: E402
+from devtools import Chromium as Browser  # noqa: E402
 
 OUT = HERE.parents[1] / "target" / "browser"
 SMALLER = 0.75  # of the picture for README
@@ -44,7 +43,7 @@ def main():
         b.dark(True), shot("dark-stations"), b.dark(False)
         b.click("#view-lines"), b.click(cell(5, 2)), b.click("#view-site"), b.settle()
         for place, text in (("#readings", "1 10.4\n2 4.55\n5 1.62\n10 0.71"), ("#currents", "1000 0\n400 0"), ("#side", "60")):
-            b.click(place), b.call("Input.insertText", text=text), b.settle()
+            b.click(place), b.insert(text), b.settle()
         b.click("#side-said summary"), b.settle()
         shot("site"), b.dark(True), shot("dark-site")
         b.size(375, 812, 2), b.settle(), shot("narrow-375-site"), b.size(1280, 900), b.settle()
@@ -68,8 +67,7 @@ def main():
         b.click("#view-stations"), shot("narrow-375-stations"), b.click("#view-lines")
         b.run("document.querySelector('#middle').scrollIntoView()"), shot("narrow-375-what-if")
         b.size(1600, 1000), b.settle(), b.run("scrollTo(0, 0)"), shot("wide-1600")
-        data = b.call("Page.printToPDF", preferCSSPageSize=True, printBackground=True)["data"]
-        (OUT / "print.pdf").write_bytes(base64.b64decode(data))
+        (OUT / "print.pdf").write_bytes(b.print())
         print(b.wrong())
     finally:
         b.close()
