@@ -87,7 +87,11 @@ class Firefox(Driven):
 
     def navigate(self, address):
         self.call("browsingContext.navigate", context=self.context, url=address, wait="complete")
-        self.system("window.focus(); gBrowser.selectedBrowser.focus(); 0")  # a page without the focus hears of none
+        self.front()
+
+    def front(self):
+        """Gives the page the focus: without it, it hears of none, and Tab past its last control goes to the browser's own."""
+        self.system("window.focus(); gBrowser.selectedBrowser.focus(); 0")
 
     def run(self, code):
         answer = self.call("script.evaluate", expression=code, target={"context": self.context}, awaitPromise=True, userActivation=True)

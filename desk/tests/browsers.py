@@ -21,6 +21,9 @@ class Driven:
             time.sleep(0.05)
         raise RuntimeError(f"the page is not ready in {self.name}: " + json.dumps(self.wrong()))
 
+    def front(self):
+        """Gives the page the focus; where it always has it, nothing."""
+
     def key(self, key, modifiers=0):
         """One key; modifiers: 1 Alt, 2 Ctrl, 8 Shift."""
         self.press([key], modifiers)

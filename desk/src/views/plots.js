@@ -99,6 +99,8 @@ export function readout(point, name, place) {
     h('span', { class: one.side.replace(' ', '-') }, margin(one)), `; ${data.verdicts[point.verdict]}`];
 }
 
+const spokenOf = (point, name, place) => readout(point, name, place).map((part) => part.textContent ?? part).join('');
+
 function axes(curve, s) {
   const unit = data.labels[curve.name].unit;
   const xs = curve.log ? logTicks(Math.max(curve.low, 1), curve.high) : ticks(curve.low, curve.high, 6).filter(Number.isInteger);
@@ -129,6 +131,7 @@ export function plot(curve, place, width, take, tell) {
     viewBox: `0 0 ${width} ${HEIGHT}`, width, height: HEIGHT, class: 'plot', tabindex: 0, 'data-key': 'plot', role: 'slider',
     'aria-label': `What if ${data.labels[curve.name].label.toLowerCase()} were another: arrows move, Enter takes the value over`,
     'aria-valuemin': curve.low, 'aria-valuemax': curve.high, 'aria-valuenow': curve.now,
+    'aria-valuetext': inside ? spokenOf(points[here], curve.name, place) : shownValue(curve.name, curve.now),
   }, h('clipPath', { id: 'inside' }, h('rect', { x: s.left, y: PAD.top, width: s.right - s.left, height: s.floor - PAD.top + 1 })),
   bands(curve, s), axes(curve, s),
   h('path', { class: 'tolerable', d: path(points, s.x, s.y, limit), ...clip }),
@@ -151,7 +154,7 @@ export function plot(curve, place, width, take, tell) {
       mark.setAttribute('cy', s.y(Math.min(v, s.yTop)));
     }
     svg.setAttribute('aria-valuenow', points[at].value);
-    svg.setAttribute('aria-valuetext', readout(points[at], curve.name, place).map((part) => part.textContent ?? part).join(''));
+    svg.setAttribute('aria-valuetext', spokenOf(points[at], curve.name, place));
     tell(points[at]);
   };
   const leave = () => { hair.setAttribute('visibility', 'hidden'); tell(null); };
