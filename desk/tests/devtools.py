@@ -12,6 +12,7 @@ from browsers import Driven
 KEYS = {"Enter": 13, "Tab": 9, "Escape": 27, "ArrowDown": 40, "ArrowUp": 38, "ArrowLeft": 37, "ArrowRight": 39, "Delete": 46, "Home": 36,
         "End": 35, "F2": 113, "PageUp": 33, "PageDown": 34, "Backspace": 8}
 TEXTS = {"Enter": "\r"}
+MODIFIERS = {1: ("Alt", 18), 2: ("Control", 17), 8: ("Shift", 16)}
 
 
 class Chromium(Driven):
@@ -74,12 +75,17 @@ class Chromium(Driven):
         return answer["result"].get("value")
 
     def press(self, keys, modifiers=0):
+        held = [{"key": key, "windowsVirtualKeyCode": code, "modifiers": modifiers} for bit, (key, code) in MODIFIERS.items() if modifiers & bit]
+        for one in held:
+            self.call("Input.dispatchKeyEvent", type="rawKeyDown", **one)
         for key in keys:
             code = KEYS.get(key) or (ord(key.upper()) if key.isalnum() else 0)  # a sign's own number is that of another key: . of Delete
             text = {} if key in KEYS and key not in TEXTS or modifiers & 2 else {"text": TEXTS.get(key, key)}
             named = {"key": key, "windowsVirtualKeyCode": code, "modifiers": modifiers}
             self.call("Input.dispatchKeyEvent", type="keyDown", **named, **text)
             self.call("Input.dispatchKeyEvent", type="keyUp", **named)
+        for one in reversed(held):
+            self.call("Input.dispatchKeyEvent", type="keyUp", **{**one, "modifiers": 0})
 
     def insert(self, text):
         """A text into what has the focus, at once."""

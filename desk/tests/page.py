@@ -11,10 +11,12 @@ import subprocess
 import sys
 import time
 
+from access import access
 from common import NAMES, PAGE, ROOT, cell, plain, same, told, wrong
 from browsers import asked
 from hands import drawn, dropping, hostile, keys, many_lines, opened, paste, printed, ranges, site
 from panels import by_keys, licensing, mapped, outside, units
+from tour import tour
 from hocsimbur.portfolio import advice, decision, licence, lines, reasons
 from hocsimbur.portfolio.compared import NOT_PARTED, margin as margin_of
 from hocsimbur.sheets import checking, layout, names
@@ -130,8 +132,8 @@ def closed(b):
     same("file", b.run(f"fetch({other}).then(() => 'open', () => 'closed')"), "closed")
 
 
-SCENARIOS = (keys, ranges, paste, units, drawn, mapped, site, stations, outside, licensing, by_keys, opened, dropping, many, refusals, printed, hostile,
-             many_lines)
+SCENARIOS = (keys, ranges, paste, units, drawn, mapped, site, stations, outside, licensing, by_keys, opened, dropping, many, refusals, printed,
+             hostile, many_lines, tour, access)
 
 
 def driven(kind, scenarios):
@@ -144,8 +146,8 @@ def driven(kind, scenarios):
             before, start = len(wrong), time.monotonic()
             try:
                 part(b)
-            except RuntimeError as error:  # the browser could not do what was asked: the page is not as it should be
-                wrong.append(f"{part.__name__}: {error}")
+            except Exception as error:  # pylint: disable=broad-except; what cannot be gone through is wrong
+                wrong.append(f"{part.__name__}: {error!r}")
             took = time.monotonic() - start
             print(f"browser: desk page in {b.name}, {part.__name__}: {'as it should be' if len(wrong) == before else 'WRONG'}, {took:.1f} s")
         wrong.extend(b.wrong())
