@@ -65,6 +65,7 @@ class Chromium(Driven):
         self.call("Emulation.setEmulatedMedia", features=[{"name": name, "value": value} for name, value in self.media.items()])
 
     def navigate(self, address):
+        self.run("addEventListener('beforeunload', (event) => event.stopImmediatePropagation(), true)")  # no question about unsaved work
         self.call("Page.navigate", url=address)
         time.sleep(0.05)
 

@@ -15,6 +15,7 @@ from access import access
 from common import NAMES, PAGE, ROOT, cell, plain, same, told, wrong
 from browsers import asked
 from hands import drawn, dropping, hostile, keys, many_lines, opened, paste, printed, ranges, site
+from moving import moving, telling
 from panels import by_keys, licensing, mapped, outside, units
 from tour import tour
 from hocsimbur.portfolio import advice, decision, licence, lines, reasons
@@ -132,8 +133,8 @@ def closed(b):
     same("file", b.run(f"fetch({other}).then(() => 'open', () => 'closed')"), "closed")
 
 
-SCENARIOS = (keys, ranges, paste, units, drawn, mapped, site, stations, outside, licensing, by_keys, opened, dropping, many, refusals, printed,
-             hostile, many_lines, tour, access)
+SCENARIOS = (keys, ranges, moving, telling, paste, units, drawn, mapped, site, stations, outside, licensing, by_keys, opened, dropping, many,
+             refusals, printed, hostile, many_lines, tour, access)
 
 
 def driven(kind, scenarios):
