@@ -31,6 +31,7 @@ SHARED = libhocsimbur.so.$(VERSION)
 
 OUT = target/host
 WASM_FILES = target/wasm32/hocsimbur.wasm target/wasm32/hocsimbur.mjs
+DESK_TESTS = words pieces drawings built
 # three archives, so that the rows are compiled by themselves: what the compiler inlines for them does not hang on the other entries
 ARCHIVES = target/staticlib/libc_entry.a target/staticlib/libc_questions.a target/staticlib/libc_lines.a
 STATIC_LIBRARY = $(OUT)/libhocsimbur.a
@@ -169,11 +170,12 @@ check: libraries panel harness sanitized wrong
 	bash host/check.sh
 	$(MAKE) -s check-python
 
-# the page's modules under node, against the command word for word
+# the page's modules under node, against the command word for word; and whether the wrong changes that the tests must see can be put in
 check-desk: libraries desk
 	HOCSIMBUR_LIBRARY= $(PYTHON) desk/tests/expected.py > target/desk/expected.json
-	EXPECTED=target/desk/expected.json node --test desk/tests/words.mjs desk/tests/built.mjs > target/desk/tests \
+	EXPECTED=target/desk/expected.json node --test $(DESK_TESTS:%=desk/tests/%.mjs) > target/desk/tests \
 	    || (cat target/desk/tests; exit 1)
+	$(PYTHON) -B desk/tests/wrong.py --check
 	@sed -n 's/^# pass /desk: tests that pass: /p' target/desk/tests
 
 # the tests of the package ask the library that was built here

@@ -31,6 +31,11 @@ def imports(module: Path):
         yield found, (module.parent / found["path"]).resolve()
 
 
+def exported(text: str) -> list:
+    """The names that a module exports: one for each `export`."""
+    return [found[2] for found in EXPORT.finditer(text)]
+
+
 def ordered(first: Path) -> list:
     """The modules, each after those that it imports; a ring of imports is a mistake."""
     done: list = []
@@ -52,12 +57,16 @@ def scoped(module: Path) -> str:
     text = module.read_text(encoding="utf-8")
     for found, other in imports(module):
         names = found["all"] or "{ %s }" % found["names"].replace(" as ", ": ")
+        there = exported(other.read_text(encoding="utf-8"))
+        gone = [name for name in re.findall(r"(\w+)(?: as \w+)?", found["names"] or "") if name not in there]
+        if gone:
+            sys.exit(f"build: {module.name} imports {', '.join(gone)}, which {other.name} does not export, each by an `export` of its own")
         text = text.replace(found[0], f"const {names} = {identifier(other)};\n", 1)
-    exported = [found[2] for found in EXPORT.finditer(text)]
+    own = exported(text)
     text = EXPORT.sub(r"\1 \2", text)
     if re.search(r"^(import|export)\b", text, re.M):
         sys.exit(f"build: {module.name} has an import or an export in a form that is not known")
-    return f"// {module.name}\nconst {identifier(module)} = (() => {{\n{text}return {{ {', '.join(exported)} }};\n}})();\n"
+    return f"// {module.name}\nconst {identifier(module)} = (() => {{\n{text}return {{ {', '.join(own)} }};\n}})();\n"
 
 
 def digest(text: str) -> str:

@@ -1,11 +1,11 @@
 """The report and the desk page in a real browser, by hand. Of the report: nothing overflows a narrow or a wide screen, the PDF has one page
 for the portfolio and one for each station, with DejaVu Sans as the only font too, the head of a long portfolio repeats, and 1,000 stations
-open within two seconds. Of the desk page: what desk/tests/page.py asks.
+open within two seconds. Of the desk page: what desk/tests/page.py asks, in chromium and firefox.
 
     python3 tests/browser.py [--out target/browser] [--picture docs/report.png]
 
-It needs the shared library and the page (`make libraries desk`), and installs Debian's chromium, poppler-utils and fonts-dejavu where they
-are missing.
+It needs the shared library and the page (`make libraries desk`), and installs Debian's chromium, firefox-esr, poppler-utils and fonts-dejavu
+where they are missing.
 The folder then has the pages as report-1280-*.png, report-375-*.png and report.pdf with its pages as pictures, to be looked at.
 What is wrong is printed, and the exit status is then 1.
 """
@@ -69,11 +69,11 @@ style="border:0;margin-top:-TOPpx"></iframe>"""
 
 
 def install():
-    """The browser and the reader of PDF files."""
-    if shutil.which("chromium") and shutil.which("pdfinfo"):
+    """The browsers and the reader of PDF files."""
+    if all(map(shutil.which, ("chromium", "firefox-esr", "pdfinfo"))):
         return
     subprocess.run(["apt-get", "update"], check=True)
-    subprocess.run(["apt-get", "install", "-y", "chromium", "poppler-utils", "fonts-dejavu"], check=True)
+    subprocess.run(["apt-get", "install", "-y", "chromium", "firefox-esr", "poppler-utils", "fonts-dejavu"], check=True)
 
 
 class Quiet(http.server.SimpleHTTPRequestHandler):

@@ -2,7 +2,7 @@
 import assert from 'node:assert/strict';
 import { createHash } from 'node:crypto';
 import fs from 'node:fs';
-import test from 'node:test';
+import test from './tested.mjs';
 
 const at = (name) => new URL(`../../target/${name}`, import.meta.url);
 const page = fs.readFileSync(at('desk/hocsimbur.html'), 'utf8');
@@ -18,6 +18,12 @@ test('one script and one style, by their hashes, and nothing else may run or be 
   const kinds = [...page.matchAll(/<script type="([^"]+)"/g)].map((found) => found[1]);
   assert.deepEqual(kinds, ['application/json', 'application/json', 'text/plain', 'module']);
   assert.doesNotMatch(page, /<(link|img|iframe|object|embed|form|base)\b|\s(src|style|on\w+)=/i);
+});
+
+test('what only a screen can use is not printed, and who wants no motion has none', () => {
+  const [, hidden] = style.match(/@media print\{[^]*?\n {2}([^{}\n]*)\{display:none!important\}/);
+  for (const one of ['nav', '.acts', '.chips', '#varied', '.foot', '#panel-site']) assert.ok(hidden.split(',').includes(one), `${one} of ${hidden}`);
+  assert.match(style, /@media \(prefers-reduced-motion:reduce\)\{\*\{transition:none!important;animation:none!important/);
 });
 
 test('no text becomes markup, and nothing is stored', () => {

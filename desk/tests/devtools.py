@@ -1,4 +1,4 @@
-"""A browser driven over the DevTools protocol through a pipe: standard library alone, no port, no socket."""
+"""Chromium driven over the DevTools protocol through a pipe: standard library alone, no port, no socket."""
 import base64
 import json
 import os
@@ -7,11 +7,17 @@ import tempfile
 import time
 from pathlib import Path
 
+from browsers import Driven
+
 KEYS = {"Enter": 13, "Tab": 9, "Escape": 27, "ArrowDown": 40, "ArrowUp": 38, "ArrowLeft": 37, "ArrowRight": 39, "Delete": 46, "Home": 36,
-        "End": 35, "F2": 113}
+        "End": 35, "F2": 113, "PageUp": 33, "PageDown": 34, "Backspace": 8}
+TEXTS = {"Enter": "\r"}
+MODIFIERS = {1: ("Alt", 18), 2: ("Control", 17), 8: ("Shift", 16)}
 
 
-class Browser:
+class Chromium(Driven):
+    name, program = "chromium", "chromium"
+
     def __init__(self, width=1280, height=900):
         read, write_end = os.pipe()
         read_end, write = os.pipe()
@@ -25,6 +31,7 @@ class Browser:
             preexec_fn=lent, close_fds=False, stdout=subprocess.DEVNULL, stderr=subprocess.DEVNULL)
         os.close(read), os.close(write)
         self.out, self.into, self.number, self.rest, self.events = write_end, read_end, 0, b"", []
+        self.media = {}
         target = next(one for one in self.call("Target.getTargets")["targetInfos"] if one["type"] == "page")
         self.session = None
         self.session = self.call("Target.attachToTarget", targetId=target["targetId"], flatten=True)["sessionId"]
@@ -52,16 +59,15 @@ class Browser:
     def size(self, width, height, scale=1):
         self.call("Emulation.setDeviceMetricsOverride", width=width, height=height, deviceScaleFactor=scale, mobile=False)
 
-    def dark(self, on):
-        self.call("Emulation.setEmulatedMedia", features=[{"name": "prefers-color-scheme", "value": "dark" if on else "light"}])
+    def prefer(self, scheme=None, motion=None):
+        """What the person prefers: a light or dark page, and motion or none."""
+        self.media.update({name: value for name, value in (("prefers-color-scheme", scheme), ("prefers-reduced-motion", motion)) if value})
+        self.call("Emulation.setEmulatedMedia", features=[{"name": name, "value": value} for name, value in self.media.items()])
 
-    def open(self, path):
-        self.call("Page.navigate", url=Path(path).resolve().as_uri())
-        for _ in range(200):
-            time.sleep(0.05)
-            if self.run("document.body && document.body.dataset.ready"):
-                return
-        raise RuntimeError("the page is not ready: " + json.dumps(self.wrong()))
+    def navigate(self, address):
+        self.run("addEventListener('beforeunload', (event) => event.stopImmediatePropagation(), true)")  # no question about unsaved work
+        self.call("Page.navigate", url=address)
+        time.sleep(0.05)
 
     def run(self, code):
         answer = self.call("Runtime.evaluate", expression=code, returnByValue=True, awaitPromise=True)
@@ -69,43 +75,43 @@ class Browser:
             raise RuntimeError(json.dumps(answer["exceptionDetails"])[:800])
         return answer["result"].get("value")
 
-    def key(self, key, modifiers=0):
-        """One key; modifiers: 1 Alt, 2 Ctrl, 8 Shift."""
-        code = KEYS.get(key) or (ord(key.upper()) if key.isalnum() else 0)  # a sign's own number is that of another key: . of Delete
-        text = {} if key in KEYS and key != "Enter" or modifiers & 2 else {"text": "\r" if key == "Enter" else key}
-        named = {"key": key, "windowsVirtualKeyCode": code, "modifiers": modifiers}
-        self.call("Input.dispatchKeyEvent", type="keyDown", **named, **text)
-        self.call("Input.dispatchKeyEvent", type="keyUp", **named)
+    def press(self, keys, modifiers=0):
+        held = [{"key": key, "windowsVirtualKeyCode": code, "modifiers": modifiers} for bit, (key, code) in MODIFIERS.items() if modifiers & bit]
+        for one in held:
+            self.call("Input.dispatchKeyEvent", type="rawKeyDown", **one)
+        for key in keys:
+            code = KEYS.get(key) or (ord(key.upper()) if key.isalnum() else 0)  # a sign's own number is that of another key: . of Delete
+            text = {} if key in KEYS and key not in TEXTS or modifiers & 2 else {"text": TEXTS.get(key, key)}
+            named = {"key": key, "windowsVirtualKeyCode": code, "modifiers": modifiers}
+            self.call("Input.dispatchKeyEvent", type="keyDown", **named, **text)
+            self.call("Input.dispatchKeyEvent", type="keyUp", **named)
+        for one in reversed(held):
+            self.call("Input.dispatchKeyEvent", type="keyUp", **{**one, "modifiers": 0})
 
-    def type(self, text):
-        for sign in text:
-            self.key(sign)
-
-    def paste(self, text):
-        self.run("(() => { const d = new DataTransfer(); d.setData('text/plain', %s); document.activeElement.dispatchEvent("
-                 "new ClipboardEvent('paste', {clipboardData: d, bubbles: true, cancelable: true})); })()" % json.dumps(text))
+    def insert(self, text):
+        """A text into what has the focus, at once."""
+        self.call("Input.insertText", text=text)
 
     def mouse(self, kind, x, y):
         moved = kind == "mouseMoved"
         self.call("Input.dispatchMouseEvent", type=kind, x=x, y=y, button="none" if moved else "left", clickCount=0 if moved else 1)
 
-    def click(self, query):
-        x, y = self.run("(() => { const e = document.querySelector(%s); e.scrollIntoView({block:'nearest'});"
-                        " const b = e.getBoundingClientRect();"
-                        " return [b.left + b.width / 2, b.top + b.height / 2]; })()" % json.dumps(query))
-        self.at(x, y)
+    def drop(self, *paths):
+        """Files dropped on the page."""
+        for kind in ("dragEnter", "dragOver", "drop"):
+            data = {"items": [], "files": [str(path) for path in paths], "dragOperationsMask": 1}
+            self.call("Input.dispatchDragEvent", type=kind, x=400, y=600, data=data)
 
-    def at(self, x, y):
-        self.mouse("mouseMoved", x, y), self.mouse("mousePressed", x, y), self.mouse("mouseReleased", x, y)
+    def saves_to(self, folder):
+        self.call("Browser.setDownloadBehavior", behavior="allow", downloadPath=str(folder))
+
+    def print(self):
+        """The page as a PDF file's bytes."""
+        return base64.b64decode(self.call("Page.printToPDF", preferCSSPageSize=True, printBackground=True)["data"])
+
+    def shot(self, path):
         self.settle()
-
-    def settle(self):
-        self.run("new Promise(done => requestAnimationFrame(() => requestAnimationFrame(done)))")
-
-    def shot(self, path, full=False):
-        self.settle()
-        data = self.call("Page.captureScreenshot", format="png", captureBeyondViewport=full)["data"]
-        Path(path).write_bytes(base64.b64decode(data))
+        Path(path).write_bytes(base64.b64decode(self.call("Page.captureScreenshot", format="png")["data"]))
 
     def wrong(self):
         """What the browser complained of."""

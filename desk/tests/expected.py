@@ -138,6 +138,8 @@ def portfolios(rng: random.Random):
                     other.update(depth=rng.randint(250, 2500))
                 if rng.random() < 0.15:
                     other.update(fault=rng.randint(100, 9000))
+                if rng.random() < 0.15:
+                    other.update(dia=rng.choice((50, 60, 100, 134, 200, 300)))
                 cases.append(other)
         rng.shuffle(cases)
         licensed = []

@@ -45,21 +45,16 @@ def keys(b):
     b.key("z", 2), b.key("z", 2), b.settle()
 
 
-COPY = """(kind => { const d = new DataTransfer();
-  document.activeElement.dispatchEvent(new ClipboardEvent(kind, {clipboardData: d, bubbles: true, cancelable: true}));
-  return d.getData('text/plain'); })"""
-
-
 def ranges(b):
     """Ranges: chosen with Shift, copied, cut, filled down, cleared; lines added and removed."""
     def text(row, name):
         return b.run(f"document.querySelector('{cell(row, name)}').textContent")
     b.click("#sample"), b.click(cell(0, "soil"))
     b.key("ArrowDown", 8), b.key("ArrowRight", 8)
-    same("copied", b.run(f"{COPY}('copy')"), "130\t2500\n185\t2500")
+    same("copied", b.copy(), "130\t2500\n185\t2500")
     b.click(cell(4, "soil")), b.paste("1\t2\n3\t4"), b.settle()
     same("pasted", [text(4, "soil"), text(4, "layer"), text(5, "soil"), text(5, "layer")], ["1", "2", "3", "4"])
-    same("cut", b.run(f"{COPY}('cut')"), "1\t2\n3\t4")
+    same("cut", b.copy("cut"), "1\t2\n3\t4")
     same("cleared", [text(4, "soil"), text(5, "layer")], ["", ""])
     same("to fill in", told(b)[4][0], "to fill insoil: no value stands here; it must be a whole number of Ω·m, 10..5000")
     b.click("#undo"), b.click("#undo"), b.click(cell(0, "soil")), b.key("ArrowDown", 8), b.key("ArrowDown", 8), b.key("d", 2), b.settle()
@@ -114,14 +109,14 @@ def drawn(b):
 
 def printed(b):
     """A print names the sheet with its SHA-256, the library, and the command that makes the formal report."""
-    b.click("#sample"), b.call("Page.printToPDF"), b.settle()
+    b.click("#sample"), b.print(), b.settle()
     lines = json.loads(b.run("JSON.stringify([...document.querySelectorAll('#printed span')].map(e => e.textContent))"))
     digest = hashlib.sha256((ROOT / "examples/portfolio.csv").read_bytes()).hexdigest()
     same("sheet", lines[0], f"portfolio.csv, SHA-256 {digest}")
     same("library", lines[1].startswith(f"Hocsimbur {core.version()}, "), True)
     same("report", lines[2], "This is a print of the desk page. The formal report: "
                              "hocsimbur report portfolio.csv --licence licence.csv -o report.html")
-    b.click(cell(0, "soil")), b.type("131"), b.key("Enter"), b.call("Page.printToPDF"), b.settle()
+    b.click(cell(0, "soil")), b.type("131"), b.key("Enter"), b.print(), b.settle()
     text = b.run("document.getElementById('printed').textContent")
     same("changed", "portfolio.csv (not saved)" in text and digest not in text, True)
     b.click("#undo"), b.settle()
@@ -168,7 +163,7 @@ def site(b):
         return found
 
     def typed(place, *lines):
-        b.click(place), b.call("Input.insertText", text="\n".join(lines)), b.settle()
+        b.click(place), b.insert("\n".join(lines)), b.settle()
     b.click("#sample"), b.click(cell(1, "soil")), b.click("#view-site"), b.settle()
     typed("#readings", "1 10.4", "2 4.55", "5 1.62", "10 0.71")
     same("soil", plain(b.run("document.querySelector('#readings-said b').textContent")), "column soil: 55 Ω·m")
@@ -189,6 +184,7 @@ def site(b):
     same("in every season", taken("#side-said button", *((row, "across") for row in range(4))), [across] * 4)
     typed("#side", "x")
     same("refused", plain(b.run("document.querySelector('#side-said .red').textContent")), "side: '60x' is no number")
+    b.run("['readings', 'currents', 'side'].forEach((id) => { document.getElementById(id).value = ''; })")
     b.click("#view-lines"), b.click("#new"), b.settle()
 
 
@@ -217,7 +213,7 @@ def many_lines(b):
     b.click(cell(MANY - 2, "fault")), b.type("100"), b.key("Enter"), b.settle()
     same("typed", b.run(f"document.querySelector('{cell(MANY - 2, 'fault')}').textContent"), "100")
     b.run(f"addEventListener('beforeprint', () => {{ window.printed = {drawn_rows}; }})")
-    b.call("Page.printToPDF")
+    b.print()
     b.settle()
     same("all lines are printed", b.run("window.printed") >= MANY, True)
     same("after printing", b.run(drawn_rows) < 120, True)
@@ -229,9 +225,7 @@ def many_lines(b):
 
 def dropped(b, *paths):
     """Files dropped on the page, and what it then says."""
-    for kind in ("dragEnter", "dragOver", "drop"):
-        data = {"items": [], "files": [str(path) for path in paths], "dragOperationsMask": 1}
-        b.call("Input.dispatchDragEvent", type=kind, x=400, y=600, data=data)
+    b.drop(*paths)
     time.sleep(0.3)
     b.settle()
     return b.run("document.getElementById('said').textContent")
@@ -257,3 +251,17 @@ def opened(b):
     same("the sheet stays", len(told(b)), 36)
     dropped(b, ROOT / "examples/refused-2-ms.csv")
     same("an old sheet", [line[0] for line in told(b)], ["safe", "unsafe"])
+
+
+DROP = """((name, text) => { const d = new DataTransfer(); d.items.add(new File([text], name));
+  const sent = (kind) => { const e = new DragEvent(kind, {dataTransfer: d, bubbles: true, cancelable: true}); document.body.dispatchEvent(e); };
+  sent('dragover'); const marked = document.body.classList.contains('drop'); sent('drop'); return marked; })"""
+
+
+def dropping(b):
+    """A file that is dragged over the page is shown a place, and dropped it is opened."""
+    text = (ROOT / "examples/portfolio.csv").read_text()
+    same("a place for it", b.run(f"{DROP}('dropped.csv', {json.dumps(text)})"), True)
+    time.sleep(0.3)
+    same("dropped", [b.said(), b.run("document.body.classList.contains('drop')")], ["dropped.csv: 36 lines", False])
+    b.click("#new"), b.settle()

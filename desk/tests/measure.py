@@ -11,7 +11,7 @@ from pathlib import Path
 HERE = Path(__file__).resolve().parent
 sys.path.insert(0, str(HERE))
 sys.dont_write_bytecode = True
-from devtools import Browser  # noqa: E402
+from devtools import Chromium as Browser  # noqa: E402
 
 LINE = "1,130,2500,102,500,500,1000,70,8900,420,14,12,12,6000,600,134,24,3000,1,2,60"
 

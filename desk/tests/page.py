@@ -1,17 +1,23 @@
-"""The desk page in chromium against the native library: real input (hands.py), then decisions, 300 random lines and refusals.
+"""The desk page in chromium and firefox against the native library: real input (hands.py), then decisions, 300 random lines and refusals.
 
-tests/browser.py runs it; by itself: python3 desk/tests/page.py, after `make libraries desk`."""
+tests/browser.py runs it; by itself, after `make libraries desk`: python3 desk/tests/page.py [chromium] [firefox] [-s SCENARIO,..]
+Without a name it runs in each browser that is installed."""
+import argparse
 import json
 import os
 import random
 import re
 import subprocess
 import sys
+import time
 
+from access import access
 from common import NAMES, PAGE, ROOT, cell, plain, same, told, wrong
-from devtools import Browser
-from hands import drawn, hostile, keys, many_lines, opened, paste, printed, ranges, site
+from browsers import asked
+from hands import drawn, dropping, hostile, keys, many_lines, opened, paste, printed, ranges, site
+from moving import moving, telling
 from panels import by_keys, licensing, mapped, outside, units
+from tour import tour
 from hocsimbur.portfolio import advice, decision, licence, lines, reasons
 from hocsimbur.portfolio.compared import NOT_PARTED, margin as margin_of
 from hocsimbur.sheets import checking, layout, names
@@ -123,26 +129,51 @@ def closed(b):
     same("fetch", b.run("fetch('https://example.com').then(() => 'open', () => 'closed')"), "closed")
     same("picture", b.run("new Promise(d => { const i = new Image(); i.onload = () => d('open'); i.onerror = () => d('closed');"
                           " i.src = 'https://example.com/a.png'; })"), "closed")
-    same("file", b.run("fetch(location.href).then(() => 'open', () => 'closed')"), "closed")
+    other = json.dumps((ROOT / "examples/licence.csv").as_uri())
+    same("file", b.run(f"fetch({other}).then(() => 'open', () => 'closed')"), "closed")
 
 
-def judge():
-    """What is wrong with the page."""
-    b = Browser()
+SCENARIOS = (keys, ranges, moving, telling, paste, units, drawn, mapped, site, stations, outside, licensing, by_keys, opened, dropping, many,
+             refusals, printed, hostile, many_lines, tour, access)
+
+
+def driven(kind, scenarios):
+    """What is wrong with the page in one browser."""
+    wrong.clear()
+    b = kind()
     try:
         b.open(PAGE)
-        for part in (keys, ranges, paste, units, drawn, mapped, site, stations, outside, licensing, by_keys, opened, many, refusals, printed, hostile, many_lines):
-            before = len(wrong)
-            part(b)
-            print(f"browser: desk page, {part.__name__}: {'as it should be' if len(wrong) == before else 'WRONG'}")
+        for part in scenarios:
+            before, start = len(wrong), time.monotonic()
+            try:
+                part(b)
+            except Exception as error:  # pylint: disable=broad-except; what cannot be gone through is wrong
+                wrong.append(f"{part.__name__}: {error!r}")
+            took = time.monotonic() - start
+            print(f"browser: desk page in {b.name}, {part.__name__}: {'as it should be' if len(wrong) == before else 'WRONG'}, {took:.1f} s")
         wrong.extend(b.wrong())
-        same("asked for", [url for url in b.asked() if not url.startswith("file:")], [])
+        same("asked for", [url for url in b.asked() if not re.match("file:|blob:|about:|data:", url)], [])
         closed(b)
     finally:
         b.close()
-    return wrong
+    return [f"{b.name}: {one}" for one in wrong]
+
+
+def judge(names=(), scenarios=SCENARIOS):
+    """What is wrong with the page in the browsers of these names, or in all that are installed."""
+    return [one for kind in asked(names) for one in driven(kind, scenarios)]
+
+
+def main():
+    parser = argparse.ArgumentParser(description=__doc__.split("\n")[0])
+    parser.add_argument("browser", nargs="*", help="chromium or firefox")
+    parser.add_argument("-s", "--scenarios", default="", help="names of scenarios, with commas between them")
+    given = parser.parse_args()
+    chosen = [part for part in SCENARIOS if not given.scenarios or part.__name__ in given.scenarios.split(",")]
+    found = judge(given.browser, chosen)
+    print("\n".join(found[:25]))
+    return 1 if found else 0
 
 
 if __name__ == "__main__":
-    print("\n".join(judge()[:25]))
-    sys.exit(1 if wrong else 0)
+    sys.exit(main())

@@ -126,13 +126,13 @@ EMPTIED = "for (const id of ['readings', 'currents', 'side']) document.getElemen
 
 def typed(b, key, said):
     """A text typed into a field of the licence in the place of what stands there."""
-    b.run(f"document.querySelector('[data-key=\"{key}\"]').select()"), b.call("Input.insertText", text=said), b.key("Enter"), b.settle()
+    b.run(f"document.querySelector('[data-key=\"{key}\"]').select()"), b.insert(said), b.key("Enter"), b.settle()
 
 
 def saved(b, button, *names):
     """The files that the browser saved at a click of a button, as texts."""
     folder = Path(tempfile.mkdtemp(prefix="desk-"))
-    b.call("Browser.setDownloadBehavior", behavior="allow", downloadPath=str(folder))
+    b.saves_to(folder)
     b.click(button)
     for _ in range(60):
         if all((folder / name).exists() for name in names):
@@ -179,7 +179,7 @@ def licensing(b):
     b.click("#view-site"), b.click("#new"), b.settle()
     b.run(EMPTIED)
     same("no text", b.run(LEAVING), False)
-    b.click("#readings"), b.call("Input.insertText", text="2.5 7.3\n5 3"), b.settle()
+    b.click("#readings"), b.insert("2.5 7.3\n5 3"), b.settle()
     same("a text to lose", b.run(LEAVING), True)
     same("readings", saved(b, "#readings-said [data-key='save readings']", "readings.csv"), [b"metres,ohms\n2.5,7.3\n5,3\n"])
     same("saved", b.run(LEAVING), False)

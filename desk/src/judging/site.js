@@ -29,7 +29,8 @@ function pairs(text, names, called, form) {
   return wrong < 0 ? { lines } : { wrong: `${called(wrong)}: ${lines[wrong].length} numbers, not two; write ${form}` };
 }
 
-export const READINGS = 'metres,ohms', CURRENTS = 'in_phase,quadrature'; // the names of the files that `wenner` and `staged` read
+export const READINGS = 'metres,ohms'; // the names of the files that `wenner` and `staged` read
+export const CURRENTS = 'in_phase,quadrature';
 
 // A text of pairs as such a file.
 export const fileText = (text, names) => [names, ...pairs(text, names, String, '').lines.map((cells) => cells.join(','))]

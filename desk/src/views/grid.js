@@ -45,7 +45,7 @@ function drawRow(place) {
   const cells = NAMES.map((name, column) =>
     h('td', { role: 'gridcell', tabindex: -1, 'data-r': place, 'data-c': column, class: classOf(name) }));
   const number = h('th', { scope: 'row', class: 'ln', 'data-r': place });
-  const results = RESULTS.map(([kind]) => h('td', { class: `r-${kind}` }));
+  const results = RESULTS.map(([kind]) => h('td', { role: 'gridcell', class: `r-${kind}` }));
   const tr = h('tr', { class: 'blank', 'aria-rowindex': place + 3 }, number, cells, results);
   lines.set(place, { tr, head: number, cells, texts: cells.map(() => ''), results, seen: '' });
 }
@@ -183,6 +183,7 @@ function flag(drawn, line) {
 // Draws the rows of the sheet and what is known of them; cells and answers that stay the same are left alone.
 export function draw(rows, judged, top, made) {
   shown = { rows, judged, top, made, total: Math.min(MOST_LINES, Math.max(LEAST, rows.length + SPARE)) };
+  byId('sheet').setAttribute('aria-rowcount', shown.total + 2); // with the two rows of names
   drawRows();
 }
 

@@ -101,6 +101,7 @@ function jump(down, right) {
 function inGrid(event) {
   const { key, shiftKey } = event, ctrl = event.ctrlKey || event.metaKey;
   const arrows = { ArrowUp: [-1, 0], ArrowDown: [1, 0], ArrowLeft: [0, -1], ArrowRight: [0, 1] };
+  if (['Shift', 'Control', 'Alt', 'Meta'].includes(key)) return; // the key itself comes next, as Shift before Tab
   if (key === 'Escape') { leaving = true; say('Tab now leaves the sheet'); return; }
   if (key === 'Tab' && leaving) { leaving = false; return; }
   leaving = false;
@@ -116,6 +117,7 @@ function inGrid(event) {
   else if (key === 'Delete' || key === 'Backspace') erase();
   else if (ctrl && key.toLowerCase() === 'd') fillDown();
   else if (ctrl && key.toLowerCase() === 'a') chooseAll(store.now.rows.length);
+  else if (key === ' ' && shiftKey) chooseRows(at.fromRow, at.row); // the whole line, as a click on its number
   else if (key.length === 1 && !ctrl && !event.altKey) edit(key, true);
   else done = false;
   if (done) event.preventDefault();

@@ -102,10 +102,21 @@ function setView(next) {
   for (const one of VIEWS) {
     document.body.classList.toggle(`in-${one}`, one === view);
     byId(`view-${one}`).setAttribute('aria-selected', String(one === view));
+    byId(`view-${one}`).tabIndex = one === view ? 0 : -1;
     byId(`panel-${one}`).hidden = one !== view;
   }
   if (view === 'lines') { upper(); paint(); } // which rows are in sight is not known of a sheet that is hidden
   later();
+}
+
+// Among the views arrows, Home and End move; the one that is seen is in the order of Tab.
+function arrows(event) {
+  const place = VIEWS.indexOf(view), last = VIEWS.length - 1;
+  const next = { ArrowLeft: place ? place - 1 : last, ArrowRight: place < last ? place + 1 : 0, Home: 0, End: last }[event.key];
+  if (next === undefined) return;
+  event.preventDefault();
+  setView(VIEWS[next]);
+  byId(`view-${view}`).focus();
 }
 
 function addSeason() {
@@ -138,6 +149,7 @@ function wire() {
     ...Object.fromEntries(VIEWS.map((one) => [`view-${one}`, () => setView(one)])), type: () => choose(0, 0),
   };
   for (const [id, act] of Object.entries(acts)) byId(id).addEventListener('click', act);
+  byId('view-lines').parentNode.addEventListener('keydown', arrows);
   addEventListener('keydown', (event) => {
     if (!(event.ctrlKey || event.metaKey) || event.altKey) return;
     const act = { s: 'save', o: 'open', p: '', z: event.shiftKey ? 'redo' : 'undo', y: 'redo' }[event.key.toLowerCase()];

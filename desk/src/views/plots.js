@@ -71,8 +71,8 @@ function bands(curve, { x, floor, left: start, right }) {
     const left = i ? x(run.from) : start, end = i < curve.runs.length - 1 ? x(run.to) : right;
     const wide = Math.max(1.5, end - left), name = CLASSES[run.verdict];
     const word = now > left && now < left + 40 ? now + 7 : left + 7; // not across the line of now
-    return [h('rect', { class: `band ${name}`, x: left, y: PAD.top, width: wide, height: floor - PAD.top }),
-      end - word > 30 && h('text', { class: `bandword ${name}`, x: word, y: PAD.top + 15 }, data.verdicts[run.verdict])];
+    return [{ band: h('rect', { class: `band ${name}`, x: left, y: PAD.top, width: wide, height: floor - PAD.top }),
+      word: end - word > 30 && h('text', { class: `bandword ${name}`, x: word, y: PAD.top + 15 }, data.verdicts[run.verdict]) }];
   });
 }
 
@@ -99,6 +99,8 @@ export function readout(point, name, place) {
     h('span', { class: one.side.replace(' ', '-') }, margin(one)), `; ${data.verdicts[point.verdict]}`];
 }
 
+const spokenOf = (point, name, place) => readout(point, name, place).map((part) => part.textContent ?? part).join('');
+
 function axes(curve, s) {
   const unit = data.labels[curve.name].unit;
   const xs = curve.log ? logTicks(Math.max(curve.low, 1), curve.high) : ticks(curve.low, curve.high, 6).filter(Number.isInteger);
@@ -120,7 +122,7 @@ function axes(curve, s) {
 export function plot(curve, place, width, take, tell) {
   const s = scales(curve, place, width), { points } = curve;
   const voltage = (point) => volts(s.of(point).voltage.upper), limit = (point) => volts(s.of(point).tolerable.lower);
-  const clip = { 'clip-path': 'url(#inside)' };
+  const clip = { 'clip-path': 'url(#inside)' }, shaded = bands(curve, s);
   const here = points.findIndex((point) => point.value === curve.now);
   const hair = h('g', { class: 'hair', visibility: 'hidden' }, h('path', {}), h('circle', { r: 3.5 }),
     h('circle', { r: 3.5, class: 'limit' }));
@@ -129,8 +131,9 @@ export function plot(curve, place, width, take, tell) {
     viewBox: `0 0 ${width} ${HEIGHT}`, width, height: HEIGHT, class: 'plot', tabindex: 0, 'data-key': 'plot', role: 'slider',
     'aria-label': `What if ${data.labels[curve.name].label.toLowerCase()} were another: arrows move, Enter takes the value over`,
     'aria-valuemin': curve.low, 'aria-valuemax': curve.high, 'aria-valuenow': curve.now,
+    'aria-valuetext': inside ? spokenOf(points[here], curve.name, place) : shownValue(curve.name, curve.now),
   }, h('clipPath', { id: 'inside' }, h('rect', { x: s.left, y: PAD.top, width: s.right - s.left, height: s.floor - PAD.top + 1 })),
-  bands(curve, s), axes(curve, s),
+  shaded.map((one) => one.band), axes(curve, s), shaded.map((one) => one.word),
   h('path', { class: 'tolerable', d: path(points, s.x, s.y, limit), ...clip }),
   pieces(points, s.of).map((piece) => h('path', { class: piece.over ? 'voltage over' : 'voltage', d: path(piece.points, s.x, s.y, voltage),
     ...clip })),
@@ -151,7 +154,7 @@ export function plot(curve, place, width, take, tell) {
       mark.setAttribute('cy', s.y(Math.min(v, s.yTop)));
     }
     svg.setAttribute('aria-valuenow', points[at].value);
-    svg.setAttribute('aria-valuetext', readout(points[at], curve.name, place).map((part) => part.textContent ?? part).join(''));
+    svg.setAttribute('aria-valuetext', spokenOf(points[at], curve.name, place));
     tell(points[at]);
   };
   const leave = () => { hair.setAttribute('visibility', 'hidden'); tell(null); };
