@@ -315,6 +315,12 @@ class Report(Folder):
             "Project": "P & Q", "Date": "D", "Sheet": "a.csv", "SHA-256": hashlib.sha256(SAMPLE).hexdigest()[:12], "Library": version, "Engineer": "E"})
         self.assertEqual(self.meta(first, second, "--date", "D"), {"Date": "D", "Sheets": "2", "Library": version})
 
+    def test_the_list_of_sheets(self):
+        files = {self.file("a.csv", SAMPLE): SAMPLE, self.file("b.csv", sheet(case(104, 1))): sheet(case(104, 1))}
+        listed = dom.read(run("report", *files).out).one("ol", "sheets")
+        self.assertEqual([one.text() for one in listed.all("li")],
+                         [f"{os.path.basename(name)} {hashlib.sha256(data).hexdigest()}" for name, data in files.items()])
+
     def test_on_standard_output(self):
         self.assertEqual(run("report", "tests/sample.csv", "--date", "x", "-o", "-").out, run("report", "tests/sample.csv", "--date", "x").out)
         self.assertEqual(run("import", "tests/sample.csv", "-o", "-").out, SAMPLE.decode())
