@@ -113,6 +113,10 @@ class Safe(unittest.TestCase):
 
 
 class Words(unittest.TestCase):
+    def test_no_shorter_shock_than_the_least(self):
+        self.assertEqual(list(candidates.shock((case(101, 1, shock=9),))), [])
+        self.assertEqual([tried.lines[0]["shock"] for tried in candidates.shock((case(101, 1, shock=10), case(101, 2, shock=9)))], [9])
+
     def words(self, station: int, kind: str) -> str:
         return next(change.words for change in of(station) if change.kind == kind)
 

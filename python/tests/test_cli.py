@@ -15,6 +15,7 @@ from hocsimbur.command import cli, help_texts, terminal, yards
 from hocsimbur.report import document
 from hocsimbur.sheets import layout
 
+from . import golden
 from .common import PYTHON, ROOT, SAMPLE, process, run
 
 # a command line of every command that prints something
@@ -39,6 +40,10 @@ class Help(unittest.TestCase):
             self.assertEqual((done.status, done.err), (0, ""))
             self.assertIn(text.example, done.out)
         self.assertEqual(run("--help").status, 0)
+
+    def test_stored(self):
+        """After an intended change: cd python && python3 -m tests.golden"""
+        self.assertEqual(golden.helps(), golden.HELP.read_text(encoding="utf-8"))
 
     def test_commands_of_the_issue(self):
         self.assertEqual(set(cli.COMMANDS), {"check", "verdict", "rows", "margins", "summary", "release", "report", "next", "fewest", "wenner",

@@ -175,6 +175,13 @@ class Batches(unittest.TestCase):
 
 
 class Refusals(Folder):
+    def test_a_wrong_line_among_more_than_a_sheet_has(self):
+        """The wrong line is reported, and not that the library takes no more than 256 at once."""
+        lines = [case(101, 1, station=number) for number in range(1, 301)]
+        name = self.file("many.csv", sheet(*lines[:4], dict(lines[4], fault=99), *lines[5:]))
+        self.assertEqual(run("verdict", name), (1, "", f"{name}: line 6, fault (column 10): 99 A is not in 100..80000\n"
+                                                       f"nothing was computed; `hocsimbur check {name}` reports every refusal\n"))
+
     def test_both_files_and_lines(self):
         first = self.file("a.csv", sheet(case(101, 1), case(104, 2)))
         second = self.file("b.csv", turned(case(101, 2), case(104, 2), case(110, 1)))
@@ -264,6 +271,15 @@ class Names(Folder):
         self.assertEqual(run("verdict", "-", "examples/refused-5.csv", stdin=changed(fault=1)), (
             1, "", wrong + "examples/refused-5.csv: line 2, depth (column 16): 60 mm is not in 250..2500\nnothing was computed\n"))
 
+    def test_a_name_that_is_not_utf_8(self):
+        """It is printed as the bytes that it is."""
+        name = os.fsencode(self.folder) + b"/\xff.csv"
+        pathlib.Path(os.fsdecode(name)).write_bytes(SAMPLE)
+        done = subprocess.run([sys.executable, "-m", "hocsimbur", "verdict", "--csv", name, "examples/seasons.csv"], cwd=ROOT, capture_output=True,
+                              env={**os.environ, "PYTHONPATH": str(PYTHON)}, check=False)
+        self.assertEqual((done.returncode, done.stderr), (2, b""))
+        self.assertIn(b"7,1,unsafe,17," + name + b",2\n", done.stdout)
+
     def test_a_name_with_a_comma(self):
         name = self.file('a, "b".csv', SAMPLE)
         self.assertIn(',"' + name.replace('"', '""') + '",2\n', run("verdict", "--csv", name, "examples/seasons.csv").out)
@@ -298,6 +314,12 @@ class Report(Folder):
         self.assertEqual(self.meta(first, "--date", "D", "--project", "P & Q", "--engineer", "E"), {
             "Project": "P & Q", "Date": "D", "Sheet": "a.csv", "SHA-256": hashlib.sha256(SAMPLE).hexdigest()[:12], "Library": version, "Engineer": "E"})
         self.assertEqual(self.meta(first, second, "--date", "D"), {"Date": "D", "Sheets": "2", "Library": version})
+
+    def test_the_list_of_sheets(self):
+        files = {self.file("a.csv", SAMPLE): SAMPLE, self.file("b.csv", sheet(case(104, 1))): sheet(case(104, 1))}
+        listed = dom.read(run("report", *files).out).one("ol", "sheets")
+        self.assertEqual([one.text() for one in listed.all("li")],
+                         [f"{os.path.basename(name)} {hashlib.sha256(data).hexdigest()}" for name, data in files.items()])
 
     def test_on_standard_output(self):
         self.assertEqual(run("report", "tests/sample.csv", "--date", "x", "-o", "-").out, run("report", "tests/sample.csv", "--date", "x").out)

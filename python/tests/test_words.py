@@ -5,7 +5,7 @@ import re
 import unittest
 
 from hocsimbur import core
-from hocsimbur.sheets import words
+from hocsimbur.sheets import forms, words
 from hocsimbur.sheets.words import Asked
 
 from .common import NAMES, ROOT, SAMPLE, changed
@@ -41,6 +41,10 @@ class OfSheets(unittest.TestCase):
         for sheet, sentence in cases:
             with self.subTest(sentence=sentence):
                 self.assertEqual(of_sheet(sheet), sentence)
+
+    def test_a_byte_0_among_the_first_thousand(self):
+        self.assertEqual(forms.foreign(b"x" * 999 + b"\0"), "the file has bytes 0 and is no plain text; save it as CSV in UTF-8")
+        self.assertEqual(forms.foreign(b"x" * 1000 + b"\0"), "")
 
     def test_1(self):
         self.check([
