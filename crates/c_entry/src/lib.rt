@@ -43,14 +43,16 @@ fn fill_buffer(s: &[u8], values: &mut [u32], buffer: &mut [u8]) -> Counted
     ensures { λ r. ⌜ InBytes (now (s .entry)) (now (buffer .entry)) (now (buffer .exit)) r ⌝ }
 {
     let judged = read_within(Form::Present, s, values);
-    let Counted::Count(n) = judged else {
-        return judged;
-    };
-    if buffer.len() < ROW_BYTES * n {
-        return Counted::Refused(REFUSED_SHORT, 0, 0);
+    match judged {
+        Counted::Count(n) => {
+            if buffer.len() < ROW_BYTES * n {
+                return Counted::Refused(REFUSED_SHORT, 0, 0);
+            }
+            write_rows(values, n, buffer);
+            Counted::Count(n)
+        }
+        Counted::Refused(_, _, _) => judged,
     }
-    write_rows(values, n, buffer);
-    Counted::Count(n)
 }
 
 // The answer to a sheet, and its rows as bytes in the buffer.

@@ -21,8 +21,8 @@ stored n = stored-within (read-of n .read-within .ensures) (start (read-of n) .p
 mul-if1 : tie.Need-mul-if1
 mul-if1 c = omega (arith, stored (c .before) .most)
 
-returns-2 : tie.Need-returns-2
-returns-2 c =
+returns : tie.Need-returns
+returns c =
     let n = c .before .before in
     in-bytes-short _ _ (judged-is (read-of n .read-within .ensures)) (n .judged .given .1) (c .if1 .taken)
 
@@ -32,11 +32,11 @@ write-rows-requires c κs =
     let l = stored (e .before .before) in
     (l .bounds, (l .room, e .if1 .left))
 
-returns : tie.Need-returns
-returns c = in-bytes-refused _ _ (judged-is (c .before .before .before .before .read-within .ensures)) (c .enum-told .given .1)
-
 returns-3 : tie.Need-returns-3
-returns-3 c =
+returns-3 c = in-bytes-refused _ _ (judged-is (c .before .before .before .before .read-within .ensures)) (c .enum-told .given .1)
+
+returns-2 : tie.Need-returns-2
+returns-2 c =
     let e = c .before .before .before .before .before in
     let n = e .before .before in
     in-bytes-rows _ _ (judged-is (read-of n .read-within .ensures)) (n .judged .given .1) (e .if1 .left)
@@ -44,5 +44,5 @@ returns-3 c =
 
 pub fill-buffer-spec : {M : Type 1} → statement M
 fill-buffer-spec =
-    tie.close (tie.spec read-within-requires (λ c. search needs) (λ c. search needs) (λ c. search needs) returns mul-if1 (λ c. search needs)
-    returns-2 write-rows-requires (λ c. search needs) (λ c. search needs) returns-3)
+    tie.close (tie.spec read-within-requires (λ c. search needs) mul-if1 (λ c. search needs) returns write-rows-requires (λ c. search needs)
+    (λ c. search needs) (λ c. search needs) returns-2 (λ c. search needs) returns-3)
