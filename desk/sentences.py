@@ -21,17 +21,17 @@ def compared(limit, voltage=(1, 2), tolerable=(3, 4), margin=0):
 
 
 def margins():
-    """Margins and what is above or not parted, of touch and of step."""
+    """Margins and what is above or overlaps, of touch and of step."""
     size = share(4242)
     limits = {}
     for limit in ("touch", "step"):
         one = compared(limit, margin=4242)
         limits[limit] = {"kind": one.kind, "above": template(reasons.voltage_above(one), share=size),
-                         "not_parted": reasons.voltage_not_parted(one)}
+                         "overlapping": reasons.voltage_overlapping(one)}
     return {
         "above": template(margin(compared("touch", (9, 9), (3, 4), 4242)), share=size),
         "below": template(margin(compared("touch", (1, 2), (3, 4), -4242)), share=size),
-        "least": margin(compared("touch")), "not_parted": margin(compared("touch", (1, 9), (3, 4))), "limits": limits,
+        "least": margin(compared("touch")), "overlapping": margin(compared("touch", (1, 9), (3, 4))), "limits": limits,
         "percent": template(size, number="424.2"),
     }
 

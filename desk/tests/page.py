@@ -19,7 +19,7 @@ from moving import moving, telling
 from panels import by_keys, licensing, mapped, outside, units
 from tour import tour
 from hocsimbur.portfolio import advice, decision, licence, lines, reasons
-from hocsimbur.portfolio.compared import NOT_PARTED, margin as margin_of
+from hocsimbur.portfolio.compared import margin as margin_of
 from hocsimbur.sheets import checking, layout, names
 
 
@@ -86,7 +86,7 @@ def many(b):
             wire = f"{one.row.kcmil:,}" + (f" > {decision.kcmil(one.case['dia']):,}" if one.small_wire else "")
             word = one.row.verdict.name.lower()
             counts[word] = counts.get(word, 0) + 1
-            margin = plain(f"{margin_of(near)} {'from ' if near.side == NOT_PARTED else ''}{near.limit}")
+            margin = plain(f"{margin_of(near)} {near.limit}")
             same(f"random line {one.number}", [plain(text) for text in said],
                  [word, margin, wire, f"{one.headroom:,}" if one.headroom else "none"])
     print("browser: desk page, random lines:", counts)

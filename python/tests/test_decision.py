@@ -10,7 +10,7 @@ from hocsimbur.portfolio import advice, asking, decision, licence, reasons
 from hocsimbur.sheets import layout
 from hocsimbur.core import Verdict
 from hocsimbur.portfolio.decision import Missing, OtherYard, SmallWire, Undecided, Unsafe
-from hocsimbur.portfolio.compared import ABOVE, BELOW, NOT_PARTED
+from hocsimbur.portfolio.compared import ABOVE, BELOW, OVERLAPS
 
 from .portfolios import CASES, LICENCE, SHEET, case, granted, station
 
@@ -55,7 +55,7 @@ class Answers(unittest.TestCase):
     def test_every_reason_says_something(self):
         for one in self.stations():
             for reason in one.reasons:
-                for detail in ("above", "not_parted", "seasons", "columns"):
+                for detail in ("above", "overlapping", "seasons", "columns"):
                     self.assertTrue(getattr(reason, detail, True), reason)
 
     def test_reasons_in_order(self):
@@ -67,7 +67,7 @@ class Answers(unittest.TestCase):
     def test_sides_agree_with_the_verdict(self):
         for line in [line for one in self.stations() for line in one.lines]:
             sides = [compared.side for compared in line.compared]
-            verdict = Verdict.UNSAFE if ABOVE in sides else Verdict.UNDECIDED if NOT_PARTED in sides else Verdict.SAFE
+            verdict = Verdict.UNSAFE if ABOVE in sides else Verdict.UNDECIDED if OVERLAPS in sides else Verdict.SAFE
             self.assertEqual(verdict, line.row.verdict)
             for compared in line.compared:
                 self.assertEqual(compared.margin <= 0, compared.side == BELOW)

@@ -42,7 +42,7 @@ class Decisions(unittest.TestCase):
             110: "season 3 has no line.",
             118: "wire too small (495 kcmil needed, 5.0 mm solid has 38).",
             123: "yard differs between lines (depth and rods).",
-            131: "season 2 undecided (mesh and tolerable touch not parted).",
+            131: "season 2 undecided (mesh within the error bounds of tolerable touch).",
             152: "season 2 unsafe (mesh 32.6 % above tolerable touch); season 4 unsafe (mesh 6.2 % above tolerable touch); season 3 has no "
                  "line; wire too small (335 kcmil needed, 6.5 mm solid has 65).",
             188: "season 2 unsafe (step 7.3 % above tolerable step).",
@@ -87,7 +87,7 @@ class OnOneLine(unittest.TestCase):
             self.assertEqual(reasons.sentence(UNLICENSED[number]), sentence)
         starts = {
             123: "no line for seasons 3, 4; yard differs between lines: depth and rods; voltages safe up to ",
-            131: "season 2: mesh and tolerable touch not parted; no line for season 4; voltages safe up to ",
+            131: "season 2: mesh within the error bounds of tolerable touch; no line for season 4; voltages safe up to ",
         }
         for number, start in starts.items():
             self.assertTrue(reasons.sentence(UNLICENSED[number]).startswith(start), reasons.sentence(UNLICENSED[number]))
@@ -126,7 +126,7 @@ class Margins(unittest.TestCase):
         self.assertEqual(self.words(180, 1179990, 1180000), "18.0 % above")
         self.assertEqual(self.words(-75, 924990, 925000), "7.5 % below")
         self.assertEqual(self.words(0, 999990, 1000000), "under 0.1 % below")
-        self.assertEqual(self.words(1, 1000000, 1000003), "not parted")
+        self.assertEqual(self.words(1, 1000000, 1000003), "overlaps")
         self.assertEqual(self.words(9999, 10998990, 10999000), "999.9 % above")
         self.assertEqual(self.words(10000, 10999990, 11000000), "1,000 % above")
         self.assertEqual(self.words(26571, 27570990, 27571000), "2,658 % above")
@@ -138,7 +138,7 @@ class Margins(unittest.TestCase):
         self.assertTrue(decided(one).endswith("nearest is touch in season 2, under 0.1 % below."))
 
     def test_nearest(self):
-        said = {104: ("18.0 % above", "touch, season 2"), 131: ("not parted", "from touch, season 2"),
+        said = {104: ("18.0 % above", "touch, season 2"), 131: ("overlaps", "touch, season 2"),
                 188: ("7.3 % above", "step, season 2"), 215: ("", "no line, nothing to compare")}
         for number, words in said.items():
             self.assertEqual(tuple(map(plain, reasons.nearest(EXAMPLE[number]))), words)

@@ -50,7 +50,7 @@ def plain(text: str) -> str:
 
 def margin_words(margin: int, voltage, tolerable) -> str:
     if voltage[1] > tolerable[0] and voltage[0] <= tolerable[1]:
-        return "not parted"
+        return "overlaps"
     if margin == 0:
         return "under 0.1 % below"
     return f"{abs(margin) // 10}.{abs(margin) % 10} % {'above' if margin > 0 else 'below'}"
@@ -241,7 +241,7 @@ class FirstPage(unittest.TestCase):
             touch = both.mesh >= both.step
             pair = (answered.mesh, answered.tolerable_touch) if touch else (answered.step, answered.tolerable_step)
             words = margin_words(greatest, *pair)
-            between = "from " if words == "not parted" else ""
+            between = "from " if words == "overlaps" else ""
             self.assertEqual(said, f"{words} {between}{'touch' if touch else 'step'}, season {season}")
             lengths = {one.classes[0]: int(one.attributes["width"]) for one in row.one("svg", "bar").all("rect") if one.classes != ["tick"]}
             self.assertEqual(lengths["fill"] + lengths.get("over", 0), 1000 + greatest)

@@ -72,7 +72,7 @@ export function smallWires(cases) {
 }
 
 function compared(limit, voltage, tolerable, margin) {
-  const side = voltage.upper <= tolerable.lower ? 'below' : voltage.lower > tolerable.upper ? 'above' : 'not parted';
+  const side = voltage.upper <= tolerable.lower ? 'below' : voltage.lower > tolerable.upper ? 'above' : 'overlaps';
   return { limit, kind: limit === 'touch' ? 'mesh' : 'step', voltage, tolerable, margin, side };
 }
 

@@ -3,7 +3,7 @@ import { data, fill } from '../library/data.js';
 import { ends, grouped, tenths } from '../words/decimals.js';
 import { kcmil, wireTo } from './stations.js';
 import { outsideWords } from './totals.js';
-import { above, columnsOf, listed, margin, notParted, seasonsOf } from '../words/words.js';
+import { above, columnsOf, listed, margin, overlapping, seasonsOf } from '../words/words.js';
 
 // What a conductor needs and has: of two templates the one for a solid round of the diameter, or for the licence's own area.
 export const sizeWords = ([solid, own], size) => fill(size.solid ? solid : own, { needed: grouped(size.needed),
@@ -13,7 +13,7 @@ export const sizeWords = ([solid, own], size) => fill(size.solid ? solid : own, 
 export function told(reason) {
   const { season, compared, seasons } = reason, say = data.told;
   if (reason.kind === 'unsafe') return [fill(say.unsafe, { season }), listed(compared.map(above))];
-  if (reason.kind === 'undecided') return [fill(say.undecided, { season }), listed(compared.map(notParted))];
+  if (reason.kind === 'undecided') return [fill(say.undecided, { season }), listed(compared.map(overlapping))];
   if (reason.kind === 'missing' && reason.noLine) return [say.missing[0], ''];
   if (reason.kind === 'missing') return [fill(say.missing[seasons.length > 1 ? 2 : 1], { list: listed(seasons) }), ''];
   if (reason.kind === 'yard') return [say.yard, columnsOf(reason.columns)];
@@ -77,7 +77,7 @@ function outside(station) {
 }
 
 function undecided(station) {
-  return station.lines.flatMap((line) => line.compared.filter((one) => one.side === 'not parted').map((one) => fill(data.asides.undecided, {
+  return station.lines.flatMap((line) => line.compared.filter((one) => one.side === 'overlaps').map((one) => fill(data.asides.undecided, {
     season: line.row.season, kind: one.kind, limit: one.limit, voltage: ends(one.voltage, 3, 3), tolerable: ends(one.tolerable, 3, 3),
   })));
 }

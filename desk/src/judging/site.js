@@ -168,7 +168,7 @@ export function triedTable(one, { side, tried }) {
     found.push(...part.map((yard, i) => ({ yard, verdict: rows[i].verdict, near: against(rows[i], margins[i]).nearest })));
   }
   return found.map(({ yard, verdict, near }) => [String(yard.across), `${exact(yard.space, 3)} m`, String(yard.rods),
-    data.verdicts[verdict], `${margin(near)} ${near.side === 'not parted' ? 'from ' : ''}${near.limit}`]);
+    data.verdicts[verdict], `${margin(near)} ${near.limit}`]);
 }
 
 export const rodLength = (one) => (one.rodlen ? '' : `${exact(ROD, 3)}\u00a0m`);

@@ -31,7 +31,7 @@ function reasonsOf(answer, lines, missing, differs) {
     found.push({ kind, season: line.row.season, compared: line.compared.filter((one) => one.side === side) });
   });
   if (answer.unsafe) with_(2, 'above', 'unsafe');
-  if (answer.undecided) with_(3, 'not parted', 'undecided');
+  if (answer.undecided) with_(3, 'overlaps', 'undecided');
   if (answer.missing) found.push({ kind: 'missing', seasons: missing, noLine: !lines.length });
   if (answer.other_yard) found.push({ kind: 'yard', columns: data.yard.filter((name) => differs.includes(name)) });
   if (answer.small_wire) found.push({ kind: 'wire', size: sizeOf(lines) });

@@ -9,14 +9,14 @@ import { asides, cautions, decision } from '../judging/sentences.js';
 import { tick } from '../sheet/granting.js';
 import { casesAsCells, change, store, withCells } from '../sheet/store.js';
 import { draw as drawWhatIf } from './varied.js';
-import { above, listed, margin, meaning, notParted, refusal, refusedPlace, verdict } from '../words/words.js';
+import { above, listed, margin, meaning, overlapping, refusal, refusedPlace, verdict } from '../words/words.js';
 
 const captionOf = (title, aside) => h('caption', {}, h('h3', {}, title), h('span', { class: 'sub' }, ` ${aside}`));
 const table = (kind, title, heads, rows) => h('table', { class: `data ${kind}` }, captionOf(title, 'each between two proved ends'),
   h('thead', {}, h('tr', {}, heads.map((word, i) => h('th', { scope: 'col', class: i ? 'num' : '' }, word)))), h('tbody', {}, rows));
 
 function limits(line, top) {
-  const icons = { above: 'unsafe', below: 'safe', 'not parted': 'undecided' };
+  const icons = { above: 'unsafe', below: 'safe', 'overlaps': 'undecided' };
   const rows = line.compared.map((one) => {
     const voltage = up(one.voltage.upper, 3, 1), limit = down(one.tolerable.lower, 3, 1), said = margin(one);
     const title = `${one.kind} voltage ${voltage} V against the tolerable ${one.limit} voltage ${limit} V, ${said}`;
@@ -100,7 +100,7 @@ function title(line, station) {
   const aside = h('span', { class: 'sub' }, ` season ${line.cells[1] || '–'}, line ${line.number}`);
   const who = [h('span', { class: 'no' }, `${line.cells[0] || '–'} `), station?.name ?? '', aside];
   if (line.refused) return [h('h2', {}, who), withWord('held', 'refused')];
-  const reasons = line.compared.filter((one) => one.side !== 'below').map((one) => (one.side === 'above' ? above(one) : notParted(one)));
+  const reasons = line.compared.filter((one) => one.side !== 'below').map((one) => (one.side === 'above' ? above(one) : overlapping(one)));
   const words = reasons.length ? listed(reasons) : `nearest is ${line.nearest.limit}, ${margin(line.nearest)}`;
   return [h('h2', {}, who), withWord(verdict(line)), h('span', { class: 'gist' }, words)];
 }

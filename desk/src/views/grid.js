@@ -129,7 +129,7 @@ function tooSmall(line) {
 }
 
 function results(line, top) {
-  const one = line.nearest, { small } = line, said = margin(one), words = `${one.side === 'not parted' ? 'from ' : ''}${one.limit}`;
+  const one = line.nearest, { small } = line, said = margin(one), words = one.limit;
   const title = `${one.kind} at ${(1000 + one.margin) / 10} % of tolerable ${one.limit}`;
   return [
     [withWord(verdict(line))],

@@ -29,7 +29,7 @@ function nearCell(station, top) {
   const { worst } = station, one = worst.nearest,
     others = station.lines.filter((line) => line !== worst).map((line) => line.nearest.margin);
   const title = `nearest limit, ${one.kind} voltage at ${share(1000 + one.margin)} of tolerable ${one.limit} in season ${worst.row.season}`;
-  const words = ` ${one.side === 'not parted' ? 'from ' : ''}${one.limit}, season ${worst.row.season}`;
+  const words = ` ${one.limit}, season ${worst.row.season}`;
   return h('td', { class: `near ${one.side.replace(' ', '-')}` }, bar(one.margin, top, title, others),
     h('span', { class: 'words' }, h('b', {}, margin(one)), words));
 }

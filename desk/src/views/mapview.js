@@ -42,7 +42,7 @@ function take(line, station, pair) {
 function told(names, yard, one) {
   const near = nearestOf(names, yard, one);
   return [h('b', {}, pairWords(names, yard.pair)), near ? [': ', h('span', { class: near.side.replace(' ', '-') }, margin(near)),
-    ` ${near.side === 'not parted' ? 'from ' : ''}${near.limit}`] : '', `; ${wordOf(yard)}`];
+    ` ${near.limit}`] : '', `; ${wordOf(yard)}`];
 }
 
 function cell(names, yard) {

@@ -50,13 +50,13 @@ export function refusedPlace(line) {
 export const verdict = (line) => data.verdicts[line.row.verdict];
 
 export function margin(one) {
-  if (one.side === 'not parted') return data.margins.not_parted;
+  if (one.side === 'overlaps') return data.margins.overlapping;
   if (one.side === 'below' && one.margin === 0) return data.margins.least;
   return fill(data.margins[one.side], { share: share(one.margin) });
 }
 
 export const above = (one) => fill(data.margins.limits[one.limit].above, { share: share(one.margin) });
-export const notParted = (one) => data.margins.limits[one.limit].not_parted;
+export const overlapping = (one) => data.margins.limits[one.limit].overlapping;
 
 export function listed(words) {
   return words.length < 2 ? String(words[0] ?? '') : `${words.slice(0, -1).join(', ')} and ${words.at(-1)}`;

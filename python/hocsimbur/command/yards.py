@@ -5,7 +5,7 @@ import argparse
 from typing import Dict, List, Optional, Tuple
 
 from .. import core
-from ..portfolio.compared import NOT_PARTED, margin
+from ..portfolio.compared import margin
 from ..portfolio.lines import Line, gather
 from ..sheets import layout
 from ..sheets.amounts import length
@@ -90,7 +90,7 @@ def answered(cases: List[Case]) -> List[Line]:
 def listed(line: Line) -> Tuple[str, ...]:
     """A yard that was tried, in words, under LIST_HEAD."""
     near = line.nearest
-    said = f"{margin(near)} {'from ' if near.side == NOT_PARTED else ''}{near.limit}"
+    said = f"{margin(near)} {near.limit}"
     return (str(line.case["across"]), f"{exact(line.case['space'], 3)} m", str(line.case["rods"]), verdict(line.row.verdict),
             said.replace(NO_BREAK, " "))
 

@@ -8,7 +8,7 @@ from ..sheets import decimals
 from ..sheets.decimals import NO_BREAK as NB
 from ..sheets.decimals import grouped
 
-BELOW, ABOVE, NOT_PARTED = "below", "above", "not parted"
+BELOW, ABOVE, OVERLAPS = "below", "above", "overlaps"
 
 
 class Compared(NamedTuple):
@@ -26,10 +26,10 @@ class Compared(NamedTuple):
 
     @property
     def side(self) -> str:
-        """Where the voltage lies, by the ends that are reported: below its limit (or at it), above, or not parted from it."""
+        """Where the voltage lies, by the ends that are reported: below its limit (or at it), above, or their intervals overlap."""
         if self.voltage.upper <= self.tolerable.lower:
             return BELOW
-        return ABOVE if self.voltage.lower > self.tolerable.upper else NOT_PARTED
+        return ABOVE if self.voltage.lower > self.tolerable.upper else OVERLAPS
 
 
 def share(per_mille: int) -> str:
@@ -40,9 +40,9 @@ def share(per_mille: int) -> str:
 
 
 def margin(one: Compared) -> str:
-    """A margin in words: '18.0 % above', '7.5 % below', 'under 0.1 % below', 'not parted'."""
-    if one.side == NOT_PARTED:
-        return NOT_PARTED
+    """A margin in words: '18.0 % above', '7.5 % below', 'under 0.1 % below', 'overlaps'."""
+    if one.side == OVERLAPS:
+        return OVERLAPS
     if one.side == BELOW and one.margin == 0:
         return f"under 0.1{NB}% below"
     return f"{share(one.margin)} {one.side}"

@@ -8,7 +8,7 @@ from typing import Callable, Dict, Iterable, List, NamedTuple, Optional, Sequenc
 
 from .. import core
 from ..sheets.files import Batch, Given, Lines, Place, each
-from .compared import ABOVE, NOT_PARTED, Compared
+from .compared import ABOVE, OVERLAPS, Compared
 from .licence import ALL_SEASONS, Licence, Licensed, unlicensed
 from .lines import YARD, Line, differing, gather
 
@@ -30,7 +30,7 @@ class Undecided:
 
     season: int
     place: Place
-    not_parted: Tuple[Compared, ...]
+    overlapping: Tuple[Compared, ...]
 
 
 @dataclass(frozen=True)
@@ -186,7 +186,7 @@ def _reasons(licensed: Licensed, answer: core.Release, lines: Tuple[Line, ...]) 
         found += [Unsafe(line.season, line.place, tuple(one for one in line.compared if one.side == ABOVE))
                   for line in lines if line.row.verdict == core.Verdict.UNSAFE]
     if answer.undecided:
-        found += [Undecided(line.season, line.place, tuple(one for one in line.compared if one.side == NOT_PARTED))
+        found += [Undecided(line.season, line.place, tuple(one for one in line.compared if one.side == OVERLAPS))
                   for line in lines if line.row.verdict == core.Verdict.UNDECIDED]
     if answer.missing:
         found.append(Missing(missing(licensed, lines), not lines))

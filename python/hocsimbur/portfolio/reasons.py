@@ -13,7 +13,7 @@ from ..sheets.decimals import grouped
 from ..sheets.files import Place
 from ..sheets.labels import listed
 from .asking import FAULT_MOST
-from .compared import NOT_PARTED, Compared, margin, share
+from .compared import OVERLAPS, Compared, margin, share
 from .decision import Missing, OtherYard, Portfolio, Reason, Size, Station, Undecided, Unsafe, kcmil
 from .lines import Line
 
@@ -33,9 +33,9 @@ def voltage_above(one: Compared) -> str:
     return f"{one.kind} {share(one.margin)} above tolerable {one.limit}"
 
 
-def voltage_not_parted(one: Compared) -> str:
-    """That the ends do not part a voltage from what is tolerable."""
-    return f"{one.kind} and tolerable {one.limit} not parted"
+def voltage_overlapping(one: Compared) -> str:
+    """That the intervals of a voltage and of what is tolerable overlap."""
+    return f"{one.kind} within the error bounds of tolerable {one.limit}"
 
 
 def _size(size: Size) -> str:
@@ -61,7 +61,7 @@ def told(reason: Reason) -> Told:
     if isinstance(reason, Unsafe):
         return Told(f"season {reason.season}{_at(reason.place)} unsafe", listed([voltage_above(one) for one in reason.above]))
     if isinstance(reason, Undecided):
-        return Told(f"season {reason.season}{_at(reason.place)} undecided", listed([voltage_not_parted(one) for one in reason.not_parted]))
+        return Told(f"season {reason.season}{_at(reason.place)} undecided", listed([voltage_overlapping(one) for one in reason.overlapping]))
     if isinstance(reason, Missing):
         return Told(_no_line(reason), "")
     if isinstance(reason, OtherYard):
@@ -74,7 +74,7 @@ def _short(reason: Reason) -> str:
     if isinstance(reason, Unsafe):
         return f"season {reason.season}{_at(reason.place)}: " + listed([voltage_above(one) for one in reason.above])
     if isinstance(reason, Undecided):
-        return f"season {reason.season}{_at(reason.place)}: " + listed([voltage_not_parted(one) for one in reason.not_parted])
+        return f"season {reason.season}{_at(reason.place)}: " + listed([voltage_overlapping(one) for one in reason.overlapping])
     if isinstance(reason, Missing):
         if reason.no_line:
             return "no line for any season"
@@ -121,8 +121,7 @@ def nearest(station: Station) -> Told:
     if not station.lines:
         return Told("", "no line, nothing to compare")
     one = station.worst.nearest
-    between = "from " if one.side == NOT_PARTED else ""
-    return Told(margin(one), f"{between}{one.limit}, season {station.worst.season}")
+    return Told(margin(one), f"{one.limit}, season {station.worst.season}")
 
 
 def now(station: Station) -> str:
@@ -194,10 +193,10 @@ def _volts(pair: Pair) -> str:
 
 
 def undecided(station: Station) -> List[str]:
-    """A sentence for each voltage that is not parted from its limit, with both pairs of ends."""
+    """A sentence for each voltage whose interval overlaps that of its limit, with both pairs of ends."""
     return [f"Season {line.season}: {one.kind} {_volts(one.voltage)} against tolerable {one.limit} {_volts(one.tolerable)}: neither safe "
             f"nor unsafe may be said. A change that lowers the voltage, such as one rod more, can part them."
-            for line in station.lines for one in line.compared if one.side == NOT_PARTED]
+            for line in station.lines for one in line.compared if one.side == OVERLAPS]
 
 
 def wire(station: Station) -> str:

@@ -66,7 +66,7 @@ td{vertical-align:top}
 .pf .words{display:block;line-height:1.2;margin-top:.1rem}
 .pf .near{padding-right:.9rem}
 .pf .above .words b,.pf .small b,.pf .small .sub,.pf .short b{color:var(--red)}
-.pf .not-parted .words b{color:var(--amber)}
+.pf .overlaps .words b{color:var(--amber)}
 .pf .num .sub{font-size:.75rem}
 .key{font-size:.78rem;color:var(--grey);margin-top:1rem;padding-top:.6rem;border-top:.1rem solid var(--ink);line-height:1.4}
 .key p+p{margin-top:.35rem}
@@ -103,7 +103,7 @@ caption{text-align:left;padding-bottom:.3rem}
 .bars .bar{height:1.45rem}
 .bars .bw{padding-left:.8rem;white-space:nowrap}
 .bars .bw .mark{margin-right:.35em;width:.85em;height:.85em}
-.bars .above .bw{color:var(--red);font-weight:700}.bars .not-parted .bw{color:var(--amber);font-weight:700}
+.bars .above .bw{color:var(--red);font-weight:700}.bars .overlaps .bw{color:var(--amber);font-weight:700}
 .bars .noline{font-weight:700}
 .plan svg{display:block;width:100%;max-width:22rem;height:auto;margin-top:.35rem}
 .plan .wire{stroke:#77828a;stroke-width:8;fill:none}

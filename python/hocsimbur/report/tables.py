@@ -7,7 +7,7 @@ from typing import Callable, List, NamedTuple, Tuple
 from ..core import Pair
 from ..portfolio import reasons
 from ..portfolio.decision import Station
-from ..portfolio.compared import ABOVE, BELOW, NOT_PARTED, Compared, margin, share
+from ..portfolio.compared import ABOVE, BELOW, OVERLAPS, Compared, margin, share
 from ..portfolio.lines import YARD, Line
 from ..sheets import decimals, labels
 from ..sheets.decimals import NO_BREAK as NB
@@ -15,7 +15,7 @@ from ..sheets.names import METALS
 from .drawing import LIMIT, Scale, axis, bar, between, mark, no_bar, word
 from .markup import caption, cell, element, group, head, row, seen, span, spoken, table
 
-_ICONS = {ABOVE: "unsafe", BELOW: "safe", NOT_PARTED: "undecided"}
+_ICONS = {ABOVE: "unsafe", BELOW: "safe", OVERLAPS: "undecided"}
 _NO_LINE = seen("–") + spoken("no line")
 
 
