@@ -19,7 +19,9 @@ def to(b, row, name):
 
 
 def empty(b):
-    b.click("#view-lines"), b.click("#new")
+    """The page as it is opened; later, a new sheet."""
+    if not b.run("document.body.classList.contains('empty')"):
+        b.click("#view-lines"), b.click("#new")
 
 
 def sample(b):
@@ -50,6 +52,14 @@ def to_fill_in(b):
     b.click("#undo"), to(b, 5, "soil"), b.key("Delete")
 
 
+def offered(b):
+    b.click("#undo"), to(b, 5, "soil"), b.type("187.5"), b.key("Enter")
+
+
+def taken(b):
+    b.click("#undo"), to(b, 5, "fault"), b.type("4.4kA"), b.key("Enter"), b.key("ArrowUp")
+
+
 def chosen_range(b):
     b.click("#undo"), to(b, 2, "soil"), b.key("ArrowDown", 8), b.key("ArrowRight", 8)
 
@@ -78,7 +88,7 @@ def wrong_site(b):
     b.click("#side-said summary"), b.click("#side"), b.insert("x")
 
 
-STATES = (empty, sample, curve, undecided, mapped, typing, refused, to_fill_in, chosen_range, stations, wrong_wire, site, wrong_site)
+STATES = (empty, sample, curve, undecided, mapped, typing, refused, to_fill_in, offered, taken, chosen_range, stations, wrong_wire, site, wrong_site)
 
 
 def tabbed(b, where):
@@ -134,6 +144,7 @@ def unnamed(b):
 def access(b, counts=None):
     """Every state in light and dark, wide and narrow."""
     counts = {} if counts is None else counts
+    b.open(b.run("location.pathname"))
     for width in WIDTHS:
         b.size(*width)
         for state in STATES:
@@ -151,7 +162,7 @@ def access(b, counts=None):
                 counts["elements"] = counts.get("elements", 0) + told["texts"]
             b.dark(False), b.still(False)
             wrong.extend(f"{state.__name__}: {one}" for one in unnamed(b))
-            if state in (empty, sample, mapped, refused, stations, site):
+            if state in (empty, sample, mapped, refused, offered, stations, site):
                 same(f"{state.__name__}, stops of Tab", tabbed(b, f"{state.__name__}, {width[0]} px") > 5, True)
     b.size(*WIDTHS[0]), b.click("#view-lines"), b.click("#new"), b.settle()
     cleared(b)

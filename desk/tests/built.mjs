@@ -20,6 +20,11 @@ test('one script and one style, by their hashes, and nothing else may run or be 
   assert.doesNotMatch(page, /<(link|img|iframe|object|embed|form|base)\b|\s(src|style|on\w+)=/i);
 });
 
+test('no text of the data can end the element that it stands in', () => {
+  const parts = [...page.matchAll(/<script type="application\/json" id="\w+">([^]*?)<\/script>/g)].map((found) => found[1]);
+  assert.deepEqual(parts.map((text) => text.includes('<')), [false, false]);
+});
+
 test('what only a screen can use is not printed, and who wants no motion has none', () => {
   const [, hidden] = style.match(/@media print\{[^]*?\n {2}([^{}\n]*)\{display:none!important\}/);
   for (const one of ['nav', '.acts', '.chips', '#varied', '.foot', '#panel-site']) assert.ok(hidden.split(',').includes(one), `${one} of ${hidden}`);

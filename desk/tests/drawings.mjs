@@ -124,7 +124,8 @@ test('all that is known of a line: limits rounded outward, both ends of each res
     const [bars, results] = byId('limits').children, part = { row, working };
     const wanted = compared.map((one) => [up(one.voltage.upper, 3, 1), down(one.tolerable.lower, 3, 1)]);
     assert.deepEqual(bars.withTag('tbody')[0].children.map((tr) => cellsOfRow(tr).slice(2, 4)), wanted);
-    const ends = (list) => list.map((one) => [down(part[one.part][one.pair].lower, one.scale, one.places), up(part[one.part][one.pair].upper, one.scale, one.places)]);
+    const ends = (list) => list.map(({ part: of, pair, scale, places }) =>
+      [down(part[of][pair].lower, scale, places), up(part[of][pair].upper, scale, places)]);
     const shown = (table) => table.withTag('tbody')[0].children.map((tr) => cellsOfRow(tr).slice(1));
     assert.deepEqual(shown(results), [...ends(data.results), [row.kcmil.toLocaleString('en')], [headroom ? headroom.toLocaleString('en') : 'none']]);
     assert.deepEqual(shown(byId('working').children[0]), ends(data.workings));
@@ -234,7 +235,8 @@ test('the list of stations: held first, each with its decision, nearest limit, c
   const groups = byId('stations').withClass('grp').map(said);
   const count = (test_) => asked.stations.filter(test_).length;
   assert.deepEqual(groups, [`Held (${count((one) => one.released === false)})`, `Released (${count((one) => one.released)})`]);
-  const trs = byId('stations').withTag('tbody').flatMap((body) => body.children.slice(1)), by = new Map(trs.map((tr) => [tr.withClass('no')[0].textContent, tr]));
+  const trs = byId('stations').withTag('tbody').flatMap((body) => body.children.slice(1));
+  const by = new Map(trs.map((tr) => [tr.withClass('no')[0].textContent, tr]));
   assert.equal(trs.length, asked.stations.length);
   for (const station of asked.stations.filter((one) => one.lines.length)) {
     const tr = by.get(String(station.station)), { worst, size } = station;

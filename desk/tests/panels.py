@@ -227,8 +227,9 @@ def reached(b, most=400):
     for _ in range(most):
         b.key("Tab")
         found.append(b.run("(e => e.dataset.key || e.id || e.tagName)(document.activeElement)"))
-        if found[-1] == "BODY":
+        if found[-1] == "BODY" or found[-2:-1] == found[-1:]:  # past the end the focus is the browser's
             break
+    b.front()
     return found
 
 
@@ -246,7 +247,7 @@ def by_keys(b):
     same("the licence", [key in there for key in ("104", "104 name", "104-1", "104 wire", "licence")], [True] * 5)
     b.run("document.getElementById('view-site').focus()"), b.key("Enter"), b.settle()
     for place, said in (("readings", "1 10.4"), ("currents", "1000 0\n400 0"), ("side", "60")):
-        b.run(f"document.getElementById('{place}').focus()"), b.call("Input.insertText", text=said), b.settle()
+        b.run(f"document.getElementById('{place}').focus()"), b.insert(said), b.settle()
     b.run("document.getElementById('view-site').focus()")
     there = reached(b)
     same("the site", [key in there for key in ("readings", "soil", "save readings", "currents", "split", "save currents", "side", "yard", "tried")],

@@ -23,6 +23,7 @@ const { changes } = await import('../src/judging/advice.js');
 const { kinds } = await import('../src/judging/candidates.js');
 const sentences = await import('../src/judging/sentences.js');
 const whatif = await import('../src/judging/whatif.js');
+const { soilOf } = await import('../src/judging/site.js');
 const mapped = await import('../src/judging/map.js');
 const { sheetText } = await import('../src/sheet/writing.js');
 await core.start();
@@ -106,6 +107,12 @@ test('a sheet that is saved does not save its licence with it', () => {
 
 test('a wire may be any whole cross-section in kcmil', () => {
   assert.deepEqual(['1234 kcmil', '7kcmil', '2000 kcmil', '2001 kcmil', '', '95 mm2', '4/0'].map(areaOf), [1234, 7, 2000, null, 0, 184, 211]);
+});
+
+test('a reading below 0 is refused, however near to 0 it is', () => {
+  assert.match(soilOf('-0.0004 7').wrong, /^reading 1: distance/);
+  assert.match(soilOf('2 7\n2 -0.0004').wrong, /^reading 2: resistance/);
+  assert.equal(soilOf('2.0004 7').wrong, undefined);
 });
 
 test('a station stands once in a licence, however its number is written', () => {

@@ -158,8 +158,8 @@ def main():
                 built()
             if not said:
                 unseen.append(one)
-            print(f"{'seen' if said else 'UNSEEN'} {time.monotonic() - began:4.1f} s  {one}" + (f"\n     by: {said.strip().splitlines()[-1][:150]}" if said else ""),
-                  flush=True)
+            by = f"\n     by: {said.strip().splitlines()[-1][:150]}" if said else ""
+            print(f"{'seen' if said else 'UNSEEN'} {time.monotonic() - began:4.1f} s  {one}{by}", flush=True)
     finally:
         shutil.rmtree(OUT)
     print(f"wrong: {len(chosen)} changes, {len(unseen)} unseen, {time.monotonic() - start:.0f} s")
