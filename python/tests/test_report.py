@@ -241,8 +241,7 @@ class FirstPage(unittest.TestCase):
             touch = both.mesh >= both.step
             pair = (answered.mesh, answered.tolerable_touch) if touch else (answered.step, answered.tolerable_step)
             words = margin_words(greatest, *pair)
-            between = "from " if words == "overlaps" else ""
-            self.assertEqual(said, f"{words} {between}{'touch' if touch else 'step'}, season {season}")
+            self.assertEqual(said, f"{words} {'touch' if touch else 'step'}, season {season}")
             lengths = {one.classes[0]: int(one.attributes["width"]) for one in row.one("svg", "bar").all("rect") if one.classes != ["tick"]}
             self.assertEqual(lengths["fill"] + lengths.get("over", 0), 1000 + greatest)
             self.assertEqual(len(list(row.one("svg", "bar").all("rect", "tick"))), len(margins) - 1)
