@@ -40,5 +40,5 @@ test('no text becomes markup, and nothing is stored', () => {
 test('the library inside is the built one', () => {
   const wasm = page.match(/<script type="text\/plain" id="wasm">([^<]*)</)[1];
   assert.ok(Buffer.from(wasm, 'base64').equals(fs.readFileSync(at('wasm32/hocsimbur.wasm'))));
-  assert.ok(Buffer.byteLength(page) < 400000);
+  assert.ok(Buffer.byteLength(page) < 450000);
 });
