@@ -1,4 +1,6 @@
 // The stations of a table of rows by first appearance.
+#![tactic(auto)]
+
 ghost use Rattle.std.specs.Prelude.{◌≡◌, false, ◌≤◌, ◌*◌, length, take};
 ghost use Rattle.row.specs.Row.{row_length};
 ghost use Rattle.judgement.specs.Limits.{most_lines};
@@ -9,7 +11,7 @@ use judgement::LINES;
 use row::ROW_LENGTH;
 
 // The stations of some rows by first appearance, of which there are count, and the place of each row's station among them.
-#[derive(Drop)]
+#[derive(Clone, Copy)]
 pub struct Found {
     pub stations: [i64; LINES],
     pub places: [usize; LINES],
@@ -17,7 +19,7 @@ pub struct Found {
 }
 
 // The place of a station among some, or that it is none of them.
-#[derive(Drop)]
+#[derive(Clone, Copy)]
 enum Place {
     At(usize),
     New,

@@ -1,4 +1,6 @@
 // What depends on the two counts alone, from a table: n, ln(8/(π(2n−1))), (2n)^(−2/n), 0.5^(n−2).
+#![tactic(auto)]
+
 ghost use Rattle.std.specs.Prelude.{◌≡◌};
 ghost use Rattle.effective_number.specs.Counts.{Counts};
 ghost use Rattle.by_counts.specs.Entries.{ends_of, Holds};
@@ -9,7 +11,7 @@ use interval::Interval;
 mod entries;
 
 // n in 10^-7, ln(π(2n−1)/8), (2n)^(−2/n) and 0.5^(n−2) in 10^-9: of each the lower end, and how far above it the upper end is.
-#[derive(Drop)]
+#[derive(Clone, Copy)]
 pub struct Entry(
     pub u32,
     pub u32,
@@ -21,7 +23,7 @@ pub struct Entry(
     pub u32,
 );
 
-#[derive(Drop)]
+#[derive(Clone, Copy)]
 pub struct ByCounts {
     // 10^-7
     pub n: Interval,

@@ -1,4 +1,6 @@
 // Numbers as eight bytes, the least significant first.
+#![tactic(auto)]
+
 ghost use Rattle.std.specs.Prelude.{◌≡◌, length};
 ghost use Rattle.c_bytes.specs.Bytes.{number_bytes, little_endian, twos_complement, bytes_of};
 

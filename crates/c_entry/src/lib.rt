@@ -1,5 +1,7 @@
 // The sheet asked by a program in C, and the convention (§11.1) of all that C asks: the answer is a count of 0 or more, or a refusal's
 // number made negative, with line and column in a lent place of two numbers and every other buffer as it was.
+#![tactic(auto)]
+
 ghost use Rattle.std.specs.Prelude.{◌≤◌, ◌≡◌, true, length};
 ghost use Rattle.text.specs.Text.{lines_of};
 ghost use Rattle.case.specs.declared.Form.TheVariants.{Present};

@@ -1,4 +1,6 @@
 // The numbers of one value line, by what is asked.
+#![tactic(auto)]
+
 ghost use Rattle.std.specs.Prelude.{◌≡◌, length};
 ghost use Rattle.case.specs.Bounds.{Bounds};
 ghost use Rattle.c_line.specs.Line.{width_of, MarginsLine, WorkingLine, HeadroomLine, LineOf};
@@ -11,7 +13,7 @@ use row::{ROW_LENGTH, put_row, work_row};
 use working::{WORKING_NUMBERS, work, working_numbers};
 
 // What is asked of a value line.
-#[derive(Drop)]
+#[derive(Clone, Copy)]
 pub enum Question {
     Margins,
     Working,

@@ -1,6 +1,8 @@
 // Numbers of every value line of a sheet, asked by a program in C: margins, working and headroom. All three follow one convention (§11.1):
 // the answer is the count of value lines, or a refusal's number made negative, with line and column in a lent place of two numbers and the
 // array as it was.
+#![tactic(auto)]
+
 mod lines;
 
 ghost use Rattle.c_line.specs.declared.Question.TheVariants.{Margins, Working, Headroom};

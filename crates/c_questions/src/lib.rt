@@ -1,5 +1,7 @@
 // §11.1, §11.3: the questions other than a sheet's rows, asked by a program in C. All follow one convention: the answer is a count of 0 or
 // more, or a refusal's number made negative, with line and column in a lent place of two numbers and every other buffer as it was.
+#![tactic(auto)]
+
 ghost use Rattle.std.specs.Prelude.{◌≡◌};
 ghost use Rattle.case.specs.declared.Form.TheVariants.{Present, Former};
 ghost use Rattle.c_questions.specs.Operations.{SummaryTold, ReleaseTold, CarryTold};

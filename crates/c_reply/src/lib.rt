@@ -1,4 +1,6 @@
 // What operations answer, for a program in C: the numbers of a report in an array that the caller lends, the count of stations.
+#![tactic(auto)]
+
 ghost use Rattle.std.specs.Prelude.{◌≡◌, ◌++◌, ◌≤◌, length, drop};
 ghost use Rattle.c_reply.specs.Stations.{station_count};
 ghost use Rattle.c_reply.specs.Reply.{Numbers, soil_numbers, soil_reply, split_reply, SmallSplit, fewest_reply, Replied};

@@ -1,4 +1,6 @@
 // The rows of the buffer: the row of each line goes straight to its place, number by number.
+#![tactic(auto)]
+
 ghost use Rattle.std.specs.Prelude.{◌≤◌, ◌+◌, ◌*◌, ◌≡◌, length};
 ghost use Rattle.case.specs.Columns.{name_count};
 ghost use Rattle.case.specs.Bounds.{Bounds};

@@ -1,4 +1,6 @@
 // §11.1: an answer as reported to a program in C: one signed number, and where a refusal points.
+#![tactic(auto)]
+
 ghost use Rattle.std.specs.Prelude.{◌≡◌};
 ghost use Rattle.c_tell.specs.Answer.{signed_answer};
 ghost use Rattle.c_tell.specs.Place.{place_after};

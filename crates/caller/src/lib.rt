@@ -1,4 +1,6 @@
 // A crate that calls the core.
+#![tactic(auto)]
+
 ghost use Rattle.caller.specs.Release.{Released};
 ghost use Rattle.caller.specs.Later.{StaysReleased};
 ghost use Rattle.caller.specs.Margins.{MarginsTold};

@@ -1,4 +1,6 @@
 // The values of a case in the other form, and what the former form cannot say. §8.2, §8.3.
+#![tactic(auto)]
+
 mod changes;
 mod values;
 

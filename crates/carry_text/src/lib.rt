@@ -1,4 +1,6 @@
 // A sheet carried over to the other form, or the refusal, as text in a lent buffer.
+#![tactic(auto)]
+
 ghost use Rattle.std.specs.Prelude.{◌≤◌, length};
 ghost use Rattle.writing.specs.Put.{Put};
 ghost use Rattle.conversion.specs.Answer.{Answered};

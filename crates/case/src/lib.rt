@@ -1,4 +1,6 @@
 // One case: the values of one value line, and their checks.
+#![tactic(auto)]
+
 mod parts;
 mod range;
 mod refusals;
@@ -19,7 +21,7 @@ pub use refusals::{
 };
 
 // The forms of a sheet: today's (§1.2), and the former one (§8.1).
-#[derive(Drop)]
+#[derive(Clone, Copy)]
 pub enum Form {
     Present,
     Former,
@@ -34,7 +36,7 @@ pub const FORMER_NAMES: usize = 18;
 pub const ALL_NAMES: usize = NAMES + 2;
 
 // The numbers of the table of names, in its order and units.
-#[derive(Drop)]
+#[derive(Clone, Copy)]
 pub struct Case {
     pub station: u32,
     pub season: u32,
@@ -61,7 +63,7 @@ pub struct Case {
 }
 
 // What the checks of a case find, with the column at fault.
-#[derive(Drop)]
+#[derive(Clone, Copy)]
 pub enum Finding {
     Sound,
     OutOfRange(usize),
@@ -69,14 +71,14 @@ pub enum Finding {
 }
 
 // A count, or a refusal with number, line and column: what is asked of a sheet or a licence is answered so, unless the answer says more.
-#[derive(Drop)]
+#[derive(Clone, Copy)]
 pub enum Counted {
     Count(usize),
     Refused(u32, usize, usize),
 }
 
 // What the checks of a record answer before anything is asked of it: sound, or a refusal with number, line and column.
-#[derive(Drop)]
+#[derive(Clone, Copy)]
 pub enum Judged {
     Sound,
     Refused(u32, usize, usize),

@@ -1,4 +1,6 @@
 // A program's run: standard input read to its end, its text in one write, and a write that fails reported on standard error.
+#![tactic(auto)]
+
 mod input;
 
 pub use input::read;

@@ -1,4 +1,6 @@
 // Sheets of the former names carried over to today's, and back. §8.2, §8.3.
+#![tactic(auto)]
+
 mod names;
 
 ghost use Rattle.case.specs.declared.Form.TheVariants.{Present, Former};

@@ -1,4 +1,6 @@
 // What the decrement factor of a case gives: grid current and conductor size.
+#![tactic(auto)]
+
 mod grid;
 mod metal;
 mod size;

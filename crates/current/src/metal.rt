@@ -3,11 +3,11 @@ ghost use Rattle.std.specs.Prelude.{◌≡◌};
 ghost use Rattle.current.specs.Metal.{constant_of};
 
 // The table of metals, by which each number from 1 to 11 has a Kf.
-#[derive(Drop)]
+#[derive(Clone, Copy)]
 pub struct Metal;
 
 // What the table has for a metal: Kf in hundredths, or nothing.
-#[derive(Drop)]
+#[derive(Clone, Copy)]
 pub enum Constant {
     Kf(u32),
     Unknown,

@@ -1,11 +1,13 @@
 // The verdict from the ends.
+#![tactic(auto)]
+
 ghost use Rattle.std.specs.Prelude.{◌≡◌, pos};
 ghost use Rattle.decision.specs.Verdict.{safe as safe_ends, unsafe as unsafe_ends, verdict, verdict_number};
 
 use interval::Interval;
 use whole::{at_most, below};
 
-#[derive(Drop)]
+#[derive(Clone, Copy)]
 pub enum Verdict {
     Safe,
     Unsafe,

@@ -1,4 +1,6 @@
 // The decrement factor by IEEE Std 80-2013, equation 84, as a pair of ends in billionths.
+#![tactic(auto)]
+
 ghost use Rattle.std.specs.Prelude.{◌≡◌};
 ghost use Rattle.case.specs.Bounds.{Bounds};
 ghost use Rattle.decrement.specs.Ends.{exponent_ends, square_ends, df_ends};

@@ -1,4 +1,6 @@
 // ρ·Ki·IG, which mesh and step voltage share, by whole-number intervals.
+#![tactic(auto)]
+
 ghost use Rattle.std.specs.Prelude.{◌≡◌};
 ghost use Rattle.case.specs.Bounds.{Bounds};
 ghost use Rattle.current.specs.Ends.{ig_ends};

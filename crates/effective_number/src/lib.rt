@@ -1,4 +1,6 @@
 // Ki, from n, the effective number of parallel conductors. The ends of n are in specs/; code has them from the table of `by_counts`.
+#![tactic(auto)]
+
 ghost use Rattle.std.specs.Prelude.{◌≡◌};
 ghost use Rattle.interval.specs.Span.{Span};
 ghost use Rattle.effective_number.specs.Number.{ki_ends};

@@ -1,4 +1,6 @@
 // What intervals enclose: definitions in specs/, laws in proofs/; and the ends of π.
+#![tactic(auto)]
+
 ghost use Rattle.std.specs.Prelude.{◌≡◌};
 ghost use Rattle.enclosure.specs.Pi.{π_ends};
 

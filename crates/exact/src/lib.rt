@@ -1,1 +1,2 @@
 // Exact values: definitions in specs/, laws in proofs/. No code.
+#![tactic(auto)]

@@ -1,4 +1,6 @@
 // e to the power of minus a number of billionths, as a pair of ends in billionths.
+#![tactic(auto)]
+
 ghost use Rattle.std.specs.Prelude.{◌≡◌, ◌≤◌};
 ghost use Rattle.interval.specs.Span.{Span};
 ghost use Rattle.exponential.specs.Ends.{unit, most, halvings_of, series_of, squared_of, error_of, pair_of, near_ends, exp_ends, exp_pair};

@@ -1,4 +1,6 @@
 // Fields, lines of numbers and the line of a refusal as text in a lent buffer.
+#![tactic(auto)]
+
 mod numbered;
 
 ghost use Rattle.std.specs.Prelude.{◌+◌, ◌≤◌, ◌<◌, length};

@@ -1,4 +1,6 @@
 // What the programs of the gate share: they read numbers and parts of a text, print, and lend tables and buffers that show what they kept.
+#![tactic(auto)]
+
 mod held;
 mod lists;
 mod numerals;

@@ -8,14 +8,14 @@ use crate::parts::first_part;
 const LARGEST: u64 = 9223372036854775807;
 
 // A field: a number, or bytes that are not one.
-#[derive(Drop)]
+#[derive(Clone, Copy)]
 enum Field {
     Wrong,
     Value(i64),
 }
 
 // Whether every field of a line is a number, and how many there are.
-#[derive(Drop)]
+#[derive(Clone, Copy)]
 pub struct Listed {
     pub known: bool,
     pub count: usize,

@@ -1,7 +1,7 @@
 // A number in decimal digits, for the programs that read numbers from standard input.
 
 // A number, or bytes that are not one.
-#[derive(Drop)]
+#[derive(Clone, Copy)]
 pub enum Digits {
     Wrong,
     Value(u64),

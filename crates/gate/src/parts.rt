@@ -4,7 +4,7 @@ ghost use Rattle.gate.specs.Parts.{Parted};
 use text::{find, skip};
 
 // Where the first part ends, and where the next one starts.
-#[derive(Drop)]
+#[derive(Clone, Copy)]
 pub struct Part {
     pub end: usize,
     pub next: usize,

@@ -1,4 +1,6 @@
 // The line of names: each name's column.
+#![tactic(auto)]
+
 mod names;
 
 ghost use Rattle.std.specs.Prelude.{◌≡◌, length};

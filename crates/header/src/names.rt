@@ -9,14 +9,14 @@ use case::{ALL_NAMES, Form, name_count, place};
 use text::same;
 
 // The index of a name, or the answer that the text is none of the names.
-#[derive(Drop)]
+#[derive(Clone, Copy)]
 pub enum Found {
     At(usize),
     Nothing,
 }
 
 // A name: a fixed byte string, and how many of its bytes are the name.
-#[derive(Drop)]
+#[derive(Clone, Copy)]
 pub struct Name(pub [u8; 7], pub usize);
 
 // The names of today's form in the order of its table, then those of the former form that are not among them.

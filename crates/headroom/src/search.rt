@@ -25,7 +25,7 @@ const NONE: u32 = 0;
 const GUESSES: u32 = 6;
 
 // What a fault current shows: whether the case is answered safe with it, and a guess at the greatest such.
-#[derive(Drop)]
+#[derive(Clone, Copy)]
 struct Told {
     safe: bool,
     guess: u32,

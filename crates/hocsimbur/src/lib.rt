@@ -1,5 +1,7 @@
 // The operations offered to callers, in the order of the specification, and the types that they name. None has a condition on its
 // arguments: what breaks a rule is refused.
+#![tactic(auto)]
+
 pub use case::{Case, Counted};
 use case::{Judged, judge};
 pub use conversion::{carry, carry_back};
@@ -28,21 +30,21 @@ pub use working::working_numbers;
 pub use yards::{FewestLines, fewest_lines};
 
 // A number that the rules settle, or a refusal with number, line and column.
-#[derive(Drop)]
+#[derive(Clone, Copy)]
 pub enum SizeAnswer {
     Is(u64),
     Refused(u32, usize, usize),
 }
 
 // The ends of the tolerable voltages, touch first, or a refusal with number, line and column.
-#[derive(Drop)]
+#[derive(Clone, Copy)]
 pub enum Tolerable {
     Ends(Interval, Interval),
     Refused(u32, usize, usize),
 }
 
 // The row of a case, or a refusal with number, line and column.
-#[derive(Drop)]
+#[derive(Clone, Copy)]
 pub enum RowAnswer {
     Is(Row),
     Refused(u32, usize, usize),

@@ -1,4 +1,6 @@
 // Pairs of signed whole numbers, as results are reported, with outward rounding: each operation's pair includes the exact one.
+#![tactic(auto)]
+
 pub mod root;
 
 ghost use Rattle.std.specs.Prelude.{◌≡◌, ◌+◌, ◌*◌, ◌<◌, ◌^◌, pos, nat_abs, ◌≤ℤ◌};
@@ -9,14 +11,14 @@ ghost use Rattle.interval.specs.Operations.{scaled_of, hull_of, product_of, quot
 use whole::{ceil_div, floor_div, least, least_floor, most, most_ceil, wide};
 
 // The two ends of a quantity, in a unit that the quantity's definition names.
-#[derive(Drop)]
+#[derive(Clone, Copy)]
 pub struct Interval {
     pub lower: i64,
     pub upper: i64,
 }
 
 // The answer to a question for two ends: the ends, or a refusal with number, line and column.
-#[derive(Drop)]
+#[derive(Clone, Copy)]
 pub enum Pair {
     Ends(Interval),
     Refused(u32, usize, usize),

@@ -1,4 +1,6 @@
 // The reading of a sheet: how many value lines it has, and their values, or why it is refused.
+#![tactic(auto)]
+
 mod pass;
 
 ghost use Rattle.std.specs.Prelude.{◌≡◌, ◌*◌, ◌≤◌, length};

@@ -1,4 +1,6 @@
 // The lengths of a grid in whole millimetres, exact.
+#![tactic(auto)]
+
 ghost use Rattle.std.specs.Prelude.{◌≡◌};
 ghost use Rattle.case.specs.Bounds.{Bounds};
 ghost use Rattle.lengths.specs.Lengths.{side_of, side_x, side_y, lc_mm, lr_mm, lt_mm};

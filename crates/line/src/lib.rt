@@ -1,4 +1,6 @@
 // A value line: its values in the order of the names.
+#![tactic(auto)]
+
 ghost use Rattle.std.specs.Prelude.{◌≤◌, length, drop};
 ghost use Rattle.case.specs.Order.{Distinct};
 ghost use Rattle.text.specs.Text.{fields_of};
@@ -7,7 +9,7 @@ ghost use Rattle.line.specs.Parts.{LineValues, ValuesAt};
 use text::{Columns, FRONT, Field, first_field, front_value};
 
 // The values at the front of a line: how many are put, and where the next field starts.
-#[derive(Drop)]
+#[derive(Clone, Copy)]
 struct Front {
     count: usize,
     next: usize,

@@ -1,4 +1,6 @@
 // The checks of one value line.
+#![tactic(auto)]
+
 ghost use Rattle.std.specs.Prelude.{◌≡◌, cond, ◌≤◌, length, get_or};
 ghost use Rattle.case.specs.Check.{finding};
 ghost use Rattle.case.specs.Bounds.{Placed};
@@ -12,7 +14,7 @@ use line::read_values;
 use text::Columns;
 
 // What the checks of a value line find, with the column at fault.
-#[derive(Drop)]
+#[derive(Clone, Copy)]
 pub enum LineFinding {
     Sound,
     Form(usize),

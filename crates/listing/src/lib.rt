@@ -1,4 +1,6 @@
 // What the programs print, as text in a buffer that the caller lends.
+#![tactic(auto)]
+
 ghost use Rattle.std.specs.Prelude.{◌≤◌, length};
 ghost use Rattle.writing.specs.Put.{Put};
 ghost use Rattle.listing.specs.Programs.{program_text};
@@ -15,7 +17,7 @@ use search_text::put_fewest;
 use sheet_text::{put_sheet, put_summary};
 
 // The programs, each by what it prints.
-#[derive(Drop)]
+#[derive(Clone, Copy)]
 pub enum Program {
     Verdict,
     Rows,

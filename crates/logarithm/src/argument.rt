@@ -4,7 +4,7 @@ ghost use Rattle.logarithm.specs.Series.{unit};
 ghost use Rattle.logarithm.specs.Ends.{Inside, halvings_of, base_of, argument_of};
 
 // m and q · 2^m.
-#[derive(Drop)]
+#[derive(Clone, Copy)]
 struct Halved {
     times: u64,
     base: u64,
@@ -45,7 +45,7 @@ fn quotient(n: u64, d: u64) -> u64
 }
 
 // m and z of p/q.
-#[derive(Drop)]
+#[derive(Clone, Copy)]
 pub struct Reduced {
     pub times: u64,
     pub argument: u64,

@@ -1,4 +1,6 @@
 // The natural logarithm of a fraction of two whole numbers, as a pair of ends in billionths.
+#![tactic(auto)]
+
 ghost use Rattle.std.specs.Prelude.{◌≡◌, ◌≤◌};
 ghost use Rattle.logarithm.specs.Ends.{Inside, up_ends, ln_ends};
 ghost use Rattle.logarithm.specs.Asked.{inside, Answered};

@@ -1,4 +1,6 @@
 // The split as a root by decimal digits, within 64 bits: of grid / injected the whole part of the root, then three digits.
+#![tactic(auto)]
+
 ghost use Rattle.std.specs.Prelude.{◌≡◌};
 ghost use Rattle.long_root.specs.Split.{split_of};
 ghost use Rattle.long_root.specs.LongRoot.{Squares, Begun, Room, Appended, DigitRoom, IsDigit};
@@ -6,7 +8,7 @@ ghost use Rattle.long_root.specs.LongRoot.{Squares, Begun, Room, Appended, Digit
 use interval::root::isqrt;
 
 // A number and what is left over by its square times the injected square.
-#[derive(Drop)]
+#[derive(Clone, Copy)]
 struct Root {
     whole: u64,
     rest: u64,

@@ -1,5 +1,7 @@
 // How far the voltages of a row lie above what is tolerable, from the ends on the cautious side: a voltage's upper end against the
 // tolerable voltage's lower end.
+#![tactic(auto)]
+
 ghost use Rattle.std.specs.Prelude.{◌≡◌, T, nat_abs};
 ghost use Rattle.margin.specs.Margin.{in_range, comparable as comparable_ends, margin as margin_of, four_margins, margins_of};
 
@@ -8,7 +10,7 @@ use whole::wide;
 
 // Mesh voltage above tolerable touch, then step voltage above tolerable step, in tenths of a percent of what is tolerable and below it as a
 // negative number; or None, which no row has.
-#[derive(Drop)]
+#[derive(Clone, Copy)]
 pub enum Compared {
     Margins(i64, i64),
     None,

@@ -1,5 +1,7 @@
 // The search for the fewest lines, asked of a sheet of one value line. The search does not read all values of its case, so of the
 // refusals of a sheet 1, 2, 4 and 3 come first, and 5 and 6 are the search's own, of what it reads.
+#![tactic(auto)]
+
 mod reading;
 
 ghost use Rattle.one_line.specs.Answer.{SheetFewest};

@@ -1,5 +1,7 @@
 // Reads questions from standard input, one a line: a kind, then its numbers, separated by commas. Prints each line, a comma and the answer.
 // tests/questions/questions.py gathers the questions, and the tests in tests/questions and tests/measurements judge the answers.
+#![tactic(auto)]
+
 mod answer;
 mod case_asked;
 mod measured;

@@ -1,4 +1,6 @@
 // Soil resistivity from four-pin readings (§9.1). Knows nothing about sheets.
+#![tactic(auto)]
+
 mod outside;
 mod products;
 
@@ -16,7 +18,7 @@ use outside::{Found, Range, first_outside};
 use products::gather;
 
 // Pairs of ends in micro-ohm metres, and the soil column in ohm metres.
-#[derive(Drop)]
+#[derive(Clone, Copy)]
 pub struct Report {
     pub least: Interval,
     pub greatest: Interval,
@@ -25,7 +27,7 @@ pub struct Report {
 }
 
 // The report, or a refusal with number, line and column.
-#[derive(Drop)]
+#[derive(Clone, Copy)]
 pub enum Sounding {
     Soil(Report),
     Refused(u32, usize, usize),

@@ -5,14 +5,14 @@ ghost use Rattle.readings.specs.Limits.{in_range};
 ghost use Rattle.readings.specs.Refusal.{first_outside};
 
 // Both ends included.
-#[derive(Drop)]
+#[derive(Clone, Copy)]
 pub struct Range {
     pub low: u32,
     pub high: u32,
 }
 
 // The place of a pair, from 1.
-#[derive(Drop)]
+#[derive(Clone, Copy)]
 pub enum Found {
     At(usize),
     Nothing,

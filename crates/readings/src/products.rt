@@ -5,7 +5,7 @@ ghost use Rattle.readings.specs.Taken.{Taken};
 ghost use Rattle.readings.specs.Ends.{with_product, products_of};
 
 // In mm times milliohms.
-#[derive(Drop)]
+#[derive(Clone, Copy)]
 pub struct Products {
     pub least: u64,
     pub greatest: u64,

@@ -1,4 +1,6 @@
 // Release: which stations of a licence may be released on a sheet, and why the others are held.
+#![tactic(auto)]
+
 mod licence;
 mod put;
 

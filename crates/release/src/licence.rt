@@ -4,7 +4,7 @@ ghost use Rattle.release.specs.Licence.{entries_of, bad_count, among, first_wron
 ghost use Rattle.release.specs.Earlier.{earlier, wrong_at};
 
 // The place of an entry, from 1, and the column at fault.
-#[derive(Drop)]
+#[derive(Clone, Copy)]
 pub enum Wrong {
     At(usize, usize),
     Nothing,

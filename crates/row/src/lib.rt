@@ -1,4 +1,6 @@
 // The row of a case.
+#![tactic(auto)]
+
 mod parts;
 mod put;
 mod work;
@@ -31,7 +33,7 @@ pub const MESH_UPPER: usize = 13;
 pub const STEP_UPPER: usize = 15;
 
 // The numbers of a row: a pair is two of them, lower end first.
-#[derive(Drop)]
+#[derive(Clone, Copy)]
 pub struct Row {
     pub station: i64,
     pub season: i64,
@@ -54,7 +56,7 @@ pub struct Row {
 }
 
 // What the verdict of a case needs that its fault current does not change.
-#[derive(Drop)]
+#[derive(Clone, Copy)]
 pub struct Fixed {
     // Df, billionths
     pub factor: Interval,
@@ -72,7 +74,7 @@ pub struct Fixed {
 }
 
 // What its fault current drives.
-#[derive(Drop)]
+#[derive(Clone, Copy)]
 pub struct Driven {
     // microamperes
     pub current: Interval,

@@ -1,4 +1,6 @@
 // The lines of rows as text in a lent buffer: what is shown of a row, and the lines of a table.
+#![tactic(auto)]
+
 ghost use Rattle.std.specs.Prelude.{◌+◌, ◌*◌, ◌≤◌, ◌≡◌, map, length};
 ghost use Rattle.tables.specs.Parts.{parts_of};
 ghost use Rattle.writing.specs.Text.{ended, text_of};
@@ -15,7 +17,7 @@ use writing::put_bytes;
 const FIRST: usize = KCMIL + 1;
 
 // What is shown of a row: station, season, verdict by its word and size; all its numbers; or station, season, verdict and the two margins.
-#[derive(Drop)]
+#[derive(Clone, Copy)]
 pub enum Shown {
     Verdict,
     Numbers,

@@ -1,4 +1,6 @@
 // The search for the fewest lines as text in a lent buffer.
+#![tactic(auto)]
+
 ghost use Rattle.std.specs.Prelude.{◌≤◌, ◌≡◌, length};
 ghost use Rattle.text.specs.Value.{field_value};
 ghost use Rattle.writing.specs.Put.{Put};

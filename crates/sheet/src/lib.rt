@@ -1,4 +1,6 @@
 // The sheet: its answer, and its rows in the caller's table.
+#![tactic(auto)]
+
 ghost use Rattle.std.specs.Prelude.{◌*◌, ◌≡◌, length};
 ghost use Rattle.case.specs.Columns.{name_count};
 ghost use Rattle.judgement.specs.Limits.{most_lines};
@@ -10,7 +12,7 @@ use row::ROW_LENGTH;
 use table_rows::write_rows;
 
 // The count of rows, or a refusal with number, line and column.
-#[derive(Drop)]
+#[derive(Clone, Copy)]
 pub enum Answer {
     Rows(usize),
     Refused(u32, usize, usize),

@@ -1,4 +1,6 @@
 // The rows of a sheet and the summary of its stations as text in a lent buffer.
+#![tactic(auto)]
+
 mod summary;
 
 ghost use Rattle.std.specs.Prelude.{◌≤◌, length};

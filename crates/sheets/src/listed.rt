@@ -3,7 +3,7 @@ use gate::{bytes, number, numbers, signed};
 use row::{KCMIL, SEASON, STATION, VERDICT};
 
 // What is listed of each row.
-#[derive(Drop)]
+#[derive(Clone, Copy)]
 pub enum Listing {
     Numbers,
     Verdicts,

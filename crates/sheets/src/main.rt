@@ -8,6 +8,8 @@
 // release,LENGTH           the licence in the next line, in a table of this length
 //
 // tests/sheets/stored.py gathers the sheets; the tests in that folder judge the answers.
+#![tactic(auto)]
+
 mod carried;
 mod length;
 mod listed;

@@ -1,4 +1,6 @@
 // The split of the fault current from a staged test. §9.2.
+#![tactic(auto)]
+
 mod check;
 mod grid;
 
@@ -10,7 +12,7 @@ use grid::measured;
 
 // The answer to a staged test: the grid's in_phase_lem and quadrature part in milliamperes and the split in per mille, or a
 // refusal with number, line and column.
-#[derive(Drop)]
+#[derive(Clone, Copy)]
 pub enum SplitAnswer {
     Grid(i64, i64, u64),
     Refused(u32, usize, usize),

@@ -1,11 +1,13 @@
 // The sums of each station of some rows. §7.1.
+#![tactic(auto)]
+
 mod adding;
 mod gather;
 
 pub use gather::sum_rows;
 
 // What the summary reads of a row.
-#[derive(Drop)]
+#[derive(Clone, Copy)]
 pub struct Entry {
     pub season: i64,
     pub verdict: i64,
@@ -14,7 +16,7 @@ pub struct Entry {
 }
 
 // The counts of one station, and its season with the highest upper mesh end.
-#[derive(Drop)]
+#[derive(Clone, Copy)]
 pub struct Sums {
     pub seasons: usize,
     pub safe: usize,

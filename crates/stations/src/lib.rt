@@ -1,4 +1,6 @@
 // The station summary with the rows. §7.1.
+#![tactic(auto)]
+
 mod copy;
 mod put;
 
@@ -20,7 +22,7 @@ const TABLE: usize = LINES * ROW_LENGTH;
 pub const STATION_LENGTH: usize = 6;
 
 // The count of rows and of stations, or a refusal with number, line and column.
-#[derive(Drop)]
+#[derive(Clone, Copy)]
 pub enum Summed {
     Summary(usize, usize),
     Refused(u32, usize, usize),

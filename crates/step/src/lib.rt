@@ -1,4 +1,6 @@
 // Step voltage of a case, by whole-number intervals.
+#![tactic(auto)]
+
 ghost use Rattle.std.specs.Prelude.{◌≡◌, ◌<◌, ◌^◌};
 ghost use Rattle.case.specs.Bounds.{Bounds};
 ghost use Rattle.drive.specs.Ends.{drive_ends};

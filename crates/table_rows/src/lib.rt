@@ -1,4 +1,6 @@
 // The rows of stored lines, in the table.
+#![tactic(auto)]
+
 ghost use Rattle.std.specs.Prelude.{◌≡◌, ◌≤◌, ◌+◌, ◌*◌, length};
 ghost use Rattle.tables.specs.Parts.{part_at, Written};
 ghost use Rattle.case.specs.Columns.{name_count};

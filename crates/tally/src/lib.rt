@@ -1,4 +1,6 @@
 // What is counted of the lines of a station, line by line: for the release of a licence.
+#![tactic(auto)]
+
 mod add;
 mod seasons;
 mod station;
@@ -7,7 +9,7 @@ pub use seasons::{missing_seasons, released_or_held, reported_fault};
 pub use station::{count_lines, first_line};
 
 // What is counted of the lines of a station.
-#[derive(Drop)]
+#[derive(Clone, Copy)]
 pub struct Tally {
     pub lines: u32,
     // whether seasons 1 to 4 have a line

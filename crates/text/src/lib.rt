@@ -1,4 +1,6 @@
 // Text of bytes: lines, fields and values.
+#![tactic(auto)]
+
 ghost use Rattle.std.specs.Prelude.{◌≡◌, ◌≤◌, false, length};
 ghost use Rattle.text.specs.Text.{index_of, lines_of, same as same_text};
 ghost use Rattle.text.specs.Value.{field_value};
@@ -7,28 +9,28 @@ ghost use Rattle.text.specs.Parts.{Passed, count_of, digits_value, Skipped, IsFi
 use std::num::wrapping_sub_u32;
 
 // What a field holds: a value, or bytes of a wrong form.
-#[derive(Drop)]
+#[derive(Clone, Copy)]
 pub enum Field {
     Wrong,
     Value(u32),
 }
 
 // The first field of a line: where it ends, and what it holds.
-#[derive(Drop)]
+#[derive(Clone, Copy)]
 pub struct FirstField {
     pub end: usize,
     pub field: Field,
 }
 
 // A value and where it ends, or an end of 0 where there is none.
-#[derive(Drop)]
+#[derive(Clone, Copy)]
 pub struct FrontValue {
     pub end: usize,
     pub value: u32,
 }
 
 // What is said of the columns of a line, from 1: all are right, or which is the leftmost wrong one.
-#[derive(Drop)]
+#[derive(Clone, Copy)]
 pub enum Columns {
     Right,
     Wrong(usize),

@@ -1,4 +1,6 @@
 // Tolerable touch and step voltage of a case, by whole-number intervals.
+#![tactic(auto)]
+
 ghost use Rattle.std.specs.Prelude.{◌≡◌, ◌≤◌};
 ghost use Rattle.case.specs.Bounds.{Bounds};
 ghost use Rattle.tolerable.specs.Ends.{layered as layered_ends, layer_ends, body_factor, time_root, top_ends, tolerable_ends, touch_and_step};
@@ -8,7 +10,7 @@ use interval::Interval;
 use interval::root::root_ends;
 
 // The ends of the tolerable voltages.
-#[derive(Drop)]
+#[derive(Clone, Copy)]
 pub struct TouchAndStep {
     pub touch: Interval,
     pub step: Interval,

@@ -12,7 +12,7 @@ read z = to_z w64 (of_z w64 z)
 
 -- of a call's result, `back c.f.result c.f.ok`
 pub back : (z : ℤ) → mag z < 2 ^ 63 → read z ≡ z
-back z h = to_z-of_z (record { sfits = h })
+back z h = to_z-of_z {w = w64} (record { sfits = h })
 
 -- a natural end as an unsigned number
 pub natural_cast : {z : ℤ} (n : ℕ) → SFits w64 z → read z ≡ pos n → T (non_neg (read z)) × Fits w64 (nat_abs (read z))

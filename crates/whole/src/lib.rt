@@ -1,4 +1,6 @@
 // Signed whole numbers: division rounded down and up, the lesser and the greater of two, and which of two is below the other.
+#![tactic(auto)]
+
 pub mod wide;
 
 ghost use Rattle.std.specs.Prelude.{◌≡◌, ◌≤◌, ◌<◌, ◌^◌, nat_abs};

@@ -1,4 +1,6 @@
 // The working of a case: the quantities between its record and its row, as IEEE Std 80's Annex B prints them.
+#![tactic(auto)]
+
 ghost use Rattle.std.specs.Prelude.{◌≡◌, pos, ◌*◌, ◌≤◌};
 ghost use Rattle.interval.specs.Operations.{point};
 ghost use Rattle.case.specs.Bounds.{Bounds};
@@ -14,7 +16,7 @@ use interval::Interval;
 pub const WORKING_NUMBERS: usize = 30;
 
 // A pair of ends for each quantity.
-#[derive(Drop)]
+#[derive(Clone, Copy)]
 pub struct Quantities {
     // Cs, 10^-9
     pub cs: Interval,
@@ -42,7 +44,7 @@ pub struct Quantities {
 }
 
 // The working of a case, or a refusal with number, line and column.
-#[derive(Drop)]
+#[derive(Clone, Copy)]
 pub enum Worked {
     Is(Quantities),
     Refused(u32, usize, usize),

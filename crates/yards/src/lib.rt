@@ -1,4 +1,6 @@
 // The fewest lines for a given side: yards are tried in order until one is safe. §6.7.
+#![tactic(auto)]
+
 mod search;
 mod yard;
 
@@ -20,7 +22,7 @@ const MOST_SIDE: u32 = 720000;
 
 // The counts of lines and rods of the first safe yard and its place; how many yards were tried, none of them safe; or a refusal with
 // number, line and column.
-#[derive(Drop)]
+#[derive(Clone, Copy)]
 pub enum FewestLines {
     Found(u32, u32, u32),
     None(u32),
