@@ -7,8 +7,7 @@ use lib.{IntN.{ℤ, pos, negsuc, nat_abs, neg_ℤ, ◌-ℤ◌, +ℤ_idl}, Signed
 use mir.{Facts.{to_z-of_z}, Syntax.{w64}, Val.{SFits, to_z, of_z}}
 use Rattle.whole.proofs.Signed.{size_neg}
 use Rattle.interval.specs.Operations.{size, minus_of}
-use Rattle.interval.proofs.Interval.minus.Statement.{statement}
-use Rattle.interval.proofs.Interval.minus.Tie as tie
+use Rattle.interval.proofs.Interval.minus.Goals as goal
 
 magnitude≤ : (z : ℤ) → mag z ≤ nat_abs z
 magnitude≤ (pos n) = omega arith
@@ -31,27 +30,24 @@ module _ (z : ℤ) (h : nat_abs z < 2 ^ 63) where
   minus_is : to_z w64 (of_z w64 (pos 0 -ℤ to_z w64 (of_z w64 z))) ≡ neg_ℤ z
   minus_is = rw subtracted (to_z-of_z negative_fits)
 
-sub_t2 : tie.Need-overflow-sub-t2
+pub overflow_sub-result : goal.overflow_sub-result
 unfolding size
-sub_t2 c =
-    let a = c.before.before.args.self in
+overflow_sub-result c =
+    let a = c.args.self in
     let lower = minus_fits a.lower (omega arith) in
     let upper = minus_fits a.upper (omega arith) in
     search rules
 
-sub_t3 : tie.Need-overflow-sub-t3
+pub overflow_sub-result-2 : goal.overflow_sub-result-2
 unfolding size
-sub_t3 c =
-    let a = c.before.before.before.before.args.self in
+overflow_sub-result-2 c =
+    let a = c.args.self in
     let lower = minus_fits a.lower (omega arith) in
     let upper = minus_fits a.upper (omega arith) in
     search rules
 
-returns : tie.Need-returns
+pub returns : goal.returns
 unfolding size minus_of
 returns c =
-    let a = c.before.before.before.before.args.self in
+    let a = c.args.self in
     simp (minus_is a.lower (omega arith), minus_is a.upper (omega arith))
-
-pub minus_spec : {M : Type 1} → statement M
-minus_spec = tie.close (tie.spec sub_t2 sub_t3 returns)
