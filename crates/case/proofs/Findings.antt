@@ -62,9 +62,9 @@ module _ (form : CodeForm) (at v : List ℕ) where
     all_agree q t = sym (disagreement_is ∙ rw (← place, layer, q, t))
 
 module _ (form : Form) (at v : List ℕ) {column : ℕ} (first : column ≡ out_of_range form at v) where
-  pub out_of_range : (column ≡ 0 → ⊥) → OutOfRange column ≡ finding form at v
+  pub out_of_range_lem : (column ≡ 0 → ⊥) → OutOfRange column ≡ finding form at v
   unfolding finding
-  out_of_range h = rw (← first, ne_eqb column 0 h)
+  out_of_range_lem h = rw (← first, ne_eqb column 0 h)
 
   pub all_in_range : column ≡ 0 → disagreement form at v ≡ finding form at v
   unfolding finding
