@@ -1,0 +1,14 @@
+-- `gate::held::hold` is safe and ends: the measure is what is left of the table.
+use mathlib.Core.Path.{refl}
+use native.Mathlib.Omega.{arith}
+use lib.ListN.{length-set}
+use Rattle.gate.proofs.held.hold.Goals as goal
+
+pub loop-i-init : goal.loop-i-init
+loop-i-init c = refl
+
+pub loop-i-preserved : goal.loop-i-preserved
+loop-i-preserved c = simp length-set (omega arith)
+
+pub shape_of-table : goal.shape_of-table
+shape_of-table c = c.loop-i.invariant

@@ -1,0 +1,10 @@
+-- `gate::numerals::numeral` is safe and ends: the measure is what is left of the bytes.
+use Prim.Native.Nat.{◌-◌}
+use lib.ListN.{length}
+use Rattle.gate.proofs.numerals.numeral.Given as goal
+
+abbrev pub invariant-loop-i : goal.invariant-loop-i
+invariant-loop-i l = Unit
+
+abbrev pub decreases-loop-i : goal.decreases-loop-i
+decreases-loop-i l = length l.s - l.i
