@@ -2,12 +2,8 @@
 use mathlib.Core.Path.{refl}
 use Rattle.case.specs.Columns.{columns, all_columns}
 use Rattle.header.specs.Parts.{in_code}
-use Rattle.header.proofs.names.all_names.Statement.{statement}
-use Rattle.header.proofs.names.all_names.Tie as tie
+use Rattle.header.proofs.names.all_names.Goals as goal
 
-returns : tie.Need-returns
+pub returns : goal.returns
 unfolding columns all_columns in_code
 returns c = refl
-
-pub all_names_spec : {M : Type 1} → statement M
-all_names_spec = tie.close (tie.spec returns)
