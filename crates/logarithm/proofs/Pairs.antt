@@ -3,7 +3,6 @@ use Prim.Native.Nat.{ℕ, ◌*◌, ◌≤◌, ◌<◌}
 use mathlib.Core.Path.{ap}
 use native.Mathlib.{Omega.{arith}, Nat.{le_trans}}
 use lib.{Dec.{lit≤}, IntN.{pos}}
-use Rattle.whole.proofs.Choice.{le_pos}
 use Rattle.interval.specs.Operations.{natural, minus_of}
 use Rattle.exact.specs.{Fraction.{◌<f◌, ◌≈f◌, whole, inv, ◌·f◌, ◌÷f◌}, Exact.{Exact, exactly, ◌÷x◌}, Logarithm.{ln, ln_of}}
 use Rattle.exact.specs.{Depth.{work_depth, Consistent, Proper, Positive, PositiveAt, Within}, Reported.{Scale, ten, over, reported}}

@@ -1,7 +1,7 @@
 -- p / q at least 1, its halvings m and the base b = q · 2^m, which doubling finds: b ≤ p < 2 b.
 use Prim.Native.Nat.{ℕ, zero, suc, ◌+◌, ◌-◌, ◌*◌, ◌/◌, ◌^◌, ◌≤◌, ◌<◌}
 use mathlib.Core.Path.{◌≡◌, refl, ap, ◌∙◌}
-use native.Mathlib.{Omega.{arith}, Nat.{mul-le-mul_left, mul-le-mul_right, mul-pos, mul-lt-mul_of_pos_right, pow-suc}}
+use native.Mathlib.{Omega.{arith}, Nat.{mul-le-mul_right, mul-pos, mul-lt-mul_of_pos_right, pow-suc}}
 use lib.Pow.{pow_pos, pow-add}
 use Rattle.exact.{specs.Fraction.{◌≤f◌, whole, ◌·f◌, inv, ◌÷f◌, top}, proofs.Powers.{exponent_lt_inv}}
 use Rattle.exact.proofs.Halvings.{halvings_below, halvings_above, halvings_unique}

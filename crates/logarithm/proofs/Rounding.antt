@@ -2,7 +2,7 @@
 use Prim.Native.Nat.{ℕ, ◌+◌, ◌*◌}
 use mathlib.Core.Path.{◌≡◌, ap}
 use native.Mathlib.Omega.{arith}
-use lib.{Dec.{lit<}, IntN.{pos}}
+use lib.{Dec.{lit<}}
 use Rattle.exact.{specs.{Fraction.{whole, ◌·f◌, inv, ◌÷f◌}, Reported.{Scale, ten, over}}, proofs.SeriesBounds.{term_of}}
 use Rattle.exact.proofs.Rounding.{units, Is}
 use Rattle.logarithm.specs.Series.{unit}

@@ -7,7 +7,7 @@ use Rattle.interval.specs.Operations.{natural}
 use Rattle.exact.specs.{Fraction.{Fraction, ◌≤f◌, whole, ◌+f◌, ◌·f◌, ◌÷f◌}, Logarithm.{argument, terms, ln_near, ln_of}}
 use Rattle.exact.{specs.{Reported.{ten, over, reported}, Depth.{work_depth, Within}}, proofs.Order.{refl≤, trans≤, refl≈, nonneg}}
 use Rattle.exact.proofs.{Sums.{mono+, add-zero}, Products.{mul_left≤}, Inclusion.{within_trans, within_same}, LogArgument.{argument_nonneg}}
-use Rattle.exact.proofs.{LogUp.{up_ends}, Logarithm.{ln_at_least_one}, Computed.{within_ln2}}
+use Rattle.exact.proofs.{LogUp.{up_ends as series_ends}, Logarithm.{ln_at_least_one}, Computed.{within_ln2}}
 use Rattle.exact.proofs.Rounding.{units, Toward, from_below, from_above, toward_trans, toward_same, toward_sum, units_zero, units_sum}
 use Rattle.exact.proofs.Rounding.{rounded}
 use Rattle.logarithm.specs.Series.{term_count, terms_of}
@@ -80,7 +80,7 @@ module _ {p q : ℕ} (hq : 1 ≤ q) (l : q ≤ p) where
   unfolding close_ends natural reported halvings_of
   close_encloses =
       rw (ln_at_least_one (ratio_low_lem hq l))
-      (within_trans (within_same (up_ends (ratio_low_lem hq l) work_depth)) (record { low = end_below; high = end_above }))
+      (within_trans (within_same (series_ends (ratio_low_lem hq l) work_depth)) (record { low = end_below; high = end_above }))
 
   pub up_encloses : p ≤ most → Within (ln_of (whole p ÷f whole q) work_depth) (reported (ten 9) (up_ends p q))
   unfolding up_ends close_ends natural reported
