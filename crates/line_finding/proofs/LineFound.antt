@@ -62,7 +62,7 @@ module _ (form : Form) (at : List ℕ) where
     pub data LineFound : LineFinding → Type 0 where
       all_sound : Agreed → repeats form v earlier ≡ false → LineFound Sound
       wrong_form_lem : (wrong_form (length form) 1 fields ≡ 0 → ⊥) → LineFound (WrongForm (wrong_form (length form) 1 fields))
-      out_of_range : RightForm → (out_of_range form at v ≡ 0 → ⊥) → LineFound (OutOfRange (out_of_range form at v))
+      out_of_range_lem : RightForm → (out_of_range form at v ≡ 0 → ⊥) → LineFound (OutOfRange (out_of_range form at v))
       layer_differs : RightForm → out_of_range form at v ≡ 0 → layer_agrees form v ≡ false
           → LineFound (Disagreement (named form at "layer"))
       rods_differ : RightForm → out_of_range form at v ≡ 0 → layer_agrees form v ≡ true → rods_agree form v ≡ false
@@ -79,7 +79,7 @@ module _ (form : Form) (at : List ℕ) where
 
         then : RightForm → {f : Finding} → ValuesFound v f → LineFound (or_finding f (cond (repeats form v earlier) Repeated Sound))
         then r (sound o l d) = last (record { right_form = r; none_outside = o; layer = l; rods = d }) (repeats form v earlier) refl
-        then r (range e) = out_of_range r e
+        then r (range e) = out_of_range_lem r e
         then r (layer o e) = layer_differs r o e
         then r (rods o l e) = rods_differ r o l e
 
