@@ -1,0 +1,19 @@
+-- `exponential::exp_ends` meets its contract, below 22 and from 22 on.
+use native.Mathlib.Omega.{arith}
+use borrow.Author.Tests.{lt-ltb, le-ltb}
+use Rattle.exponential.specs.Ends.{exp_ends}
+use Rattle.exponential.proofs.exp_ends.Goals as goal
+
+pub near_ends-requires : goal.near_ends-requires
+near_ends-requires c = c.requires
+
+pub natural-requires : goal.natural-requires
+natural-requires c = (omega arith, omega arith)
+
+pub returns-then-a-lt-LARGE : goal.returns-then-a-lt-LARGE
+unfolding exp_ends
+returns-then-a-lt-LARGE c = rw (lt-ltb _ _ c.if-a-lt-LARGE.true) c.near_ends.ensures
+
+pub returns-else-a-lt-LARGE : goal.returns-else-a-lt-LARGE
+unfolding exp_ends
+returns-else-a-lt-LARGE c = rw (le-ltb _ _ c.if-a-lt-LARGE.false) c.natural.ensures
