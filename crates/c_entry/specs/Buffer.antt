@@ -31,8 +31,8 @@ pub record InBytes (s before after : List ℕ) (r : Counted) : Type 0 where
   pub answer_is : r ≡ answer_for s before
   pub buffer_is : BufferAfter s before after r
 
--- the same with the answer as one number. Two wrong programs: one that writes the most significant byte first breaks `buffer-is`; one that
--- answers the refusal's number as it is breaks `answer-is`.
+-- the same with the answer as one number. Two wrong programs: one that writes the most significant byte first breaks `buffer_is`; one that
+-- answers the refusal's number as it is breaks `answer_is`.
 pub record Answered (s before after : List ℕ) (r : ℤ) : Type 0 where
   pub answer_is : r ≡ signed_answer (answer_for s before)
   pub buffer_is : BufferAfter s before after (answer_for s before)

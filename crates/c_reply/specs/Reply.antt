@@ -43,7 +43,7 @@ soil_reply (sounding.Refused number line column) = Refused number line column
 
 -- ---- split
 
--- the grid's in_phase_lem and quadrature part in milliamperes, and the split in per mille
+-- the grid's in-phase and quadrature part in milliamperes, and the split in per mille
 unfoldable pub split_reply : SplitAnswer → Reply
 split_reply (split.Grid a b k) = Numbers 3 (a ∷ b ∷ pos k ∷ [])
 split_reply (split.Refused number line column) = Refused number line column

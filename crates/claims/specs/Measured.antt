@@ -141,7 +141,7 @@ module _ (s : List ℤ) where
 
 -- ---- §6.5: the margins of a row's numbers
 
--- a voltage from 0 and a tolerable voltage from 1 m_v, neither above 10^15 m_v
+-- a voltage from 0 and a tolerable voltage from 1 mV, neither above 10^15 mV
 abbrev pub Comparable : ℤ → ℤ → Type 0
 Comparable voltage tolerable = ((pos 0 ≤ℤ voltage) × (voltage ≤ℤ pos (10 ^ 15))) × ((pos 1 ≤ℤ tolerable) × (tolerable ≤ℤ pos (10 ^ 15)))
 

@@ -8,7 +8,7 @@ use Rattle.hocsimbur.specs.Asked.{RowAnswered}
 use Rattle.working.specs.{declared.{Quantities.{Quantities}, Worked.{Worked, TheVariants.{Is, Refused}}}, Working.{RightWorking}}
 use Rattle.claims.specs.Record.{RecordRefused, RecordSound}
 
--- the mesh voltage in the case's row is the product of the pairs of ρ·Ki·IG/LM and of Km, in m_v and 10^−7, rounded outward
+-- the mesh voltage in the case's row is the product of the pairs of ρ·Ki·IG/LM and of Km, in mV and 10^−7, rounded outward
 pub record RowFollows (c : Case) (w : Quantities) : Type 0 where
   pub mesh : {r : Row} → RowAnswered c (answered.Is r) → r.mesh ≡ product_of w.driven w.km 10000000
 

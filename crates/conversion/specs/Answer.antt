@@ -29,8 +29,8 @@ unfoldable pub buffer_after : Form → List ℕ → List ℕ → Counted → Lis
 buffer_after form s before (Count count) = carried_text form s ++ drop count before
 buffer_after form s before (Refused number line column) = before
 
--- the answer and what it leaves in the buffer. Two wrong programs: one that writes before it refuses breaks `buffer-is`; one that tests the
--- counts before the times breaks `answer-is`.
+-- the answer and what it leaves in the buffer. Two wrong programs: one that writes before it refuses breaks `buffer_is`; one that tests the
+-- counts before the times breaks `answer_is`.
 pub record Answered (form : Form) (s before after : List ℕ) (r : Counted) : Type 0 where
   pub answer_is : r ≡ answer form s (length before)
   pub buffer_is : after ≡ buffer_after form s before r

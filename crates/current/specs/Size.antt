@@ -1,4 +1,4 @@
--- How the conductor size (§4.9) is computed within 64 bits: the square of I-as-Kf times t, in units that lose nothing by rounding up.
+-- How the conductor size (§4.9) is computed within 64 bits: the square of I·Kf times t, in units that lose nothing by rounding up.
 use Rattle.std.specs.Prelude.{ℕ, ◌+◌, ◌*◌, ◌/◌, ◌%◌, ◌≤◌, ◌<◌}
 use Rattle.whole.specs.Whole.{ceil_div}
 

@@ -20,7 +20,7 @@ fn fault_current(c: Case, factor: Interval) -> u64
     (c.fault as u64) * (factor.upper as u64)
 }
 
-// I.Kf in units of 10^-14.
+// I·Kf in units of 10^-14.
 fn load(c: Case, factor: Interval) -> u64
     requires bounds { Bounds c }
     requires factor_value { factor ≡ df_ends c }

@@ -1,4 +1,4 @@
--- The conductor size (§4.9) and the half_powers (§4.7) computed on examples.
+-- The conductor size (§4.9) and the half-powers (§4.7) computed on examples.
 use Rattle.std.specs.Prelude.{ℕ}
 use mathlib.Core.{Path.{◌≡◌, refl}, List.{[], ◌∷◌, map}}
 use Rattle.exact.specs.{Fraction.{Fraction, whole, inv}, Exact.{exactly}}
@@ -26,7 +26,7 @@ asymmetrical : map (size_of 80000 9 11) (1000000000 ∷ 1576000000 ∷ 168800000
 unfolding size_of
 asymmetrical = refl
 
--- the 24 half_powers of the former table, one over each number: 2^(n−2) for n from 2 to 25
+-- the 24 half-powers of the former table, one over each number: 2^(n−2) for n from 2 to 25
 half_power_at : ℕ → Fraction
 unfolding half_power exactly
 half_power_at n =

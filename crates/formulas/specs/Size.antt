@@ -25,7 +25,7 @@ module _ (c : Case) (f : ℕ) where
   unfoldable pub required : Exact
   required = exactly (decimal (c.fault * f) 12 ·f decimal (Kf c.metal) 2) ·x root 2 (exactly (decimal c.wire 3))
 
-  -- I-as-Kf in units of 10^−14
+  -- I·Kf in units of 10^−14
   unfoldable pub duty : ℕ
   duty = c.fault * f * Kf c.metal
 

@@ -24,7 +24,7 @@ factor_width A = decimal 1000 9
 unfoldable pub current_width : Ends → Fraction
 current_width A = decimal 2 6 ·f A.lower +f decimal 2 6
 
--- "Tolerable voltages: at most 1/10,000 of the lower end plus 10 m_v."
+-- "Tolerable voltages: at most 1/10,000 of the lower end plus 10 mV."
 unfoldable pub tolerable_width : Ends → Fraction
 tolerable_width A = decimal 1 4 ·f A.lower +f decimal 10 3
 
@@ -32,7 +32,7 @@ tolerable_width A = decimal 1 4 ·f A.lower +f decimal 10 3
 unfoldable pub resistance_width : Ends → Fraction
 resistance_width A = decimal 1 4 ·f A.lower +f decimal 2 6
 
--- "Ground potential rise: 1/2,000 of the lower end plus 10 m_v."
+-- "Ground potential rise: 1/2,000 of the lower end plus 10 mV."
 unfoldable pub rise_width : Ends → Fraction
 rise_width A = decimal 5 4 ·f A.lower +f decimal 10 3
 

@@ -81,8 +81,8 @@ rectangle = grid 1 400 10 13 38 10000 1
 abbrev pub rodless : Case
 rodless = grid 1 400 10 13 0 0 0
 
--- a yard and what is right of it: tolerable touch and step in m_v, their ends in m_v, kcmil, the ends of Df in billionths, those of the
--- current in microamperes, G, those of n in billionths, of the mesh and of the step voltage in m_v, and of the resistance in micro-ohms
+-- a yard and what is right of it: tolerable touch and step in mV, their ends in mV, kcmil, the ends of Df in billionths, those of the
+-- current in microamperes, G, those of n in billionths, of the mesh and of the step voltage in mV, and of the resistance in micro-ohms
 pub data Worked : Type 0 where
   voltages : Case → ℕ → ℕ → Worked
   tolerable : Case → (touch touch' step step' : ℕ) → Worked

@@ -2,7 +2,7 @@
 use crate::search::MOST_FAULT;
 use row::{Driven, Fixed};
 
-// In m_v; no tolerable voltage is so high.
+// In mV; no tolerable voltage is so high.
 const MOST_TOLERABLE: u64 = 1000000000;
 
 // An end, or 0 where it is below.

@@ -70,7 +70,7 @@ pub fn conductor_size(c: Case) -> SizeAnswer
     }
 }
 
-// The ends of the tolerable touch and step voltage in m_v.
+// The ends of the tolerable touch and step voltage in mV.
 pub fn touch_and_step(c: Case) -> Tolerable
     ensures { TolerableAnswered c result }
 {

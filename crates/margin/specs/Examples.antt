@@ -4,7 +4,7 @@ use Rattle.std.specs.Prelude.{ℤ, pos, negsuc}
 use Rattle.whole.specs.Whole.{ceil_div}
 use Rattle.margin.specs.{declared.Compared.TheVariants.{Margins, None}, Margin.{margin, in_range, comparable, four_margins, margins_of}}
 
--- the sample (§3.3), seasons 1 and 2: 22.3 percent above and 68.2 below; then at the limit, one m_v above it, one below, nothing, twice as
+-- the sample (§3.3), seasons 1 and 2: 22.3 percent above and 68.2 below; then at the limit, one mV above it, one below, nothing, twice as
 -- much
 pub worked : margin 1027841 840547 ∷ margin 256960 809960 ∷ margin 840547 840547 ∷ margin 840548 840547 ∷ margin 840546 840547
     ∷ margin 0 840547 ∷ margin 2000 1000 ∷ []

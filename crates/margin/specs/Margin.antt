@@ -17,7 +17,7 @@ margin voltage tolerable = pos (ceil_div (whole * voltage) tolerable) -ℤ pos w
 
 -- ---- of any numbers
 
--- in m_v; no row of a case has so many
+-- in mV; no row of a case has so many
 abbrev pub most_voltage : ℕ
 most_voltage = 10 ^ 15
 

@@ -16,7 +16,7 @@ pub enum Compared {
     None,
 }
 
-// In m_v; no row has so many.
+// In mV; no row has so many.
 const MOST: i64 = 1000000000000000;
 
 // All of a tolerable voltage in tenths of a percent.

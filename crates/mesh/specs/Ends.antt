@@ -27,10 +27,10 @@ module _ (c : Case) where
   unfoldable pub lm_ends : Interval
   lm_ends = cond (eqb c.place 1) weighed_length (point (pos (1000 * lt_mm c)))
 
-  -- ρ·Ki·IG/LM in m_v
+  -- ρ·Ki·IG/LM in mV
   unfoldable pub driven_ends : Interval
   driven_ends = quotient_of (drive_ends c) lm_ends 1
 
-  -- the mesh voltage in m_v
+  -- the mesh voltage in mV
   unfoldable pub mesh_ends : Interval
   mesh_ends = product_of driven_ends (km_ends c) 10000000

@@ -16,7 +16,7 @@ mod rods;
 pub use factor::{kh, kii, km};
 pub use rods::lm;
 
-// ρ·Ki·IG/LM in m_v, for the case's LM and ρ·Ki·IG.
+// ρ·Ki·IG/LM in mV, for the case's LM and ρ·Ki·IG.
 pub fn driven(c: Case, length: Interval, drive: Interval) -> Interval
     requires bounds { Bounds c }
     requires length_len { length ≡ lm_ends c }
@@ -26,7 +26,7 @@ pub fn driven(c: Case, length: Interval, drive: Interval) -> Interval
     drive.quotient(length, 1)
 }
 
-// Mesh voltage in m_v, for the case's LM, Km and ρ·Ki·IG.
+// Mesh voltage in mV, for the case's LM, Km and ρ·Ki·IG.
 pub fn mesh_voltage(c: Case, length: Interval, factor: Interval, drive: Interval) -> Interval
     requires bounds { Bounds c }
     requires length_len { length ≡ lm_ends c }

@@ -15,7 +15,7 @@ answer_by c side (counted.Count n) = answer c side
 unfoldable pub sheet_answer : List ℕ → ℕ → FewestLines
 sheet_answer s side = answer_by (case_in s) side (sheet_judged s)
 
--- Two wrong programs: one that takes a sheet without its last byte 10 breaks `answer-is`, and so does one that checks all values of the
+-- Two wrong programs: one that takes a sheet without its last byte 10 breaks `answer_is`, and so does one that checks all values of the
 -- line, those that the search does not read too.
 pub record SheetFewest (s : List ℕ) (side : ℕ) (r : FewestLines) : Type 0 where
   pub answer_is : r ≡ sheet_answer s side

@@ -1,4 +1,4 @@
-// The least, the greatest and the sum of typeof.a.R over all pairs.
+// The least, the greatest and the sum of a·R over all pairs.
 ghost use Rattle.std.specs.Prelude.{◌≡◌, ◌+◌, ◌<◌, ◌^◌, min, max};
 ghost use Rattle.readings.specs.Reading.{pairs_of};
 ghost use Rattle.readings.specs.Taken.{Taken};
@@ -24,7 +24,7 @@ fn greater(a: u64, b: u64) -> u64
     if a <= b { b } else { a }
 }
 
-// With s, the typeof.a.R of one pair more.
+// With s, the a·R of one pair more.
 fn with(s: u64, t: Products) -> Products
     requires { s + t.total < 2 ^ 63 }
     ensures { result ≡ with_product s t }

@@ -46,7 +46,7 @@ pub record LinesReleased (cs : List Case) (licence : List ℕ) (before after : L
   pub table_is : TableAfter cs licence before after r
 
 -- the answer and what it leaves in the table. Two wrong programs: one whose refusal writes breaks `table_is`; one that refuses a wrong
--- entry with 21 breaks `answer-is`.
+-- entry with 21 breaks `answer_is`.
 pub record ReleaseAnswered (s licence : List ℕ) (before after : List ℤ) (r : Counted) : Type 0 where
   pub answer_is : r ≡ release_answer s licence (length before)
   pub table_is : TableAfter (cases s) licence before after r

@@ -37,6 +37,6 @@ module _ (c : Case) where
   unfoldable pub resistance_ends : Interval
   resistance_ends = outward_of (scaled_of per_soil_ends c.soil) 1000
 
-  -- IG times resistance, in m_v
+  -- IG times resistance, in mV
   unfoldable pub rise_ends : Interval
   rise_ends = product_of resistance_ends (ig_ends c) (10 ^ 9)

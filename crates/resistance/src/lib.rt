@@ -77,7 +77,7 @@ pub fn resistance(c: Case) -> Interval
     per_soil(c).scaled(c.soil as u64).outward(1000)
 }
 
-// Ground potential rise in m_v, for the case's resistance and current.
+// Ground potential rise in mV, for the case's resistance and current.
 pub fn potential_rise(c: Case, ohms: Interval, current: Interval) -> Interval
     requires bounds { Bounds c }
     requires ohms_value { ohms ≡ resistance_ends c }

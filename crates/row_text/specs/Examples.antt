@@ -44,7 +44,7 @@ unfolding digits_in digit_count last_digits decimal signed more_fields parted en
     row_names row_fields listed
 sample_rows = refl
 
--- 14 m_v are 55.6 percent above 9 m_v, and 16 m_v are 45.5 percent above 11 m_v
+-- 14 mV are 55.6 percent above 9 mV, and 16 mV are 45.5 percent above 11 mV
 sample_margins : listed margin_names (map margin_fields (sample_row 1 Unsafe ∷ []))
     ≡ bytes "station,season,verdict,mesh_excess_per_mille,step_excess_per_mille\n7,1,unsafe,556,455\n"
 unfolding digits_in digit_count last_digits decimal signed more_fields parted ended text_of natural verdict_number numbers word

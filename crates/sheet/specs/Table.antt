@@ -17,7 +17,7 @@ TableAfter s before after (Rows count) = Filled (cases s) before after
 TableAfter s before after (Refused number line column) = after ≡ before
 
 -- the answer to a sheet and what it leaves in the table. Two wrong programs: one that writes the row of each line over the row before it
--- breaks `table_is`; one that refuses every sheet breaks `answer-is`.
+-- breaks `table_is`; one that refuses every sheet breaks `answer_is`.
 pub record Answered (s : List ℕ) (before after : List ℤ) (r : Answer) : Type 0 where
   pub answer_is : r ≡ answer s (length before)
   pub table_is : TableAfter s before after r

@@ -1,4 +1,4 @@
--- The checks of a staged test's numbers: the injected current's in_phase_lem and quadrature part in signed milliamperes, then those of each
+-- The checks of a staged test's numbers: the injected current's in-phase and quadrature part in signed milliamperes, then those of each
 -- branch. §9.2.
 use Rattle.std.specs.Prelude.{ℕ, ◌%◌}
 use mathlib.Core.{Bool.{Bool, false, not, ◌&&◌, ◌||◌}, List.{List, [], ◌∷◌}}

@@ -10,7 +10,7 @@ ghost use Rattle.staged.specs.Answer.{answer};
 use check::{any_outside, bad_count, none_injected};
 use grid::measured;
 
-// The answer to a staged test: the grid's in_phase_lem and quadrature part in milliamperes and the split in per mille, or a
+// The answer to a staged test: the grid's in-phase and quadrature part in milliamperes and the split in per mille, or a
 // refusal with number, line and column.
 #[derive(Clone, Copy)]
 pub enum SplitAnswer {
@@ -25,7 +25,7 @@ const REFUSED_PART: u32 = 18;
 
 const REFUSED_NO_CURRENT: u32 = 19;
 
-// Grid current and split from a test's numbers: the injected current's in_phase_lem and quadrature part in milliamperes, then
+// Grid current and split from a test's numbers: the injected current's in-phase and quadrature part in milliamperes, then
 // those of each branch.
 pub fn split(parts: &[i64]) -> SplitAnswer
     ensures { result ≡ answer parts.now }

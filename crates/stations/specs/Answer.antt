@@ -41,7 +41,7 @@ TablesAfter s rowsBefore rowsAfter before after (Summary count stations) = Summa
 TablesAfter s rowsBefore rowsAfter before after (Refused number line column) = Untouched rowsBefore rowsAfter before after
 
 -- the answer and what it leaves in both tables. Three wrong programs: one that names the later line on a tie, and one that refuses with 20
--- after the rows are written, break `tables-are`; one that tests the summary table before the table of rows breaks `answer-is`.
+-- after the rows are written, break `tables_are`; one that tests the summary table before the table of rows breaks `answer_is`.
 pub record SummaryAnswered (s : List ℕ) (rowsBefore rowsAfter before after : List ℤ) (r : Summed) : Type 0 where
   pub answer_is : r ≡ summary_answer s (length rowsBefore) (length before)
   pub tables_are : TablesAfter s rowsBefore rowsAfter before after r

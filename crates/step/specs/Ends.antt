@@ -17,7 +17,7 @@ module _ (c : Case) where
   unfoldable pub power_of_two : ℕ
   power_of_two = 2 ^ (c.across - 2)
 
-  -- (1 − 0.5^(n−2))/D in 10^−9 per metre: of a square by the power of two, else by the half_power_lem
+  -- (1 − 0.5^(n−2))/D in 10^−9 per metre: of a square by the power of two, else by the half-power
   unfoldable pub share_ends : Interval
   share_ends =
       cond (equal_counts c) (per_metre (power_of_two - 1) (power_of_two * c.space))
@@ -39,10 +39,10 @@ module _ (c : Case) where
   unfoldable pub ls_twentieths : ℕ
   ls_twentieths = 15 * lc_mm c + 17 * lr_mm c
 
-  -- ρ·Ki·IG/LS, in m_v
+  -- ρ·Ki·IG/LS, in mV
   unfoldable pub driven_ends : Interval
   driven_ends = quotient_of (drive_ends c) (point (pos (50 * ls_twentieths))) 1
 
-  -- step voltage, in m_v
+  -- step voltage, in mV
   unfoldable pub step_voltage_ends : Interval
   step_voltage_ends = product_of driven_ends ks_ends (10 ^ 7)

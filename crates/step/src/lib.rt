@@ -31,7 +31,7 @@ fn power_of_two(c: Case) -> u64
     1u64 << (c.across - 2)
 }
 
-// (1 − 0.5^(n−2))/D in 10^-9 per metre, for what the case's counts give: of a square by the power of two, else by the half_power_lem.
+// (1 − 0.5^(n−2))/D in 10^-9 per metre, for what the case's counts give: of a square by the power of two, else by the half-power.
 fn spacing_share(c: Case, by: ByCounts) -> Interval
     requires bounds { Bounds c }
     requires by_value { by ≡ by_counts_of c }
@@ -76,7 +76,7 @@ pub fn ls(c: Case) -> u64
     15 * lc(c) + 17 * lr(c)
 }
 
-// ρ·Ki·IG/LS in m_v, for the case's LS and ρ·Ki·IG.
+// ρ·Ki·IG/LS in mV, for the case's LS and ρ·Ki·IG.
 fn driven(c: Case, length: u64, drive: Interval) -> Interval
     requires bounds { Bounds c }
     requires length_len { length ≡ ls_twentieths c }
@@ -86,7 +86,7 @@ fn driven(c: Case, length: u64, drive: Interval) -> Interval
     drive.quotient(Interval::point(50 * length), 1)
 }
 
-// Step voltage in m_v, for the case's LS, Ks and ρ·Ki·IG.
+// Step voltage in mV, for the case's LS, Ks and ρ·Ki·IG.
 pub fn step_voltage(c: Case, length: u64, factor: Interval, drive: Interval) -> Interval
     requires bounds { Bounds c }
     requires length_len { length ≡ ls_twentieths c }

@@ -8,7 +8,7 @@ use Rattle.case.specs.{declared.Case.{Case}, Case.{case_of}, Columns.{name_count
 use Rattle.row.specs.{Row.{RightRow, numbers, row_length}, Ends.{row_of}}
 
 -- some numbers are the row of a case, and that row is right. The case asked alone has the same row: claims/specs/Demands.antt,
--- `asked-alone`.
+-- `asked_alone`.
 pub record RowOf (c : Case) (row : List ℤ) : Type 0 where
   pub is : row ≡ numbers (row_of c)
   pub right : RightRow c (row_of c)

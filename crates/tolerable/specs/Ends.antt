@@ -30,7 +30,7 @@ module _ (c : Case) where
   unfoldable pub top_ends : ℕ → Interval
   top_ends weight = scaled_of (sum_of (point (pos 2000000)) (scaled_of layer_ends weight)) body_factor
 
-  -- that over √t, in m_v
+  -- that over √t, in mV
   unfoldable pub tolerable_ends : ℕ → Interval
   tolerable_ends weight = quotient_of (top_ends weight) time_root 50000
 

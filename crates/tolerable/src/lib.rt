@@ -67,7 +67,7 @@ fn top(c: Case, weight: u64) -> Interval
     Interval::point(2000000).sum(effect).scaled(body_factor(c))
 }
 
-// That over √t, in m_v.
+// That over √t, in mV.
 fn over_root(c: Case, weight: u64, root: Interval) -> Interval
     requires bounds { Bounds c }
     requires weight_bound { weight ≤ 12 }
@@ -77,7 +77,7 @@ fn over_root(c: Case, weight: u64, root: Interval) -> Interval
     top(c, weight).quotient(root, 50000)
 }
 
-// Tolerable touch and step voltage in m_v, from one root.
+// Tolerable touch and step voltage in mV, from one root.
 pub fn touch_and_step(c: Case) -> TouchAndStep
     requires { Bounds c }
     ensures { result ≡ touch_and_step c }

@@ -21,7 +21,7 @@ millionth A = decimal 1 6 ·f A.lower
 unfoldable pub hundred_thousandth : Ends → Fraction
 hundred_thousandth A = decimal 1 5 ·f A.lower
 
--- at most a millionth of the lower end and 3 m_v: ρ·Ki·IG/LM
+-- at most a millionth of the lower end and 3 mV: ρ·Ki·IG/LM
 unfoldable pub driven_width : Ends → Fraction
 driven_width A = decimal 1 6 ·f A.lower +f decimal 3 3
 
