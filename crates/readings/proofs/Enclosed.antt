@@ -10,7 +10,7 @@ use Rattle.exact.proofs.{Consistency.{consistent_exactly, consistent_sum, consis
 use Rattle.enclosure.{specs.{Enclosure.{Encloses}, Pi.{π_ends}}, proofs.{Basics.{encloses_same}, Constants.{π_encloses}}}
 use Rattle.enclosure.proofs.{Multiples.{encloses_rounded, encloses_multiple}, Sums.{encloses_sum}}
 use Rattle.readings.specs.{Reading.{Reading}, Taken.{most_product, product, Bounded}}
-use Rattle.readings.specs.Resistivity.{apparent, lesser, greater, together, least, greatest}
+use Rattle.readings.specs.Resistivity.{apparent, lesser, greater, together}
 use Rattle.readings.specs.Ends.{with_product, products_of, two_pi_digits, two_pi_below, two_pi_above, two_pi}
 use Rattle.readings.proofs.Extremes.{fine, two_pi_times, consistent_lesser, consistent_greater, encloses_lesser, encloses_greater}
 

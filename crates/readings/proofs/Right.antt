@@ -2,7 +2,7 @@
 use Prim.Native.Nat.{ℕ, ◌*◌, ◌^◌, ◌≤◌, ◌<◌}
 use mathlib.Core.{Path.{◌≡◌, refl, ap}, List.{List, [], ◌∷◌}}
 use native.Mathlib.Omega.{arith}
-use lib.{Dec.{lit<}, IntN.{ℤ, pos}, ListN.{length}}
+use lib.{Dec.{lit<}, IntN.{ℤ}, ListN.{length}}
 use Rattle.whole.specs.Signed.{plus, minus}
 use Rattle.interval.{specs.{declared.Interval.{Interval}, Operations.{outward_of}}, proofs.Natural.{natural_outward}}
 use Rattle.exact.specs.{Fraction.{◌≈f◌, whole, inv, ◌·f◌}, Exact.{Exact, exactly, ◌·x◌, ◌÷x◌}, Depth.{work_depth, Consistent, SameEnds}}
