@@ -7,7 +7,7 @@ use lib.Dec.{T, leb, leb→le, lit≤}
 use mir.Facts.{and_yes}
 use Rattle.interval.specs.Operations.{natural}
 use Rattle.exact.specs.{Fraction.{Fraction, ◌≤f◌, ◌<f◌, whole, ◌+f◌, ◌−f◌, ◌·f◌, ◌÷f◌}, Ends.{Ends, combine, ◌+e◌, ◌−e◌, ◌·e◌, ◌÷e◌}}
-use Rattle.exact.specs.{Exact.{Exact, exactly, ◌+x◌, ◌−x◌, ◌·x◌, ◌÷x◌, minus, Holds}, Reported.{ten, reported}}
+use Rattle.exact.specs.{Exact.{Exact, exactly, ◌+x◌, ◌−x◌, ◌·x◌, ◌÷x◌, Holds}, Reported.{ten, reported}}
 use Rattle.exact.{specs.Depth.{work_depth, Consistent, Within, Proper, Positive}, proofs.Order.{refl≤, lt_of_lt_of_le}}
 use Rattle.exact.proofs.Points.{Pointwise, proper_combine, sum_point, difference_point, product_point, quotient_point}
 use Rattle.exact.proofs.{Inclusion.{within_refl, within_trans, within_combine}, Holding.{holds_depth}}

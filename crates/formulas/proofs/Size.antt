@@ -60,7 +60,7 @@ module _ (c : Case) (f : ℕ) where
 -- ---- the size against the exact value
 
 module _ (c : Case) (f : ℕ) (d : 0 < duty c f) where
-  -- m over I-as-Kf, and I-as-Kf
+  -- m over I·Kf, and I·Kf
   share : ℕ → Fraction
   share m = over (pos (m * 10 ^ 14)) (record { count = duty c f; positive = d })
 
@@ -75,7 +75,7 @@ module _ (c : Case) (f : ℕ) (d : 0 < duty c f) where
   unfolding load whole decimal ◌·f◌ duty
   load_pos = omega (arith, d)
 
-  -- the squares of m over I-as-Kf and of √t
+  -- the squares of m over I·Kf and of √t
   squares : (m : ℕ) → (m * 10 ^ 14) ^ 2 * 10 ^ 3 ≡ m ^ 2 * 10 ^ 31
   squares m = omega (arith, square m, square (m * 10 ^ 14))
 
@@ -114,7 +114,7 @@ module _ (c : Case) (f : ℕ) (d : 0 < duty c f) where
       above_multiple load (whole m) (share m) consistent_time load_pos (load_share m).fro
       (above_root 2 time (m * 10 ^ 14) unit (omega arith) (high m (size_least c f m l)))
 
--- ---- the bounds of Kf and of I-as-Kf, for a factor from 1 to √5
+-- ---- the bounds of Kf and of I·Kf, for a factor from 1 to √5
 
 pub kf_bounds : {metal : ℕ} → Between 1 metal 11 → Between 700 (Kf metal) 3005
 unfolding Kf constants inside

@@ -26,7 +26,7 @@ module _ (c : Case) (e : c.across ≡ c.along) where
   equal : equal_counts c ≡ true
   equal = eq-eqb c.across c.along e
 
-  -- ---- n, s, the inner weight and the half_power_lem
+  -- ---- n, s, the inner weight and the half power
 
   pub n_whole : n c ≡ exactly (whole c.across)
   unfolding n

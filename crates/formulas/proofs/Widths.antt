@@ -38,20 +38,20 @@ widths =
     worked (factor_width (reported billionths (from 1026183047))) (decimal 1 6)
     -- 1/500,000 of 1957.957 A, and 2 microamperes
     ∷ worked (current_width (reported μA (from 1957957000))) (decimal 3917914 9)
-    -- 1/10,000 of 840.5 V, and 10 m_v
+    -- 1/10,000 of 840.5 V, and 10 mV
     ∷ worked (tolerable_width (reported m_v (from 840500))) (decimal 9405 5)
     -- 1/10,000 of 2.776 ohms, and 2 micro-ohms
     ∷ worked (resistance_width (reported μΩ (from 2776000))) (decimal 2796 7)
-    -- 1/2,000 of 5296.608 V, and 10 m_v
+    -- 1/2,000 of 5296.608 V, and 10 mV
     ∷ worked (rise_width (reported m_v (from 5296608))) (decimal 2658304 6)
-    -- 1/100,000 of 400·2.272·1908/1540, and 10 m_v
+    -- 1/100,000 of 400·2.272·1908/1540, and 10 mV
     ∷ worked (mesh_width sample current) (whole 32739904 ÷f whole 1540000000)
-    -- 1/100,000 of 400·2.272·1908/1155, and 10 m_v
+    -- 1/100,000 of 400·2.272·1908/1155, and 10 mV
     ∷ worked (step_width sample current) (whole 28889904 ÷f whole 1155000000)
     -- with rods: over 1690 and over 1282.5
     ∷ worked (mesh_width rodded current) (whole 34239904 ÷f whole 1690000000)
     ∷ worked (step_width rodded current) (whole 30164904 ÷f whole 1282500000)
-    -- of IEEE Std 80-2013, B.3, na is 79/7 and Ki of it 81/35: 1/100,000 of 400·81/35·1908 over 2039 and over 1567.25, and 10 m_v
+    -- of IEEE Std 80-2013, B.3, na is 79/7 and Ki of it 81/35: 1/100,000 of 400·81/35·1908 over 2039 and over 1567.25, and 10 mV
     ∷ worked (mesh_width rectangle current) (whole 665921 ÷f whole 35682500)
     ∷ worked (step_width rectangle current) (whole 2333459 ÷f whole 109707500)
     ∷ []

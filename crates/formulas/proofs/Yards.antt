@@ -138,14 +138,14 @@ starred =
     (exact_root _ 1000 1 (ten 0) _ (lits tt) refl tt, exact_root _ 1000 1 (ten 0) _ (lits tt) refl tt)
     then (exact_root _ 250 1 halves _ (lits tt) refl tt, exact_root _ 250 1 halves _ (lits tt) refl tt)
     then (exact_root _ 1000 1 (ten 0) _ (lits tt) refl tt, exact_root _ 1000 1 (ten 0) _ (lits tt) refl tt)
-    then sized_3000 20000 1 refl refl
-    then sized_3000 20000 4 refl refl
-    then sized_3000 20000 8 refl refl
-    then sized_1000 1000 1 refl refl
-    then sized_1000 1001 1 refl refl
-    then sized_1000 986 1 refl refl
-    then sized_1000 987 1 refl refl
-    then sized_1000 1000 5 refl refl
+    then sized_3000 20000 1 {kcmil = 244} refl refl
+    then sized_3000 20000 4 {kcmil = 364} refl refl
+    then sized_3000 20000 8 {kcmil = 640} refl refl
+    then sized_1000 1000 1 {kcmil = 8} refl refl
+    then sized_1000 1001 1 {kcmil = 8} refl refl
+    then sized_1000 986 1 {kcmil = 7} refl refl
+    then sized_1000 987 1 {kcmil = 8} refl refl
+    then sized_1000 1000 5 {kcmil = 13} refl refl
     then reports_known billionths factor_width 1004411240 1004411242 (consistent-Df (bounds (at 20000 1 3000) refl))
     (factor_3000_10 (at 20000 1 3000)) tt
     then reports_known billionths factor_width 1013176106 1013176108 (consistent-Df (bounds (at 1000 1 1000) refl))
