@@ -1,5 +1,5 @@
 -- Sizes and widths of n and Ki, from the test.
-use Prim.Native.Nat.{ℕ, ◌+◌, ◌-◌, ◌*◌, ◌/◌, ◌^◌, ◌≤◌, ◌<◌}
+use Prim.Native.Nat.{ℕ, ◌+◌, ◌*◌, ◌/◌, ◌^◌, ◌≤◌, ◌<◌}
 use mathlib.Core.{Path.{◌≡◌}, Bool.{Bool, true, false, cond}}
 use native.Mathlib.Omega.{arith}
 use lib.{Dec.{eqb}, IntN.{pos}}

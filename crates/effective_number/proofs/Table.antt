@@ -1,5 +1,5 @@
 -- n and Ki at all 576 pairs of counts: one computed test.
-use Prim.Native.Nat.{ℕ, zero, suc, ◌+◌, ◌-◌, ◌*◌, ◌/◌, ◌^◌, min, ◌≤◌}
+use Prim.Native.Nat.{ℕ, zero, suc, ◌+◌, ◌*◌, ◌/◌, ◌^◌, min, ◌≤◌}
 use mathlib.Core.{Bool.{cond}, List.{List, [], ◌∷◌}}
 use native.Mathlib.{Omega.{arith}, Decide.{dec_le}}
 use lib.Dec.{eqb}
