@@ -4,7 +4,7 @@ use mathlib.Core.{Path.{◌≡◌}, Bool.{false, ◌&&◌}, List.{List}}
 use native.Mathlib.{Omega.{arith}, Nat.{mul-le-mul}}
 use lib.{Dec.{eqb}, IntN.{ℤ, pos, nat_abs}, ListN.{length, get_or, drop, length-drop}, Seq.{get_or-drop}}
 use Rattle.staged.specs.{declared.SplitAnswer.TheVariants.{Grid}, Check.{fewest_numbers, largest_part, none_injected}}
-use Rattle.staged.specs.{Current.{in_phase, quadrature, injected, square_of}, Answer.{grid_square, injected_square, grid_answer}}
+use Rattle.staged.specs.{Current.{in_phase, quadrature, square_of}, Answer.{grid_square, injected_square, grid_answer}}
 use Rattle.staged.specs.Parts.{largest_grid_part, Sound, Parts, GridPart}
 use Rattle.long_root.specs.{Split.{split_of}, LongRoot.{Squares}}
 use Rattle.staged.proofs.{Checks.{count_low, count_high, parts_inside}, GridCurrent.{first_kept}}
