@@ -2,16 +2,16 @@
 // arguments: what breaks a rule is refused.
 #![tactic(auto)]
 
+ghost use Rattle.hocsimbur.specs.Asked.{FactorAnswered, SizeAnswered, TolerableAnswered, ResistanceAnswered, RowAnswered};
+
 pub use case::{Case, Counted};
 use case::{Judged, judge};
 pub use conversion::{carry, carry_back};
+pub use decision::Verdict;
 use decrement::df;
 pub use headroom::{Room, headroom};
 // A pair of ends, offered for its two numbers. Its methods, which require conditions on their arguments, are for the crates below and not
 // among the operations offered.
-ghost use Rattle.hocsimbur.specs.Asked.{FactorAnswered, SizeAnswered, TolerableAnswered, ResistanceAnswered, RowAnswered};
-
-pub use decision::Verdict;
 pub use interval::{Interval, Pair};
 pub use logarithm::logarithm;
 pub use margin::{Compared, margins};
