@@ -21,7 +21,7 @@ pub bounds-readings-k : goal.bounds-readings-k
 bounds-readings-k c = omega (arith, c.loop-k.invariant.within)
 
 pub overflow_cast-a : goal.overflow_cast-a
-overflow_cast-a c = omega (arith, c.shared_slice_known-in-loop-k-1.given (2 * (c.loop-k.k - 1)))
+overflow_cast-a c = omega (arith, c.type_inv.readings (2 * (c.loop-k.k - 1)))
 
 pub overflow_mul-r : goal.overflow_mul-r
 overflow_mul-r c = omega (arith, c.loop-k.invariant.within)
@@ -36,7 +36,7 @@ pub bounds-readings-k-in-loop-k : goal.bounds-readings-k-in-loop-k
 bounds-readings-k-in-loop-k c = omega (arith, c.loop-k.invariant.within)
 
 pub overflow_cast-r : goal.overflow_cast-r
-overflow_cast-r c = omega (arith, c.shared_slice_known-in-loop-k-2-1.given (2 * (c.loop-k.k - 1) + 1))
+overflow_cast-r c = omega (arith, c.type_inv.readings (2 * (c.loop-k.k - 1) + 1))
 
 -- the next pair's a·R and the sum so far
 module _ (c : After-shared_slice_known-in-loop-k-2-1) where
