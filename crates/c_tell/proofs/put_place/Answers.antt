@@ -2,12 +2,10 @@
 use Prim.Native.Nat.{ℕ, ◌≤◌, ◌<◌}
 use mathlib.Core.{Path.{◌≡◌}, List.{List, [], ◌∷◌}}
 use native.Mathlib.Omega.{arith}
-use borrow.Author.Rules.{rules}
 use lib.ListN.{length, set}
 use Rattle.case.specs.declared.Counted.{Counted, TheVariants.{Count, Refused}}
 use Rattle.c_tell.specs.Place.{place_after}
-use Rattle.c_tell.proofs.put_place.Statement.{statement}
-use Rattle.c_tell.proofs.put_place.Tie as tie
+use Rattle.c_tell.proofs.put_place.Goals as goal
 
 -- of a refusal, by the length of the place
 written : {a : Counted} {n l k : ℕ} (p : List ℕ) → a ≡ Refused n l k → 2 ≤ length p → set (set p 0 l) 1 k ≡ place_after a p
@@ -26,16 +24,11 @@ rows_kept : {a : Counted} {n : ℕ} (p : List ℕ) → a ≡ Count n → p ≡ p
 unfolding place_after
 rows_kept p e = rw e
 
-returns : tie.Need-returns
-returns c = rows_kept c.before.before.args.place.now c.enum_told.given.1
+pub returns-in-Count : goal.returns-in-Count
+returns-in-Count c = rows_kept c.args.place.now c.in-Count.is
 
-returns_2 : tie.Need-returns-2
-returns_2 c = written c.before.before.before.before.args.place.now c.before.before.answer.given.1 c.if1.true
+pub returns-then-place-ge2 : goal.returns-then-place-ge2
+returns-then-place-ge2 c = written c.args.place.now c.in-Refused.is c.if-place-ge2.true
 
-returns_3 : tie.Need-returns-3
-returns_3 c = kept c.before.before.before.before.args.place.now c.before.before.answer.given.1 c.if1.false
-
-pub put_place_spec : {M : Type 1} → statement M
-put_place_spec =
-    tie.close (tie.spec (λ c. search rules) (λ c. search rules) (λ c. search rules) (λ c. search rules) returns (λ c. search rules)
-    returns_2 returns_3)
+pub returns-else-place-ge2 : goal.returns-else-place-ge2
+returns-else-place-ge2 c = kept c.args.place.now c.in-Refused.is c.if-place-ge2.false
