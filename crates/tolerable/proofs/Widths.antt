@@ -1,4 +1,4 @@
--- The tolerable voltages' ends are no further apart than §5.8 allows: 1/10,000 of the lower end plus 10 m_v.
+-- The tolerable voltages' ends are no further apart than §5.8 allows: 1/10,000 of the lower end plus 10 mV.
 use Prim.Native.Nat.{ℕ, ◌+◌, ◌*◌, ◌/◌, ◌≤◌, ◌<◌}
 use native.Mathlib.{Omega.{arith}, Nat.{mul-le-mul_left, mul-le-mul_right, le_trans, lt_of_mul-lt-mul_right, le_of_suc-le-suc}}
 use lib.Dec.{lit≤}
