@@ -75,7 +75,7 @@ def ensured(text):
     """What each function of `promises` ensures of the operation that it calls."""
     lines = []
     body = "\n".join(without_comments(text, "//"))
-    for head, name, contract, code in re.findall(r"(pub fn (\w+)[^{]*?)\s*(ensures \{.*?⌝ \})?\s*\n\{\n(.*?)\n\}", body, flags=re.S):
+    for head, name, contract, code in re.findall(r"(pub fn (\w+)[^{]*?)\s*(ensures(?: \w+)? \{.*?\})?\s*\n\{\n(.*?)\n\}", body, flags=re.S):
         lines.append(f"{name}: {plain(code)} {plain(contract) or 'ensures nothing'}")
     return lines
 
@@ -121,15 +121,15 @@ class Below:
 
     def used(self, crate, name):
         parts = name.split(".")
-        if not parts[0].startswith("Rattle·"):
+        if parts[0] != "Rattle" or not (ROOT / "crates" / parts[1]).exists():
             return
-        named = parts[0].split("·")[1]
-        if parts[1] != "specs":
+        named = parts[1]
+        if parts[2] != "specs":
             raise SystemExit(f"page: a definition of {crate} rests on {name}, which is no definition")
-        if parts[2] == "declared":
-            self.type(named, next(part for part in parts[3:] if part[0].isupper()))
+        if parts[3] == "declared":
+            self.type(named, next(part for part in parts[4:] if part[0].isupper()))
             return
-        path = f"crates/{named}/specs/{parts[2]}.antt"
+        path = f"crates/{named}/specs/{parts[3]}.antt"
         if named != "claims" and path not in self.files:
             self.files[path] = ""
             self.files[path] = self.visit(named, path)

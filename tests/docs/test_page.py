@@ -37,37 +37,39 @@ def instead(old, new):
 
 # Ways to say less that leave every proof in place once its own line is removed: (what, file, cut).
 CUTS = [
-    ("the rules are not enough", SPECS + "Claims.antt", without("  pub rules-enough :")),
+    ("the rules are not enough", SPECS + "Claims.antt", without("  pub rules_enough :")),
     ("the starred yards are not claimed", SPECS + "Claims.antt", without("  pub starred :")),
     ("less current for squares alone", SPECS + "Claims.antt",
-     instead("LessFault (caseAt s i) (caseAt t j)\n", "LessFault (caseAt s i) (caseAt t j) → caseAt s i .across ≡ caseAt s i .along\n")),
+     instead("LessFault (case_at s i) (case_at t j)\n", "LessFault (case_at s i) (case_at t j) → (case_at s i).across ≡ (case_at s i).along\n")),
     ("no potential rise in a row", SPECS + "Demands.antt", without("  pub rise :")),
-    ("unsafe need not be true", SPECS + "Demands.antt", without("  pub unsafe-true :")),
+    ("unsafe need not be true", SPECS + "Demands.antt", without("  pub unsafe_true :")),
     ("8 one way", SPECS + "Demands.antt",
      instead("(r ≡ Refused 8 0 0) ↔ TooShort s (length before) 20", "r ≡ Refused 8 0 0 → TooShort s (length before) 20")),
     ("safe one way", SPECS + "Demands.antt",
-     instead("(verdictAt table i ≡ pos 1) ↔ EndsBelow table i", "verdictAt table i ≡ pos 1 → EndsBelow table i")),
+     instead("(verdict_at table i ≡ pos 1) ↔ EndsBelow table i", "verdict_at table i ≡ pos 1 → EndsBelow table i")),
     ("a found yard need not be the first", SPECS + "Yards.antt", without("  pub first :")),
     ("none need not be none", SPECS + "Yards.antt", without("  pub none : (l j")),
-    ("a released station's wire may be too thin", SPECS + "Releases.antt", without("  pub own-wire :")),
+    ("a released station's wire may be too thin", SPECS + "Releases.antt", without("  pub own_wire :")),
     ("of two equal seasons either is the worst", SPECS + "Summary.antt", without("  pub earlier :")),
     ("a carried sheet in any order of names", SPECS + "Carried.antt", without("  pub order :")),
-    ("bytes past the last row may change", SPECS + "Requests.antt", without("  pub rest-kept :")),
+    ("bytes past the last row may change", SPECS + "Requests.antt", without("  pub rest_kept :")),
     ("any split that is enough", SPECS + "Measured.antt", without("    pub smallest :", "\n\n")),
     ("no caller asks for a row", PROMISES, without("pub fn ask_row(", "\n}\n")),
     ("the caller of margins ensures nothing", PROMISES,
-     instead("    ensures { λ r. ⌜ MarginsOutcome (now (row .entry)) r ⌝ }\n", "")),
+     instead("    ensures { MarginsOutcome row.now result }\n", "")),
 ]
 
 
 def offered():
     """The operations that `hocsimbur` offers, as the callers name them, and the entries for programs in C."""
     text = page.read_file("crates/hocsimbur/src/lib.rt")
-    names = re.findall(r"^pub use [a-z_]+::([a-z_]+);", text, flags=re.MULTILINE) + re.findall(r"^pub fn ([a-z_]+)", text, flags=re.MULTILINE)
+    used = re.findall(r"^pub use [a-z_]+::(?:(\w+)|\{([^}]+)\});", text, flags=re.MULTILINE)
+    names = [name for one, more in used for name in re.findall(r"\b[a-z_]+\b", one or more)]
+    names += re.findall(r"^pub fn ([a-z_]+)", text, flags=re.MULTILINE)
     entries = []
     for path in sorted((ROOT / "crates").glob("c_*/src/*.rt")):
         crate = path.parents[1].name
-        for name in re.findall(r'#\[no_mangle\]\npub extern "C" fn ([a-z_]+)', path.read_text(encoding="utf-8")):
+        for name in re.findall(r'#\[unsafe\(no_mangle\)\]\npub extern "C" fn ([a-z_]+)', path.read_text(encoding="utf-8")):
             entries.append(f"{crate}::{name}")
     return [f"hocsimbur::{name}" for name in names] + entries
 
