@@ -1,8 +1,8 @@
 -- Widths of what depends on n, at all pairs of counts: the test's numbers are those of the named ends.
 use Prim.Native.Nat.{ℕ, ◌+◌, ◌-◌, ◌*◌, ◌^◌, ◌≤◌, ◌<◌}
-use mathlib.Core.{Path.{◌≡◌, ◌∙◌}, Bool.{false}, List.{[], ◌∷◌}}
-use native.Mathlib.{Omega.{arith}, Nat.{mul-le-mul_left, le_trans, le_of_mul-le-mul_right}}
-use lib.{Pow.{pow_pos}, Dec.{eqb, lit≤, lit<}}
+use mathlib.Core.{Path.{◌≡◌}, Bool.{false}, List.{[], ◌∷◌}}
+use native.Mathlib.{Omega.{arith}, Nat.{le_trans, le_of_mul-le-mul_right}}
+use lib.{Dec.{eqb, lit≤, lit<}}
 use Rattle.whole.proofs.Rounding.{floor_div_falls}
 use Rattle.interval.specs.{declared.Interval.{Interval}, Operations.{natural}, Span.{Span}}
 use Rattle.interval.proofs.Natural.{point_natural, natural_difference, natural_scaled, natural_product, natural_quotient}

@@ -1,5 +1,5 @@
 -- The ends of what depends on n include the exact values' ends. Each line follows its formula's line.
-use Prim.Native.Nat.{ℕ, ◌+◌, ◌*◌, ◌≤◌, ◌<◌}
+use Prim.Native.Nat.{ℕ, ◌+◌, ◌*◌, ◌<◌}
 use mathlib.Core.{Path.{◌≡◌, refl}, Bool.{false}}
 use native.Mathlib.{Omega.{arith}, Nat.{le_trans}}
 use lib.Dec.{eqb, lit≤}
@@ -94,7 +94,7 @@ module _ {c : Case} (b : Bounds c) where
       let q = quantity_n b in
       encloses_product (ten 9) 1000000000 refl (quantity_quotient two q).consistent
       (consistent_ln (twice_n b).positive (twice_n b).consistent)
-      (encloses_quotient (ten 9) 1000000000 refl (span_divisor (lit≤ tt) number .0) two.consistent q.consistent
+      (encloses_quotient (ten 9) 1000000000 refl (span_divisor (lit≤ tt) number).0 two.consistent q.consistent
       (encloses_whole 2 (ten 7) refl)
       number_encloses)
       log_encloses
