@@ -32,7 +32,7 @@ def sections():
         body = text[start.end():end]
         definitions = re.search(r"^Definitions: (.+)\.$", body, flags=re.MULTILINE)
         claims = re.search(r"^Claims: (.+)\.$", body, flags=re.MULTILINE)
-        yield (start[1], LINK.findall(definitions[1]) if definitions else [], re.findall(r"`([a-z-]+)`", claims[1]) if claims else [])
+        yield (start[1], LINK.findall(definitions[1]) if definitions else [], re.findall(r"`([a-z_]+)`", claims[1]) if claims else [])
 
 
 def declared(path):
@@ -45,7 +45,7 @@ def page():
     """Of each field of the page the sections that the comment above it, or above its group, begins with."""
     found, here, comment = {}, [], False
     for line in PAGE.read_text(encoding="utf-8").split("\n"):
-        field = re.match(r"  pub ([a-z-]+) :", line)
+        field = re.match(r"  pub ([a-z_]+) :", line)
         if line.startswith("  --"):
             here = cited(line.split(":")[0]) if not comment else here
             comment = True
@@ -72,7 +72,7 @@ class Specification(unittest.TestCase):
         self.assertEqual(by_section, by_field)
 
     def test_every_field_of_the_page_is_cited(self):
-        fields = re.findall(r"^  pub ([a-z-]+) :", PAGE.read_text(encoding="utf-8"), flags=re.MULTILINE)
+        fields = re.findall(r"^  pub ([a-z_]+) :", PAGE.read_text(encoding="utf-8"), flags=re.MULTILINE)
         self.assertEqual(sorted(fields), sorted({claim for _, _, claims in sections() for claim in claims}))
         self.assertEqual(sorted(fields), sorted(page()))
 
