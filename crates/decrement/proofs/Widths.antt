@@ -8,7 +8,7 @@ use Rattle.whole.proofs.Rounding.{floor_div_above}
 use Rattle.interval.specs.{Root.{IsRoot}, Operations.{natural, product_of}, Span.{Span}}
 use Rattle.interval.proofs.{Span.{span_natural, span_sum, span_product}, Rules.{lits}, NumeralSpans.{numeral_point, numeral_wider}}
 use Rattle.enclosure.{specs.SquareRoot.{square_root}, proofs.SquareRoot.{square_root_lem}}
-use Rattle.exponential.specs.Ends.{billion, unit, large, halvings_of, argument_of, nested_of, series_of, inverse_of, squared_of, end_of}
+use Rattle.exponential.specs.Ends.{billion, unit, halvings_of, argument_of, nested_of, series_of, inverse_of, squared_of, end_of}
 use Rattle.exponential.proofs.Sizes.{halvings_reach, halvings_least, nested_size, series_least}
 use Rattle.case.specs.{declared.Case.{Case}, Bounds.{Bounds}}
 use Rattle.decrement.specs.Ends.{ratio_ends, rest_ends, square_ends, df_ends}
