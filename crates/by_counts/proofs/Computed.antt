@@ -1,5 +1,5 @@
 -- The ends of what depends on the two counts, as numbers that compute.
-use Prim.Native.Nat.{ℕ, ◌+◌, ◌-◌, ◌*◌, ◌/◌, ◌≤◌, ◌<◌}
+use Prim.Native.Nat.{ℕ, ◌+◌, ◌-◌, ◌*◌, ◌/◌}
 use mathlib.Core.{Path.{◌≡◌, refl}, Bool.{Bool, true, false, cond}}
 use native.Mathlib.Omega.{arith}
 use lib.Dec.{eqb, lit≤, lit<}

@@ -26,7 +26,7 @@ give low width x y more = (low ≼ x) ∷ (x ≼ low) ∷ (low + width ≼ y) �
 abbrev inside : ℕ → ℕ → List Rule → List Rule
 inside a b more = (2 ≼ a) ∷ (a ≼ 25) ∷ (2 ≼ b) ∷ (b ≼ 25) ∷ more
 
--- from n's ends l and h, and those of the exponent of the half_power_lem
+-- from n's ends l and h, and those of the exponent of the half power
 entry_rules_by : (t : Bool) (r l h x y : ℕ) → Entry → List Rule
 entry_rules_by t r l h x y e =
     give e.0 e.1 l h

@@ -2,7 +2,6 @@
 use Prim.Native.Nat.{ℕ, ◌-◌, ◌<◌}
 use mathlib.Core.Path.{◌≡◌}
 use native.Mathlib.{Omega.{arith}, Nat.{mul_comm}}
-use lib.Dec.{eqb}
 use borrow.Author.Tests.{ne_eqb}
 use Rattle.interval.specs.declared.Interval.{Interval}
 use Rattle.effective_number.specs.{Counts.{spacings, half_perimeter, meshes}, Number.{mesh_root, nb_ends, product_ends, n_ends}}
