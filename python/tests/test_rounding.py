@@ -112,7 +112,7 @@ class Table(unittest.TestCase):
     def test_theorems_are_claims(self):
         claims = (ROOT / "docs" / "specification.md").read_text(encoding="utf-8")
         for name, one in rounding.DIRECTIONS.items():
-            theorem = re.fullmatch(r"theorem ([a-z-]+)", one.rests_on)
+            theorem = re.fullmatch(r"theorem ([a-z_]+)", one.rests_on)
             self.assertTrue(theorem or one.rests_on == (rounding.TESTED if one.side != rounding.NEITHER else ""), name)
             if theorem:
                 self.assertIn(f"`{theorem[1]}`", claims)

@@ -1,5 +1,5 @@
 """Tests of the calculator for four-pin readings, and the judge of the questions of kind `soil` of
-crates/questions: its stdout, which `rt check questions` compares with what the program prints for its stdin.
+crates/questions: its stdout, which `rt ci questions` compares with what the program prints for its stdin.
 
     python3 -m unittest discover -s tests
 """

@@ -1,4 +1,4 @@
-"""Judges the questions of kind `split` of crates/questions: its stdout, which `rt check questions` compares with what the
+"""Judges the questions of kind `split` of crates/questions: its stdout, which `rt ci questions` compares with what the
 program prints for its stdin, line by line by the words of request (l) of document 02; and tests the calculator itself.
 
     python3 -m unittest discover -s tests

@@ -1,7 +1,7 @@
 """Asks the program `questions` for the factor of every clear time, X/R and frequency, 239,360 in all, and
 judges each pair by the calculator.
 
-    rt check questions && python3 -m tests.questions.factors [--program target/bin/questions]
+    make target/bin/questions && python3 -m tests.questions.factors [--program target/bin/questions]
 
 Every pair is judged at depth 12, and a share at depth 3 too. What is wrong is printed, and the exit status
 is then 1; at the end stand the count and the widest pair. It takes some minutes and is not in the gate.

@@ -1,6 +1,6 @@
 """The fewest lines for a given side, after request (k) of document 02, against the program `questions`.
 
-    rt check questions rows && python3 -m tests.questions.fewest [--seed S] [--count N] [--programs target/bin]
+    make target/bin/questions target/bin/rows && python3 -m tests.questions.fewest [--seed S] [--count N] [--programs target/bin]
 
 The list of yards and the refusals are written from the document; the verdict of each yard is that of the
 program `rows`, or, for the stored questions, one that every right program gives.

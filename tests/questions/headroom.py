@@ -1,6 +1,6 @@
 """The headroom of a case, against the program `questions`.
 
-    rt check questions && python3 -m tests.questions.headroom [--seed S] [--count N] [--program target/bin/questions]
+    make target/bin/questions && python3 -m tests.questions.headroom [--seed S] [--count N] [--program target/bin/questions]
 
 "After the checks of one case (5, 6), the greatest fault current in 100..80000 at which the case, all else
 equal, is answered safe, or none." Exact fractions and the allowed widths give up to which fault current

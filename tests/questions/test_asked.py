@@ -1,4 +1,4 @@
-"""Judges the questions asked alone: crates/questions/stdout, which `rt check questions` compares with what the
+"""Judges the questions asked alone: crates/questions/stdout, which `rt ci questions` compares with what the
 program prints for crates/questions/stdin, against the separately written calculator.
 
     python3 -m unittest discover -s tests

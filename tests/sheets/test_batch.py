@@ -1,4 +1,4 @@
-"""Judges a batch of random sheets, sound and damaged: those of kind `rows` of crates/sheets, whose stdout `rt check sheets`
+"""Judges a batch of random sheets, sound and damaged: those of kind `rows` of crates/sheets, whose stdout `rt ci sheets`
 compares with what the program prints for its stdin, against the separately written calculator.
 
 Each sheet is answered four times: all numbers, then the verdicts, each for a table with room for

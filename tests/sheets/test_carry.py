@@ -1,4 +1,4 @@
-"""Judges sheets carried over: those of kind `carry` of crates/sheets, whose stdout `rt check sheets` compares with what the
+"""Judges sheets carried over: those of kind `carry` of crates/sheets, whose stdout `rt ci sheets` compares with what the
 program prints for its stdin, answer by answer by the words of request (e) of document 02; what the
 programs `carry` and `carry_back` print for document 01's sample; and tests the conversion itself.
 

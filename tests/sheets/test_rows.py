@@ -1,4 +1,4 @@
-"""Judges the rows of a sheet: crates/rows/stdout, which `rt check rows` compares with what the program
+"""Judges the rows of a sheet: crates/rows/stdout, which `rt ci rows` compares with what the program
 prints for crates/rows/stdin, against the separately written calculator.
 
     python3 -m unittest discover -s tests

@@ -1,7 +1,7 @@
 """The program `verdict` is run on document 01's sample sheet, whose ms each clock has and whose lines
 each count, at 60 Hz, and prints what document 01 shows, with the conductor sizes of request (d).
 
-`rt check verdict` compares the program's run with these files. test_batch.py judges the same listing of many
+`rt ci verdict` compares the program's run with these files. test_batch.py judges the same listing of many
 sheets.
 """
 

@@ -19,14 +19,14 @@ class Direction(NamedTuple):
 
 
 DIRECTIONS: Dict[str, Direction] = {
-    "soil": Direction(UP, "a drier soil raises the voltages by more than what is tolerable", "theorem drier-soil"),
+    "soil": Direction(UP, "a drier soil raises the voltages by more than what is tolerable", "theorem drier_soil"),
     "layer": Direction(DOWN, "a less resistive surface layer lowers what is tolerable", TESTED),
     "thick": Direction(BY_LAYER, "a thinner layer shields less where it is more resistive than the soil", TESTED),
-    "shock": Direction(UP, "a longer shock lowers what is tolerable", "theorem no-worse"),
+    "shock": Direction(UP, "a longer shock lowers what is tolerable", "theorem no_worse"),
     "clear": Direction(DOWN, "a faster clearing has a higher decrement factor", TESTED),
     "wire": Direction(UP, "a longer back-up time needs a larger conductor", TESTED),
-    "fault": Direction(UP, "a higher fault current raises the voltages and the conductor size", "theorem no-worse"),
-    "split": Direction(UP, "a greater part raises the voltages", "theorem no-worse"),
+    "fault": Direction(UP, "a higher fault current raises the voltages and the conductor size", "theorem no_worse"),
+    "split": Direction(UP, "a greater part raises the voltages", "theorem no_worse"),
     "xr": Direction(UP, "a higher X/R has a higher decrement factor", TESTED),
     "dia": Direction(DOWN, "a thinner conductor raises the mesh voltage and has less area", TESTED),
     "rodlen": Direction(DOWN, "shorter rods raise the voltages", TESTED),
