@@ -37,7 +37,7 @@ module _ {c : Case} (b : Bounds c) where
 
   -- ---- ρ·Ki·IG/LS
 
-  -- its ends, in m_v
+  -- its ends, in mV
   pub driven_low : ℕ
   driven_low = low b * 1 / (50 * ls_twentieths c)
 

@@ -1,4 +1,4 @@
--- The step voltage's ends are no further apart than allowed: 1/100,000 of ρ·Ki·IG/LS, with Ki of na and IG its upper end, plus 10 m_v.
+-- The step voltage's ends are no further apart than allowed: 1/100,000 of ρ·Ki·IG/LS, with Ki of na and IG its upper end, plus 10 mV.
 use Prim.Native.Nat.{ℕ, ◌+◌, ◌*◌, ◌^◌, ◌≤◌, ◌<◌}
 use native.Mathlib.{Omega.{arith}, Nat.{mul-le-mul_left, mul-le-mul_right}}
 use lib.{Dec.{lit≤, lit<}, IntN.{pos}}
@@ -42,7 +42,7 @@ module _ {c : Case} (b : Bounds c) where
       trans≤ (quotient_low (pos (low b)) (pos (driven_low b)) (length_pos b) (ten 9) (ten 6) (ten 3) (pos≤ (omega (arith, driven_below b))))
       (cong÷ (LS_pos b) (refl≈ _) (length_is c)).fro
 
-  -- 10/10^7 of the lower end of ρ·Ki·IG/LS, and 6 m_v
+  -- 10/10^7 of the lower end of ρ·Ki·IG/LS, and 6 mV
   step_near : AtMost (decimal 10 7 ·f over (pos (driven_low b)) m_v +f decimal 6 3) (reported m_v (step_voltage_ends c))
   unfolding step_voltage_ends
   step_near =
