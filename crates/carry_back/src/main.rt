@@ -3,6 +3,6 @@
 
 use listing::Program;
 
-fn main() {
-    cli::run(Program::CarryBack);
+fn main(rt: HostRuntime) {
+    cli::run(&rt, Program::CarryBack);
 }

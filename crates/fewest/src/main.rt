@@ -4,6 +4,6 @@
 
 use listing::Program;
 
-fn main() {
-    cli::run(Program::Fewest);
+fn main(rt: HostRuntime) {
+    cli::run(&rt, Program::Fewest);
 }

@@ -3,6 +3,6 @@
 
 use listing::Program;
 
-fn main() {
-    cli::run(Program::Margins);
+fn main(rt: HostRuntime) {
+    cli::run(&rt, Program::Margins);
 }

@@ -9,41 +9,41 @@ use text::same;
 const MOST: usize = NAMES + 1;
 
 // A question on a record.
-fn on_record(kind: &[u8], c: Case) {
+fn on_record(rt: &impl Print, kind: &[u8], c: Case) {
     if same(kind, b"factor") {
-        ends(hocsimbur::decrement_factor(c));
+        ends(rt, hocsimbur::decrement_factor(c));
     } else if same(kind, b"size") {
-        settled(hocsimbur::conductor_size(c));
+        settled(rt, hocsimbur::conductor_size(c));
     } else if same(kind, b"tolerable") {
-        voltages(hocsimbur::touch_and_step(c));
+        voltages(rt, hocsimbur::touch_and_step(c));
     } else if same(kind, b"resistance") {
-        ends(hocsimbur::resistance(c));
+        ends(rt, hocsimbur::resistance(c));
     } else if same(kind, b"row") {
-        row_numbers(hocsimbur::row(c));
+        row_numbers(rt, hocsimbur::row(c));
     } else if same(kind, b"headroom") {
-        room(hocsimbur::headroom(c));
+        room(rt, hocsimbur::headroom(c));
     } else if same(kind, b"working") {
-        quantities(hocsimbur::working(c));
+        quantities(rt, hocsimbur::working(c));
     } else {
-        unknown();
+        unknown(rt);
     }
 }
 
 // A question on two numbers.
-fn on_two(kind: &[u8], p: u64, q: u64) {
+fn on_two(rt: &impl Print, kind: &[u8], p: u64, q: u64) {
     if same(kind, b"ln") {
-        ends(hocsimbur::logarithm(p, q));
+        ends(rt, hocsimbur::logarithm(p, q));
     } else {
-        unknown();
+        unknown(rt);
     }
 }
 
 // A question on a record and a side.
-fn on_side(kind: &[u8], c: Case, side: u32) {
+fn on_side(rt: &impl Print, kind: &[u8], c: Case, side: u32) {
     if same(kind, b"fewest") {
-        found(hocsimbur::fewest_lines(c, side));
+        found(rt, hocsimbur::fewest_lines(c, side));
     } else {
-        unknown();
+        unknown(rt);
     }
 }
 
@@ -54,25 +54,25 @@ fn record(v: [i64; MOST]) -> Case {
     case_of(&r)
 }
 
-fn on_numbers(kind: &[u8], v: [i64; MOST], count: usize) {
+fn on_numbers(rt: &impl Print, kind: &[u8], v: [i64; MOST], count: usize) {
     if count == NAMES {
-        on_record(kind, record(v));
+        on_record(rt, kind, record(v));
     } else if count == MOST {
-        on_side(kind, record(v), word(v[NAMES]));
+        on_side(rt, kind, record(v), word(v[NAMES]));
     } else if count == 2 {
-        on_two(kind, natural(v[0]), natural(v[1]));
+        on_two(rt, kind, natural(v[0]), natural(v[1]));
     } else {
-        unknown();
+        unknown(rt);
     }
 }
 
 // The answer to a question on whole numbers.
-pub fn ask_case<'a>(kind: &'a [u8], fields: &'a [u8]) {
+pub fn ask_case<'a>(rt: &impl Print, kind: &'a [u8], fields: &'a [u8]) {
     let mut v = [0i64; MOST];
     let list = read(fields, 0, i64::MAX, &mut v);
     if list.known {
-        on_numbers(kind, v, list.count);
+        on_numbers(rt, kind, v, list.count);
     } else {
-        unknown();
+        unknown(rt);
     }
 }

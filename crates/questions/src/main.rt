@@ -11,28 +11,28 @@ use gate::{SPACE, empty_space, first_part, too_long};
 use question::ask;
 
 // Every line of s.
-fn lines(s: &[u8]) {
+fn lines(rt: &impl Print, s: &[u8]) {
     let mut rest = s;
     while 0 < rest.len() {
         let line = first_part(rest, 10);
         let e = line.end;
         let next = line.next;
-        ask(&rest[0..e]);
+        ask(rt, &rest[0..e]);
         rest = &rest[next..];
     }
 }
 
 // The answers to all of the input: one that fills the space may be longer.
-fn answers(s: &[u8]) {
+fn answers(rt: &impl Print, s: &[u8]) {
     if s.len() < SPACE {
-        lines(s);
+        lines(rt, s);
     } else {
-        too_long();
+        too_long(rt);
     }
 }
 
-fn main() {
+fn main(rt: HostRuntime) {
     let mut space = empty_space();
-    let n = cli::read(&mut space);
-    answers(&space[..n]);
+    let n = cli::read(&rt, &mut space);
+    answers(&rt, &space[..n]);
 }

@@ -11,7 +11,7 @@ const PARTS: usize = 64;
 // More than the size of a part may be.
 const LARGEST_PART: i64 = 999999999999999999;
 
-fn report(r: Report) {
+fn report(rt: &impl Print, r: Report) {
     let least = r.least;
     let greatest = r.greatest;
     let mean = r.mean;
@@ -24,70 +24,72 @@ fn report(r: Report) {
         mean.upper,
         r.soil as i64,
     ];
-    numbers(&all);
+    numbers(rt, &all);
 }
 
-fn print_sounding(s: Sounding) {
+fn print_sounding(rt: &impl Print, s: Sounding) {
     match s {
-        Sounding::Soil(r) => report(r),
-        Sounding::Refused(why, line, column) => refused(why, line, column),
+        Sounding::Soil(r) => report(rt, r),
+        Sounding::Refused(why, line, column) => refused(rt, why, line, column),
     }
 }
 
 // The answer to the first count readings of v.
-fn sound(v: &[u32], count: usize) {
+fn sound(rt: &impl Print, v: &[u32], count: usize) {
     if v.len() < count {
-        unknown();
+        unknown(rt);
     } else {
-        print_sounding(soil(&v[0..count]));
+        print_sounding(rt, soil(&v[0..count]));
     }
 }
 
 // The soil of some readings: `unknown` where the fields are not a list of 32-bit numbers.
-pub fn ask_soil(fields: &[u8]) {
+pub fn ask_soil(rt: &impl Print, fields: &[u8]) {
     let mut v = [0i64; READINGS];
     let mut words = [0u32; READINGS];
     let list = read(fields, 0, u32::MAX as i64, &mut v);
     narrow(&v, &mut words);
     if list.known {
-        sound(&words, list.count);
+        sound(rt, &words, list.count);
     } else {
-        unknown();
+        unknown(rt);
     }
 }
 
-fn grid(in_phase: i64, quadrature: i64, per_mille: u64) {
-    signed(in_phase);
-    bytes(b",");
-    signed(quadrature);
-    bytes(b",");
-    number(per_mille);
-    bytes(b"\n");
+fn grid(rt: &impl Print, in_phase: i64, quadrature: i64, per_mille: u64) {
+    signed(rt, in_phase);
+    bytes(rt, b",");
+    signed(rt, quadrature);
+    bytes(rt, b",");
+    number(rt, per_mille);
+    bytes(rt, b"\n");
 }
 
-fn print_split(a: SplitAnswer) {
+fn print_split(rt: &impl Print, a: SplitAnswer) {
     match a {
-        SplitAnswer::Grid(in_phase, quadrature, per_mille) => grid(in_phase, quadrature, per_mille),
-        SplitAnswer::Refused(why, line, column) => refused(why, line, column),
+        SplitAnswer::Grid(in_phase, quadrature, per_mille) => grid(
+            rt, in_phase, quadrature, per_mille,
+        ),
+        SplitAnswer::Refused(why, line, column) => refused(rt, why, line, column),
     }
 }
 
 // The answer to the first count parts of v.
-fn divide(v: &[i64], count: usize) {
+fn divide(rt: &impl Print, v: &[i64], count: usize) {
     if v.len() < count {
-        unknown();
+        unknown(rt);
     } else {
-        print_split(split(&v[0..count]));
+        print_split(rt, split(&v[0..count]));
     }
 }
 
 // The split of a staged test: `unknown` where the fields are not a list of numbers.
-pub fn ask_split(fields: &[u8]) {
+pub fn ask_split(rt: &impl Print, fields: &[u8]) {
     let mut v = [0i64; PARTS];
     let list = read(fields, 0 - LARGEST_PART, LARGEST_PART, &mut v);
     if list.known {
-        divide(&v, list.count);
+        divide(rt, &v, list.count);
     } else {
-        unknown();
+        unknown(rt);
     }
 }

@@ -3,6 +3,6 @@
 
 use listing::Program;
 
-fn main() {
-    cli::run(Program::Rows);
+fn main(rt: HostRuntime) {
+    cli::run(&rt, Program::Rows);
 }

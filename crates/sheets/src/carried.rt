@@ -16,62 +16,62 @@ fn carry_to(form: Form, s: &[u8], buffer: &mut [u8]) -> Counted {
 }
 
 // The first count bytes of the buffer.
-fn front(buffer: &[u8], count: usize) {
+fn front(rt: &impl Print, buffer: &[u8], count: usize) {
     if count <= buffer.len() {
-        bytes(&buffer[0..count]);
+        bytes(rt, &buffer[0..count]);
     }
 }
 
 // Prints what is written to the buffer for a sheet.
-fn answer(form: Form, s: &[u8], buffer: &mut [u8]) {
+fn answer(rt: &impl Print, form: Form, s: &[u8], buffer: &mut [u8]) {
     let a = carry_to(form, s, buffer);
     match a {
-        Counted::Count(count) => front(buffer, count),
-        Counted::Refused(why, line, column) => refused(why, line, column),
+        Counted::Count(count) => front(rt, buffer, count),
+        Counted::Refused(why, line, column) => refused(rt, why, line, column),
     }
 }
 
-fn kept(buffer: [u8; BYTES]) {
-    print_kept(bytes_kept(&buffer));
+fn kept(rt: &impl Print, buffer: [u8; BYTES]) {
+    print_kept(rt, bytes_kept(&buffer));
 }
 
 // One answer, in the first room bytes of a buffer.
-fn in_buffer(form: Form, s: &[u8], room: usize)
+fn in_buffer(rt: &impl Print, form: Form, s: &[u8], room: usize)
     requires { room ≤ BYTES }
 {
     let mut buffer = [0u8; BYTES];
     hold_bytes(&mut buffer);
-    answer(form, s, &mut buffer[0..room]);
-    kept(buffer);
+    answer(rt, form, s, &mut buffer[0..room]);
+    kept(rt, buffer);
 }
 
 // The two answers for a buffer length: `unknown` where it is not a length or too large.
-fn at_length(s: &[u8], room: usize) {
+fn at_length(rt: &impl Print, s: &[u8], room: usize) {
     if room <= BYTES {
-        in_buffer(Form::Present, s, room);
-        in_buffer(Form::Former, s, room);
+        in_buffer(rt, Form::Present, s, room);
+        in_buffer(rt, Form::Former, s, room);
     } else {
-        unknown();
+        unknown(rt);
     }
 }
 
 // The answers to a sheet for each of the buffer lengths.
-fn at_lengths<'a>(lengths: &'a [u8], s: &'a [u8]) {
+fn at_lengths<'a>(rt: &impl Print, lengths: &'a [u8], s: &'a [u8]) {
     let mut rest = lengths;
     while 0 < rest.len() {
         let field = first_part(rest, 44);
         let e = field.end;
         let next = field.next;
-        at_length(s, length(&rest[0..e]));
+        at_length(rt, s, length(&rest[0..e]));
         rest = &rest[next..];
     }
 }
 
 // The answers for the buffer lengths: `unknown` where there is none.
-pub fn ask<'a>(lengths: &'a [u8], s: &'a [u8]) {
+pub fn ask<'a>(rt: &impl Print, lengths: &'a [u8], s: &'a [u8]) {
     if lengths.len() == 0 {
-        unknown();
+        unknown(rt);
     } else {
-        at_lengths(lengths, s);
+        at_lengths(rt, lengths, s);
     }
 }

@@ -10,52 +10,52 @@ pub enum Listing {
 }
 
 // The word of a verdict's number, between commas.
-fn verdict_word(verdict: i64) {
+fn verdict_word(rt: &impl Print, verdict: i64) {
     if verdict == 1 {
-        bytes(b",safe,");
+        bytes(rt, b",safe,");
     } else if verdict == 2 {
-        bytes(b",unsafe,");
+        bytes(rt, b",unsafe,");
     } else {
-        bytes(b",undecided,");
+        bytes(rt, b",undecided,");
     }
 }
 
 // Station, season, verdict and kcmil of a row.
-fn verdict(row: &[i64]) {
+fn verdict(rt: &impl Print, row: &[i64]) {
     if 4 <= row.len() {
-        signed(row[STATION]);
-        bytes(b",");
-        signed(row[SEASON]);
-        verdict_word(row[VERDICT]);
-        signed(row[KCMIL]);
-        bytes(b"\n");
+        signed(rt, row[STATION]);
+        bytes(rt, b",");
+        signed(rt, row[SEASON]);
+        verdict_word(rt, row[VERDICT]);
+        signed(rt, row[KCMIL]);
+        bytes(rt, b"\n");
     }
 }
 
-fn line(what: Listing, row: &[i64]) {
+fn line(rt: &impl Print, what: Listing, row: &[i64]) {
     match what {
-        Listing::Numbers => numbers(row),
-        Listing::Verdicts => verdict(row),
+        Listing::Numbers => numbers(rt, row),
+        Listing::Verdicts => verdict(rt, row),
     }
 }
 
 // The first count rows of the table, each of so many numbers; none from one that the table has not whole.
-pub fn lines(what: Listing, table: &[i64], width: usize, count: usize) {
+pub fn lines(rt: &impl Print, what: Listing, table: &[i64], width: usize, count: usize) {
     let mut rest = table;
     let mut i: usize = 0;
     while i < count {
         if rest.len() < width {
             return;
         }
-        line(what, &rest[0..width]);
+        line(rt, what, &rest[0..width]);
         rest = &rest[width..];
         i += 1;
     }
 }
 
 // The line that says how much is as it was.
-pub fn print_kept(count: usize) {
-    bytes(b"kept,");
-    number(count as u64);
-    bytes(b"\n");
+pub fn print_kept(rt: &impl Print, count: usize) {
+    bytes(rt, b"kept,");
+    number(rt, count as u64);
+    bytes(rt, b"\n");
 }

@@ -21,61 +21,61 @@ use gate::{SPACE, bytes, empty_space, first_part, too_long, unknown};
 use text::same;
 
 // What is asked of a sheet, by the kind and the fields of its first line.
-fn ask<'a>(kind: &'a [u8], fields: &'a [u8], sheet: &'a [u8]) {
+fn ask<'a>(rt: &impl Print, kind: &'a [u8], fields: &'a [u8], sheet: &'a [u8]) {
     if same(kind, b"rows") && fields.len() == 0 {
-        rows::ask(sheet);
+        rows::ask(rt, sheet);
     } else if same(kind, b"summary") {
-        summed::ask(fields, sheet);
+        summed::ask(rt, fields, sheet);
     } else if same(kind, b"carry") {
-        carried::ask(fields, sheet);
+        carried::ask(rt, fields, sheet);
     } else if same(kind, b"release") {
-        portfolio::ask(fields, sheet);
+        portfolio::ask(rt, fields, sheet);
     } else {
-        unknown();
+        unknown(rt);
     }
 }
 
-fn answer<'a>(head: &'a [u8], sheet: &'a [u8]) {
-    bytes(head);
-    bytes(b"\n");
+fn answer<'a>(rt: &impl Print, head: &'a [u8], sheet: &'a [u8]) {
+    bytes(rt, head);
+    bytes(rt, b"\n");
     let kind = first_part(head, 44);
     let e = kind.end;
     let next = kind.next;
-    ask(&head[0..e], &head[next..], sheet);
-    bytes(b"\n");
+    ask(rt, &head[0..e], &head[next..], sheet);
+    bytes(rt, b"\n");
 }
 
 // A first line and the sheet after it.
-fn sheet(s: &[u8]) {
+fn sheet(rt: &impl Print, s: &[u8]) {
     let head = first_part(s, 10);
     let e = head.end;
     let next = head.next;
-    answer(&s[0..e], &s[next..]);
+    answer(rt, &s[0..e], &s[next..]);
 }
 
 // Every sheet of s.
-fn sheets(s: &[u8]) {
+fn sheets(rt: &impl Print, s: &[u8]) {
     let mut rest = s;
     while 0 < rest.len() {
         let part = first_part(rest, 0);
         let e = part.end;
         let next = part.next;
-        sheet(&rest[0..e]);
+        sheet(rt, &rest[0..e]);
         rest = &rest[next..];
     }
 }
 
 // The answers to all of the input: one that fills the space may be longer.
-fn answers(s: &[u8]) {
+fn answers(rt: &impl Print, s: &[u8]) {
     if s.len() < SPACE {
-        sheets(s);
+        sheets(rt, s);
     } else {
-        too_long();
+        too_long(rt);
     }
 }
 
-fn main() {
+fn main(rt: HostRuntime) {
     let mut space = empty_space();
-    let n = cli::read(&mut space);
-    answers(&space[..n]);
+    let n = cli::read(&rt, &mut space);
+    answers(&rt, &space[..n]);
 }

@@ -15,65 +15,65 @@ const TABLE: usize = 2080;
 const NUMBERS: usize = 780;
 
 // The rows of the sheet, by its own question.
-fn sheet_rows(s: &[u8]) {
+fn sheet_rows(rt: &impl Print, s: &[u8]) {
     let mut table = [0i64; rows::TABLE];
-    rows::answer(Listing::Numbers, s, &mut table);
+    rows::answer(rt, Listing::Numbers, s, &mut table);
 }
 
-fn answer<'a>(s: &'a [u8], licence: &'a [u32], table: &mut [i64]) {
+fn answer<'a>(rt: &impl Print, s: &'a [u8], licence: &'a [u32], table: &mut [i64]) {
     let a = release(s, licence, table);
     match a {
         Counted::Count(count) => {
-            bytes(b"released,");
-            number(count as u64);
-            bytes(b"\n");
-            lines(Listing::Numbers, table, ENTRY_LENGTH, count);
-            sheet_rows(s);
+            bytes(rt, b"released,");
+            number(rt, count as u64);
+            bytes(rt, b"\n");
+            lines(rt, Listing::Numbers, table, ENTRY_LENGTH, count);
+            sheet_rows(rt, s);
         }
-        Counted::Refused(why, line, column) => refused(why, line, column),
+        Counted::Refused(why, line, column) => refused(rt, why, line, column),
     }
 }
 
-fn kept(table: [i64; TABLE]) {
-    print_kept(numbers_kept(&table));
+fn kept(rt: &impl Print, table: [i64; TABLE]) {
+    print_kept(rt, numbers_kept(&table));
 }
 
 // The answer in the first numbers of a table, and what the whole of it kept.
-fn in_table<'a>(s: &'a [u8], licence: &'a [u32], room: usize)
+fn in_table<'a>(rt: &impl Print, s: &'a [u8], licence: &'a [u32], room: usize)
     requires { room ≤ TABLE }
 {
     let mut table = [0i64; TABLE];
     hold(&mut table);
-    answer(s, licence, &mut table[0..room]);
-    kept(table);
+    answer(rt, s, licence, &mut table[0..room]);
+    kept(rt, table);
 }
 
 // The answer to a licence of the first count numbers: `unknown` where the table has no such length.
-fn on_licence<'a>(s: &'a [u8], numbers: &'a [u32], count: usize, room: usize) {
+fn on_licence<'a>(rt: &impl Print, s: &'a [u8], numbers: &'a [u32], count: usize, room: usize) {
     if count <= numbers.len() && room <= TABLE {
-        in_table(s, &numbers[0..count], room);
+        in_table(rt, s, &numbers[0..count], room);
     } else {
-        unknown();
+        unknown(rt);
     }
 }
 
 // The answer to a line with the licence and the sheet after it: `unknown` where the line is not a list of 32-bit numbers.
-fn on_line<'a>(line: &'a [u8], s: &'a [u8], room: usize) {
+fn on_line<'a>(rt: &impl Print, line: &'a [u8], s: &'a [u8], room: usize) {
     let mut v = [0i64; NUMBERS];
     let mut words = [0u32; NUMBERS];
     let list = read(line, 0, u32::MAX as i64, &mut v);
     narrow(&v, &mut words);
     if list.known {
-        on_licence(s, &words, list.count, room);
+        on_licence(rt, s, &words, list.count, room);
     } else {
-        unknown();
+        unknown(rt);
     }
 }
 
 // The answer for the length of the table.
-pub fn ask<'a>(field: &'a [u8], s: &'a [u8]) {
+pub fn ask<'a>(rt: &impl Print, field: &'a [u8], s: &'a [u8]) {
     let line = first_part(s, 10);
     let e = line.end;
     let next = line.next;
-    on_line(&s[0..e], &s[next..], length(field));
+    on_line(rt, &s[0..e], &s[next..], length(field));
 }

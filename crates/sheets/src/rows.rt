@@ -14,57 +14,64 @@ pub const TABLE: usize = LINES * ROW_LENGTH;
 const SHORT: usize = 2 * ROW_LENGTH;
 
 // The names of a row's numbers, with their units.
-fn number_names() {
-    bytes(b"station,season,verdict,size_kcmil");
+fn number_names(rt: &impl Print) {
+    bytes(rt, b"station,season,verdict,size_kcmil");
     bytes(
+        rt,
         b",grid_current_lower_uA,grid_current_upper_uA,factor_lower_billionths,factor_upper_billionths",
     );
-    bytes(b",tolerable_touch_lower_mV,tolerable_touch_upper_mV");
-    bytes(b",tolerable_step_lower_mV,tolerable_step_upper_mV");
-    bytes(b",mesh_lower_mV,mesh_upper_mV,step_lower_mV,step_upper_mV");
-    bytes(b",resistance_lower_uohm,resistance_upper_uohm,rise_lower_mV,rise_upper_mV\n");
+    bytes(rt, b",tolerable_touch_lower_mV,tolerable_touch_upper_mV");
+    bytes(rt, b",tolerable_step_lower_mV,tolerable_step_upper_mV");
+    bytes(
+        rt,
+        b",mesh_lower_mV,mesh_upper_mV,step_lower_mV,step_upper_mV",
+    );
+    bytes(
+        rt,
+        b",resistance_lower_uohm,resistance_upper_uohm,rise_lower_mV,rise_upper_mV\n",
+    );
 }
 
-fn names(what: Listing) {
+fn names(rt: &impl Print, what: Listing) {
     match what {
-        Listing::Numbers => number_names(),
-        Listing::Verdicts => bytes(b"station,season,verdict,kcmil\n"),
+        Listing::Numbers => number_names(rt),
+        Listing::Verdicts => bytes(rt, b"station,season,verdict,kcmil\n"),
     }
 }
 
 // The first count rows of the table, after a line of names.
-pub fn row_lines(what: Listing, table: &[i64], count: usize) {
-    names(what);
-    lines(what, table, ROW_LENGTH, count);
+pub fn row_lines(rt: &impl Print, what: Listing, table: &[i64], count: usize) {
+    names(rt, what);
+    lines(rt, what, table, ROW_LENGTH, count);
 }
 
 // Prints the answer to a sheet, and leaves its rows in the table.
-pub fn answer(what: Listing, s: &[u8], table: &mut [i64]) {
+pub fn answer(rt: &impl Print, what: Listing, s: &[u8], table: &mut [i64]) {
     let a = sheet::sheet(s, table);
     match a {
-        Answer::Rows(count) => row_lines(what, table, count),
-        Answer::Refused(why, line, column) => refused(why, line, column),
+        Answer::Rows(count) => row_lines(rt, what, table, count),
+        Answer::Refused(why, line, column) => refused(rt, why, line, column),
     }
 }
 
-fn kept(table: [i64; TABLE]) {
-    print_kept(numbers_kept(&table));
+fn kept(rt: &impl Print, table: [i64; TABLE]) {
+    print_kept(rt, numbers_kept(&table));
 }
 
 // One answer, in the first room numbers of a table.
-fn in_table(what: Listing, s: &[u8], room: usize)
+fn in_table(rt: &impl Print, what: Listing, s: &[u8], room: usize)
     requires { room ≤ TABLE }
 {
     let mut table = [0i64; TABLE];
     hold(&mut table);
-    answer(what, s, &mut table[0..room]);
-    kept(table);
+    answer(rt, what, s, &mut table[0..room]);
+    kept(rt, table);
 }
 
 // The four answers to a sheet.
-pub fn ask(s: &[u8]) {
-    in_table(Listing::Numbers, s, TABLE);
-    in_table(Listing::Numbers, s, SHORT);
-    in_table(Listing::Verdicts, s, TABLE);
-    in_table(Listing::Verdicts, s, SHORT);
+pub fn ask(rt: &impl Print, s: &[u8]) {
+    in_table(rt, Listing::Numbers, s, TABLE);
+    in_table(rt, Listing::Numbers, s, SHORT);
+    in_table(rt, Listing::Verdicts, s, TABLE);
+    in_table(rt, Listing::Verdicts, s, SHORT);
 }

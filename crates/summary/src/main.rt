@@ -4,6 +4,6 @@
 
 use listing::Program;
 
-fn main() {
-    cli::run(Program::Summary);
+fn main(rt: HostRuntime) {
+    cli::run(&rt, Program::Summary);
 }
