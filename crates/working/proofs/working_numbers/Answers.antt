@@ -3,25 +3,25 @@ use borrow.Author.Rules.{rules}
 use mir.Facts.{to_z-of_z}
 use Rattle.interval.proofs.Held.{Held}
 use Rattle.working.specs.Numbers.{working_numbers}
-use Rattle.working.proofs.working_numbers.Statement.{statement}
-use Rattle.working.proofs.working_numbers.Tie as tie
+use Rattle.working.proofs.working_numbers.Goals as goal
+use Rattle.working.proofs.working_numbers.Goals.{Start}
 
-module _ (s : tie.Start) where
+module _ (s : Start) where
   first_held : let w = s.args.w in Held w.cs × Held w.root_time × Held w.side × Held w.lc × Held w.lr
   first_held = search rules
 
   next_held : let w = s.args.w in Held w.lt × Held w.lm × Held w.ls × Held w.n × Held w.ki
-  next_held = search (rules, s.good.0.1.1.1.1.1.1.1)
+  next_held = search (rules, s.well_formed.0.1.1.1.1.1.1.1)
 
   last_held : let w = s.args.w in Held w.kii × Held w.kh × Held w.km × Held w.ks × Held w.driven
-  last_held = search (rules, s.good.0.1.1.1.1.1.1.1.1.1.1.1.1)
+  last_held = search (rules, s.well_formed.0.1.1.1.1.1.1.1.1.1.1.1.1)
 
-returns : tie.Need-returns
+pub returns : goal.returns
 unfolding working_numbers
 returns c =
-    let f = first_held c.before in
-    let n = next_held c.before in
-    let l = last_held c.before in
+    let f = first_held (goal.at.returns c).Start in
+    let n = next_held (goal.at.returns c).Start in
+    let l = last_held (goal.at.returns c).Start in
     simp (
       to_z-of_z f.0.0,
       to_z-of_z f.0.1,
@@ -54,6 +54,3 @@ returns c =
       to_z-of_z l.4.0,
       to_z-of_z l.4.1,
     )
-
-pub working_numbers_spec : {M : Type 1} → statement M
-working_numbers_spec = tie.close (tie.spec returns)
