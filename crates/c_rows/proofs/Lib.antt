@@ -1,2 +1,3 @@
+mod EvenCount
 mod Putting
 mod RowBytes
