@@ -67,8 +67,8 @@ def offered():
     names = [name for one, more in used for name in re.findall(r"\b[a-z_]+\b", one or more)]
     names += re.findall(r"^pub fn ([a-z_]+)", text, flags=re.MULTILINE)
     entries = []
-    for path in sorted((ROOT / "crates").glob("c_*/src/*.rt")):
-        crate = path.parents[1].name
+    for path in sorted((ROOT / "crates").glob("c_*_c/src/*.rt")):
+        crate = path.parents[1].name.removesuffix("_c")
         for name in re.findall(r'#\[unsafe\(no_mangle\)\]\npub extern "C" fn ([a-z_]+)', path.read_text(encoding="utf-8")):
             entries.append(f"{crate}::{name}")
     return [f"hocsimbur::{name}" for name in names] + entries

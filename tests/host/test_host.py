@@ -144,7 +144,8 @@ class Header(unittest.TestCase):
     """include/hocsimbur.h says what the crates have: entries, limits, version, refusals, and the places of a row's numbers."""
 
     text = (ROOT / "include/hocsimbur.h").read_text("ascii")
-    source = "".join((ROOT / f"crates/{crate}/src/lib.rt").read_text("utf-8") for crate in ("c_entry", "c_questions", "c_lines"))
+    source = "".join((ROOT / f"crates/{crate}{of_c}/src/lib.rt").read_text("utf-8") for crate in ("c_entry", "c_questions", "c_lines")
+                     for of_c in ("", "_c"))
     length = "hocsimbur_size "
     forms = {
         "&[u8]": ["const uint8_t *", length], "&[u32]": ["const uint32_t *", length], "&[i64]": ["const int64_t *", length],

@@ -1,5 +1,6 @@
 // The sheet asked by a program in C, and the convention (§11.1) of all that C asks: the answer is a count of 0 or more, or a refusal's
 // number made negative, with line and column in a lent place of two numbers and every other buffer as it was.
+// The crate `c_entry_c` exports the entries.
 #![tactic(auto)]
 
 ghost use Rattle.std.specs.Prelude.{◌≤◌, ◌≡◌, true, length};
@@ -63,8 +64,7 @@ fn rows_in_bytes(s: &[u8], buffer: &mut [u8]) -> Counted
 
 // The count of rows, or the refusal's number made negative. The rows are in the buffer, each number as eight bytes; a refusal leaves it
 // as it was.
-#[unsafe(no_mangle)]
-pub extern "C" fn hocsimbur_rows(s: &[u8], buffer: &mut [u8]) -> i64
+pub fn hocsimbur_rows(s: &[u8], buffer: &mut [u8]) -> i64
     ensures { Answered s.now buffer.old buffer.new result }
 {
     let answer = rows_in_bytes(s, buffer);
@@ -72,8 +72,7 @@ pub extern "C" fn hocsimbur_rows(s: &[u8], buffer: &mut [u8]) -> i64
 }
 
 // The same, and where it is a refusal its line and column in the first two numbers of `place`.
-#[unsafe(no_mangle)]
-pub extern "C" fn hocsimbur_rows_at(s: &[u8], buffer: &mut [u8], place: &mut [usize]) -> i64
+pub fn hocsimbur_rows_at(s: &[u8], buffer: &mut [u8], place: &mut [usize]) -> i64
     ensures { AnsweredAt s.now buffer.old buffer.new place.old place.new result }
 {
     let answer = rows_in_bytes(s, buffer);

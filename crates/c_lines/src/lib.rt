@@ -1,6 +1,6 @@
 // Numbers of every value line of a sheet, asked by a program in C: margins, working and headroom. All three follow one convention (§11.1):
 // the answer is the count of value lines, or a refusal's number made negative, with line and column in a lent place of two numbers and the
-// array as it was.
+// array as it was. The crate `c_lines_c` exports the entries.
 #![tactic(auto)]
 
 mod lines;
@@ -23,8 +23,7 @@ fn tell_lines(question: Question, s: &[u8], numbers: &mut [i64], place: &mut [us
 
 // Two numbers a value line: how far the mesh voltage lies above the tolerable touch voltage, and the step voltage above the tolerable
 // step voltage, in tenths of a percent.
-#[unsafe(no_mangle)]
-pub extern "C" fn hocsimbur_margins(s: &[u8], numbers: &mut [i64], place: &mut [usize]) -> i64
+pub fn hocsimbur_margins(s: &[u8], numbers: &mut [i64], place: &mut [usize]) -> i64
     ensures { LinesTold Margins s.now numbers.old numbers.new place.old
         place.new result }
 {
@@ -32,8 +31,7 @@ pub extern "C" fn hocsimbur_margins(s: &[u8], numbers: &mut [i64], place: &mut [
 }
 
 // Thirty numbers a value line: the lower and the upper end of each quantity of its working.
-#[unsafe(no_mangle)]
-pub extern "C" fn hocsimbur_working(s: &[u8], numbers: &mut [i64], place: &mut [usize]) -> i64
+pub fn hocsimbur_working(s: &[u8], numbers: &mut [i64], place: &mut [usize]) -> i64
     ensures { LinesTold Working s.now numbers.old numbers.new place.old
         place.new result }
 {
@@ -41,8 +39,7 @@ pub extern "C" fn hocsimbur_working(s: &[u8], numbers: &mut [i64], place: &mut [
 }
 
 // One number a value line: the greatest fault current in amperes at which it, all else equal, is answered safe, or 0.
-#[unsafe(no_mangle)]
-pub extern "C" fn hocsimbur_headroom(s: &[u8], numbers: &mut [i64], place: &mut [usize]) -> i64
+pub fn hocsimbur_headroom(s: &[u8], numbers: &mut [i64], place: &mut [usize]) -> i64
     ensures { LinesTold Headroom s.now numbers.old numbers.new place.old
         place.new result }
 {

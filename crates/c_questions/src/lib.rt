@@ -1,5 +1,6 @@
 // §11.1, §11.3: the questions other than a sheet's rows, asked by a program in C. All follow one convention: the answer is a count of 0 or
 // more, or a refusal's number made negative, with line and column in a lent place of two numbers and every other buffer as it was.
+// The crate `c_questions_c` exports the entries.
 #![tactic(auto)]
 
 ghost use Rattle.std.specs.Prelude.{◌≡◌};
@@ -15,13 +16,7 @@ use one_line::fewest_of_sheet;
 const VERSION: u32 = 20000;
 
 // The count of stations. The rows and the summary of the stations are in their tables, as `summary` puts them.
-#[unsafe(no_mangle)]
-pub extern "C" fn hocsimbur_summary(
-    s: &[u8],
-    rows: &mut [i64],
-    beside: &mut [i64],
-    place: &mut [usize],
-) -> i64
+pub fn hocsimbur_summary(s: &[u8], rows: &mut [i64], beside: &mut [i64], place: &mut [usize]) -> i64
     ensures { SummaryTold s.now rows.old rows.new beside.old beside.new
         place.old place.new result }
 {
@@ -31,8 +26,7 @@ pub extern "C" fn hocsimbur_summary(
 
 // The count of stations of the licence: a station, its seasons and its conductor's own cross-section in kcmil, or 0, in turn. Eight numbers
 // a station are in the table, as `release` puts them.
-#[unsafe(no_mangle)]
-pub extern "C" fn hocsimbur_release<'a>(
+pub fn hocsimbur_release<'a>(
     s: &'a [u8],
     licence: &'a [u32],
     table: &mut [i64],
@@ -46,8 +40,7 @@ pub extern "C" fn hocsimbur_release<'a>(
 }
 
 // The count of bytes of a sheet of the former names that is carried over to today's.
-#[unsafe(no_mangle)]
-pub extern "C" fn hocsimbur_carry(s: &[u8], buffer: &mut [u8], place: &mut [usize]) -> i64
+pub fn hocsimbur_carry(s: &[u8], buffer: &mut [u8], place: &mut [usize]) -> i64
     ensures { CarryTold Present s.now buffer.old buffer.new place.old
         place.new result }
 {
@@ -56,8 +49,7 @@ pub extern "C" fn hocsimbur_carry(s: &[u8], buffer: &mut [u8], place: &mut [usiz
 }
 
 // The count of bytes of a sheet of today's names that is carried back to the former ones.
-#[unsafe(no_mangle)]
-pub extern "C" fn hocsimbur_carry_back(s: &[u8], buffer: &mut [u8], place: &mut [usize]) -> i64
+pub fn hocsimbur_carry_back(s: &[u8], buffer: &mut [u8], place: &mut [usize]) -> i64
     ensures { CarryTold Former s.now buffer.old buffer.new place.old place.new
         result }
 {
@@ -66,8 +58,7 @@ pub extern "C" fn hocsimbur_carry_back(s: &[u8], buffer: &mut [u8], place: &mut 
 }
 
 // The seven numbers of a soil report, from readings of a distance and a resistance in turn.
-#[unsafe(no_mangle)]
-pub extern "C" fn hocsimbur_soil(readings: &[u32], numbers: &mut [i64], place: &mut [usize]) -> i64
+pub fn hocsimbur_soil(readings: &[u32], numbers: &mut [i64], place: &mut [usize]) -> i64
     ensures { SoilTold readings.now numbers.old numbers.new place.old
         place.new result }
 {
@@ -76,8 +67,7 @@ pub extern "C" fn hocsimbur_soil(readings: &[u32], numbers: &mut [i64], place: &
 }
 
 // The grid current's two parts and the split, from the numbers of a staged test.
-#[unsafe(no_mangle)]
-pub extern "C" fn hocsimbur_split(parts: &[i64], numbers: &mut [i64], place: &mut [usize]) -> i64
+pub fn hocsimbur_split(parts: &[i64], numbers: &mut [i64], place: &mut [usize]) -> i64
     ensures { SplitTold parts.now numbers.old numbers.new place.old place.new
         result }
 {
@@ -86,8 +76,7 @@ pub extern "C" fn hocsimbur_split(parts: &[i64], numbers: &mut [i64], place: &mu
 }
 
 // The version of the library.
-#[unsafe(no_mangle)]
-pub extern "C" fn hocsimbur_version() -> u32
+pub fn hocsimbur_version() -> u32
     ensures { result ≡ 20000 }
 {
     VERSION
@@ -95,13 +84,7 @@ pub extern "C" fn hocsimbur_version() -> u32
 
 // 1 with the fewest lines, then rods, with which a square yard of this side in mm is answered safe, or 0; all else as in the one value
 // line of a sheet, whose own counts, spacing, rods and place are not read.
-#[unsafe(no_mangle)]
-pub extern "C" fn hocsimbur_fewest(
-    s: &[u8],
-    side: u32,
-    numbers: &mut [i64],
-    place: &mut [usize],
-) -> i64
+pub fn hocsimbur_fewest(s: &[u8], side: u32, numbers: &mut [i64], place: &mut [usize]) -> i64
     ensures { FewestTold s.now side numbers.old numbers.new place.old
         place.new result }
 {
