@@ -1,14 +1,11 @@
 -- What is counted of a station's lines, with one line more.
-use Prim.Native.Nat.{ℕ, suc, ◌+◌, ◌*◌, ◌/◌, ◌≤◌}
-use mathlib.Core.{Path.{◌≡◌, refl, sym}, Bool.{Bool, true, false, not, ◌&&◌}, List.{List, [], ◌∷◌}}
+use Prim.Native.Nat.{ℕ, suc, ◌+◌, ◌*◌, ◌≤◌}
+use mathlib.Core.{Path.{◌≡◌}, Bool.{Bool, false, not, ◌&&◌}, List.{List, [], ◌∷◌}}
 use native.Mathlib.{Nat.{mul-le-mul}, Omega.{arith}}
-use lib.{Dec.{ltb}, IntN.{ℤ, pos}, ListN.{length}, Signed.{lt_z}}
-use borrow.Author.Tests.{ltb-true, ltb-false, lt-ltb, le-ltb}
+use lib.{IntN.{ℤ, pos}, ListN.{length}, Signed.{lt_z}}
 use Rattle.whole.{specs.Count.{one}, proofs.Count.{one_most}}
 use Rattle.case.specs.{declared.Case.{Case}, Bounds.{Bounds}}
 use Rattle.judgement.specs.Limits.{most_lines}
-use Rattle.formulas.specs.Size as Size
-use Rattle.current.specs.Ends.{upper_factor}
 use Rattle.row.specs.Ends.{row_of}
 use Rattle.tally.specs.declared.Tally.{Tally}
 use Rattle.tally.specs.Lines.{licensed, count_of, has_line, answered_unsafe, answered_undecided, other_yard, area_of, too_small}
