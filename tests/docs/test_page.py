@@ -74,6 +74,19 @@ def offered():
     return [f"hocsimbur::{name}" for name in names] + entries
 
 
+def entries(text, head):
+    """Of each entry of a crate its parameters and answer, what it ensures, by the names of where each word of that comes from, and its code."""
+    uses = {}
+    for paths in re.findall(r"^ghost use ([^;]+);", text, flags=re.MULTILINE):
+        uses.update((path.split(".")[-1], path) for path in page.expanded(paths))
+    found = {}
+    for name, fields, promise, code in re.findall(head + r"(\w+)([^{]*?)\s*(ensures \{.*?\})\n\{\n(.*?)\n\}", text, flags=re.DOTALL):
+        fields = page.plain(fields).replace("( ", "(").replace(", )", ")")
+        words = [uses.get(word, word) for word in re.findall(r"[^\s(){}]+", promise)]
+        found[name] = (fields, words, page.plain(code))
+    return found
+
+
 class Page(unittest.TestCase):
     def test_stored(self):
         self.assertEqual(page.listed(), page.read_file(page.STORED), "python3 tools/page.py --write")
@@ -87,6 +100,18 @@ class Page(unittest.TestCase):
             self.assertTrue(asked, operation)
             for line in asked:
                 self.assertIn(" ensures { ", line)
+
+    def test_an_exported_entry_is_the_function_that_the_page_speaks_of(self):
+        """The callers call the functions of `c_entry` and the like; each is exported under its name by a call of it that ensures the same."""
+        for path in sorted((ROOT / "crates").glob("c_*_c/src/lib.rt")):
+            crate = path.parents[1].name.removesuffix("_c")
+            exported = entries(path.read_text(encoding="utf-8"), r'\n#\[unsafe\(no_mangle\)\]\npub extern "C" fn ')
+            called = entries(page.read_file(f"crates/{crate}/src/lib.rt"), r"\npub fn ")
+            self.assertEqual(sorted(exported), sorted(name.split("::")[1] for name in offered() if name.startswith(f"{crate}::")))
+            for name, (fields, promise, code) in exported.items():
+                arguments = ", ".join(re.findall(r"(\w+):", fields))
+                self.assertEqual((fields, promise), called[name][:2], name)
+                self.assertEqual(code, f"{crate}::{name}({arguments})")
 
     def test_symbols_are_the_entries(self):
         symbols = page.read_file("host/symbols.txt").split()
