@@ -1,12 +1,12 @@
 -- What an answer that is a count of entries says: the sheet was read, its cases are within their bounds, and the count is that of the
 -- entries.
 use Prim.Native.Nat.{ℕ, ◌*◌, ◌/◌, ◌<◌}
-use mathlib.Core.{Path.{◌≡◌, refl, sym, ◌∙◌}, Bool.{Bool, true, false, cond}, List.{List, []}}
+use mathlib.Core.{Path.{◌≡◌, sym, ◌∙◌}, Bool.{Bool, true, false, cond}, List.{List, []}}
 use lib.{Dec.{ltb}, ListN.{length, length-map}}
 use Rattle.text.{specs.Text.{fields_of}, proofs.Clash.{clash}}
 use Rattle.case.specs.{Columns.{columns}, Bounds.{Bounds}}
 use Rattle.case.proofs.Passed.{passed}
-use Rattle.case.specs.declared.Counted.{Counted, TheVariants.{Count, Refused}}
+use Rattle.case.specs.declared.Counted.{TheVariants.{Count, Refused}}
 use Rattle.header.specs.Header.{columns_of}
 use Rattle.line.specs.Line.{line_case}
 use Rattle.judgement.{specs.Sheet.{names, value_lines, judgement}, proofs.Accepted.{accepted}}
