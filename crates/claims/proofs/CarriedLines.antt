@@ -14,7 +14,7 @@ use Rattle.case.proofs.Tests.{◌then◌}
 use Rattle.judgement.specs.Sheet.{value_lines}
 use Rattle.judgement.proofs.Causes.{wrong_column}
 use Rattle.carried_values.specs.Values.{other, present_values, former_values, carried as carried_values, cases_in}
-use Rattle.claims.specs.Rules.{fields_at, Under}
+use Rattle.claims.specs.Rules.{Under}
 use Rattle.claims.specs.Carried.{Taken, other_names, own_names, Into, Returns, Held}
 use Rattle.claims.specs.Carried as claim
 use Rattle.claims.proofs.{OnePlace.{one_number}, OwnLines.{values_in, names_right, under}}

@@ -1,19 +1,18 @@
 -- §8.1–§8.3: every answer to a sheet that is to be carried over, and back.
 use Prim.Native.{Nat.{ℕ, zero, suc, ◌+◌, ◌≤◌, ◌<◌}, String.{String}}
-use mathlib.Core.{Path.{◌≡◌, refl, sym, ap, ◌∙◌}, Bool.{Bool, true, false, cond, ◌&&◌}, List.{List, [], ◌∷◌, ◌++◌, map}}
+use mathlib.Core.{Path.{◌≡◌, refl, sym, ap, ◌∙◌}, Bool.{Bool, true, false, cond, ◌&&◌}, List.{List, [], ◌∷◌, ◌++◌}}
 use native.Mathlib.Omega.{arith}
 use lib.{Dec.{eqb, ltb}, ListN.{length, get_or, take, drop, length-append, length-drop, length-map}, Seq.{take_at, drop_at}}
 use borrow.Author.Tests.{eqb-true, eqb-false, ne_eqb, ltb-true, ltb-false}
-use Rattle.text.{specs.Text.{same}, proofs.Clash.{clash}}
+use Rattle.text.{proofs.Clash.{clash}}
 use Rattle.case.specs.declared.Form.{Form, TheVariants.{Present, Former}}
-use Rattle.case.specs.{Columns.{columns, former_columns, name_count_lem, former_name_count_lem, name_index, named}, Parts.{form_of}}
-use Rattle.case.proofs.Tests.{◌then◌}
+use Rattle.case.specs.{Columns.{columns, former_columns, name_count_lem, former_name_count_lem, named}, Parts.{form_of}}
 use Rattle.case.{specs.Counted.{refused_or}, proofs.Passed.{passed}}
 use Rattle.case.specs.declared.Counted.{Counted, TheVariants.{Count, Refused}}
 use Rattle.header.{specs.Header.{no_columns, wrong_name}, proofs.NamesStand.{names_stand}}
 use Rattle.judgement.specs.Refusal.{name_refused}
 use Rattle.judgement.{specs.Sheet.{names, value_lines, names_judgement, judgement_within, judgement}, proofs.Accepted.{accepted}}
-use Rattle.carried_values.specs.{Values.{other, present_values, former_values, carried as carried_values, cases_in}, Changes.{line_change}}
+use Rattle.carried_values.specs.{Values.{other, carried as carried_values, cases_in}, Changes.{line_change}}
 use Rattle.carried_values.specs.Changes.{changes_from, changes}
 use Rattle.conversion.specs.Answer.{carried_text, room_answer, answer, buffer_after, Answered}
 use Rattle.conversion.proofs.RoundTrip as trip

@@ -1,6 +1,6 @@
 -- §11.3: soil, split and fewest lines reported to a program in C: the numbers of a report in an array.
 use Prim.Native.Nat.{ℕ, ◌≤◌, ◌<◌}
-use mathlib.Core.{Path.{◌≡◌, refl}, Bool.{Bool, true, false, cond}, List.{List, [], ◌∷◌, ◌++◌}}
+use mathlib.Core.{Path.{◌≡◌, refl}, Bool.{Bool, true, false, cond}, List.{List, ◌++◌}}
 use native.Mathlib.Omega.{arith}
 use lib.{Dec.{ltb}, IntN.{ℤ}, ListN.{length, drop}}
 use borrow.Author.Tests.{ltb-true, ltb-false}

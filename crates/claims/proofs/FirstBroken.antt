@@ -2,7 +2,7 @@
 use Prim.Native.{Nat.{ℕ, ◌+◌, ◌-◌, ◌≤◌, ◌<◌}, String.{String}}
 use mathlib.Core.{Path.{◌≡◌, refl, sym, ap, ◌∙◌}, Bool.{Bool, true, false, ◌&&◌}, Logic.{◌⊎◌, inl, inr}, List.{List, []}}
 use native.Mathlib.Omega.{arith}
-use lib.ListN.{length, get_or, length-map}
+use lib.ListN.{length, get_or}
 use borrow.Author.Tests.{eq-eqb, eqb-true, ne_eqb}
 use Rattle.text.{specs.Text.{bytes, same}, proofs.Clash.{clash}}
 use Rattle.case.specs.declared.Form.{Form as CodeForm, TheVariants.{Present, Former}}
@@ -10,9 +10,8 @@ use Rattle.case.specs.Columns.{Form, columns, former_columns, name_index, named,
 use Rattle.case.specs.{Check.{out_of_range, agree}, Parts.{range_at, form_of}}
 use Rattle.case.proofs.{Ranges.{Some, in_range_lem, in_range_at, some_columns}, Tests.{passed}, Agreement.{Agree, agreed}}
 use Rattle.case.specs.declared.Counted.{Counted, TheVariants.{Count, Refused}}
-use Rattle.header.{specs.{Header.{columns_of}, Names.{StandsAt, WrongName, Leftmost, None}}, proofs.NameIndices.{index_name}}
+use Rattle.header.{specs.{Names.{WrongName, Leftmost, None}}}
 use Rattle.header.proofs.{NamesStand.{Named, names_stand, name_stands, no_wrong_name, wrong_name_lem}, HeaderAccepted.{header_accepted}}
-use Rattle.line.specs.Line.{line_values}
 use Rattle.line_finding.specs.{declared.LineFinding.{LineFinding, TheVariants.{Sound}}, Findings.{same_key, repeats}}
 use Rattle.line_finding.proofs.LineFound as line
 use Rattle.judgement.specs.{Limits.{today}, Refusal.{line_judgement}}
@@ -248,7 +247,7 @@ module _ (form : Form) (k : Known form) (s : List ℕ) (right : wrong_column for
     unfolding line_judgement
     by_finding (line.all_sound a q) e = clash cc
     by_finding (line.wrong_form_lem q) e = told e (rule.value (wrong_values (length form) (fields_at s i) q))
-    by_finding (line.out_of_range f q) e =
+    by_finding (line.out_of_range_lem f q) e =
         told e (rule.range (no_wrong_value (right_values (length form) (fields_at s i) f)) (leftmost_outside i q))
     by_finding (line.layer_differs f o q) e =
         told e

@@ -1,6 +1,6 @@
 -- Byte k of a number in its bytes is its k-th digit to the base 256.
 use Prim.Native.Nat.{ℕ, zero, suc, ◌+◌, ◌*◌, ◌/◌, ◌%◌, ◌^◌, ◌<◌}
-use mathlib.Core.{Path.{◌≡◌, refl, sym, ap, ◌∙◌}, List.{List, [], ◌∷◌, ◌++◌}}
+use mathlib.Core.{Path.{◌≡◌, sym, ap, ◌∙◌}, List.{List, [], ◌∷◌, ◌++◌}}
 use native.Mathlib.Omega.{arith}
 use native.Mathlib.Nat.{div-one, div-div-eq-div-mul, pow-succ'}
 use lib.{IntN.{ℤ, pos}, ListN.{length, get_or, get_or-append}, Seq.{drop_at, get_or-drop}}

@@ -79,9 +79,9 @@ module _ {r : Row} (right : RightRow sample r) where
       let numbers = case_numbers sound_sample in
       let t = holds_known (consistent_touch sound_sample) touch_sample in
       let i = holds_known (quantity_IG sound_sample).consistent (current 1 400 11 11 0 0 0) in
-      reported_apart numbers.tolerable_touch.narrows numbers.mesh.narrows right.tolerable_touch right.mesh t
+      reported_apart numbers.tolerable_touch_lem.narrows numbers.mesh.narrows right.tolerable_touch_lem right.mesh t
       (holds_known (consistent_mesh sound_sample) mesh_sample)
-      (tolerable_volt numbers.tolerable_touch.narrows t right.tolerable_touch tt) (mesh_volt sound_sample i right tt tt)
+      (tolerable_volt numbers.tolerable_touch_lem.narrows t right.tolerable_touch_lem tt) (mesh_volt sound_sample i right tt tt)
       (less_than_lem _ _ tt)
 
   pub dry_unsafe : r.verdict ≡ Unsafe
@@ -89,7 +89,7 @@ module _ {r : Row} (right : RightRow sample r) where
   dry_unsafe =
       right.verdict
       ∙ unsafe_verdict _
-      ((number_unsafe _ _ _ _ right.tolerable_touch.ordered right.tolerable_step.ordered right.mesh.ordered
+      ((number_unsafe _ _ _ _ right.tolerable_touch_lem.ordered right.tolerable_step_lem.ordered right.mesh.ordered
       right.step.ordered).1
       (inl touch_below_mesh))
 
@@ -109,13 +109,13 @@ module _ {r : Row} (right : RightRow wet r) where
       right.verdict
       ∙ ends_safe _ _ _ _
       (weaken
-      (reported_apart numbers.mesh.narrows numbers.tolerable_touch.narrows right.mesh right.tolerable_touch
+      (reported_apart numbers.mesh.narrows numbers.tolerable_touch_lem.narrows right.mesh right.tolerable_touch_lem
       (holds_known (consistent_mesh sound_wet) mesh_wet) touch (mesh_volt sound_wet i right tt tt)
-      (tolerable_volt numbers.tolerable_touch.narrows touch right.tolerable_touch tt) (less_than_lem _ _ tt)))
+      (tolerable_volt numbers.tolerable_touch_lem.narrows touch right.tolerable_touch_lem tt) (less_than_lem _ _ tt)))
       (weaken
-      (reported_apart numbers.step.narrows numbers.tolerable_step.narrows right.step right.tolerable_step
+      (reported_apart numbers.step.narrows numbers.tolerable_step_lem.narrows right.step right.tolerable_step_lem
       (holds_known (consistent_step sound_wet) step_wet) limit (step_volt sound_wet i right tt tt)
-      (tolerable_volt numbers.tolerable_step.narrows limit right.tolerable_step tt) (less_than_lem _ _ tt)))
+      (tolerable_volt numbers.tolerable_step_lem.narrows limit right.tolerable_step_lem tt) (less_than_lem _ _ tt)))
 
 -- ---- in a table
 

@@ -1,7 +1,7 @@
 -- §8.1, §8.2, §8.3: a sheet of one form carried over to the other, `form` being the one that it is carried to.
 use Prim.Native.{Nat.{ℕ, ◌+◌, ◌≤◌, ◌<◌}, String.{String}}
 use mathlib.Core.{Path.{◌≡◌}, List.{List, [], ◌∷◌, map}}
-use Rattle.std.specs.Prelude.{length, get_or, take, drop}
+use Rattle.std.specs.Prelude.{length, take, drop}
 use Rattle.whole.specs.Every.{Every}
 use Rattle.case.specs.{declared.Form.{Form, TheVariants.{Present, Former}}, Parts.{form_of}}
 use Rattle.case.specs.declared.Counted.{Counted, TheVariants.{Count, Refused}}
