@@ -1,0 +1,5 @@
+use Rattle.claims.proofs.Page.{page}
+use Rattle.promises.proofs.ask_carry_back.Goals as goal
+
+pub returns : goal.returns
+returns c = page.carry c.carry_back.ensures

@@ -1,0 +1,7 @@
+use Rattle.whole.proofs.Bits.{back}
+use Rattle.claims.proofs.Page.{page}
+use Rattle.promises.proofs.tell_release.Goals as goal
+
+pub returns : goal.returns
+returns c =
+    let a = c.hocsimbur_release in rw (back a.result a.type_inv) (page.release_in_c a.ensures)

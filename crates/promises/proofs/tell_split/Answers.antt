@@ -1,0 +1,7 @@
+use Rattle.whole.proofs.Bits.{back}
+use Rattle.claims.proofs.Page.{page}
+use Rattle.promises.proofs.tell_split.Goals as goal
+
+pub returns : goal.returns
+returns c =
+    let a = c.hocsimbur_split in rw (back a.result a.type_inv) (page.split_in_c a.ensures)
