@@ -34,6 +34,10 @@ WASM_FILES = target/wasm32/hocsimbur.wasm target/wasm32/hocsimbur.mjs
 DESK_TESTS = words pieces drawings built
 # three archives, so that the rows are compiled by themselves: what the compiler inlines for them does not hang on the other entries
 ARCHIVES = target/staticlib/libc_entry.a target/staticlib/libc_questions.a target/staticlib/libc_lines.a
+# what is proved: a change of it makes archives and programs anew; rt proves what they stand on before it makes them
+SOURCES = crates.txt $(shell find crates -name out -prune -o \( -name '*.rt' -o -name '*.antt' \) -print)
+# rt would compile for processors from 2009 on
+FOR_EVERY_PROCESSOR = --cpu=x86-64
 STATIC_LIBRARY = $(OUT)/libhocsimbur.a
 SHARED_LIBRARY = $(OUT)/$(SHARED)
 HARNESS = $(addprefix host/, harness.c random.c sheets.c serve.c times.c stack.c edges.c cases.c doubles.c)
@@ -48,7 +52,7 @@ PROGRAMS = verdict rows margins summary fewest carry carry_back
 PLATFORMS = linux-x86_64 linux-aarch64 windows-x86_64 wasm32
 
 .NOTPARALLEL:
-.PHONY: all libraries demo test desk install uninstall clean dist wheel panel harness sanitized wrong wrong-names check check-python check-desk
+.PHONY: all libraries programs demo test desk install uninstall clean dist wheel panel harness sanitized wrong wrong-names check check-python check-desk
 
 all: libraries panel
 
@@ -62,11 +66,6 @@ demo: libraries desk
 
 test:
 	bash .ci/run
-
-# all three proved together, on every processor; the archives themselves are made one after the other
-target/proved: crates.txt $(shell find crates -name '*.rt' -o -name '*.antt')
-	bash .ci/in_memory rt check c_entry c_questions c_lines
-	touch $@
 
 $(STATIC_LIBRARY): $(ARCHIVES)
 	rm -rf $(OUT)/objects
@@ -144,7 +143,7 @@ uninstall:
 	    $(DESTDIR)$(LIBDIR)/pkgconfig/hocsimbur-static.pc $(DESTDIR)$(MANDIR)/man1/hocsimbur.1 $(DESTDIR)$(BINDIR)/hocsimbur
 
 clean:
-	rm -rf $(OUT) $(BITCODE) $(WINDOWS) $(AARCH64) $(WASM) target/kit target/desk target/dist target/wheel target/proved $(ARCHIVES)
+	rm -rf $(OUT) $(BITCODE) $(WINDOWS) $(AARCH64) $(WASM) target/kit target/desk target/dist target/wheel $(ARCHIVES)
 
 wheel: libraries targets
 	$(PYTHON) python/make_wheel.py $(VERSION) linux-x86_64 $(SHARED_LIBRARY) target/wheel
@@ -157,8 +156,13 @@ target/desk/hocsimbur.html: $(WASM_FILES) $(shell find desk/src -type f) $(wildc
     examples/portfolio.csv examples/licence.csv
 	$(PYTHON) desk/build.py target/wasm32/hocsimbur.wasm $@
 
-target/bin/%:
-	bash .ci/in_memory rt check $*
+# a program's run, here on an empty input, proves and links it
+target/bin/%: $(SOURCES)
+	mkdir -p target/bin
+	cd crates/$* && rt run $(FOR_EVERY_PROCESSOR) < /dev/null > /dev/null
+	cp crates/$*/out/$* $@
+
+programs: $(addprefix target/bin/, verdict rows margins summary fewest carry carry_back questions sheets)
 
 dist: wheel desk $(PROGRAMS:%=target/bin/%)
 	rm -rf target/dist

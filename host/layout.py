@@ -5,9 +5,11 @@
 
 The text lays out all memory by itself, in bytes, with eight for a pointer. It means the same where a pointer takes four of them if
 
- 1. no instruction sees a pointer as a number (ptrtoint, inttoptr, a comparison, an atomic), and no type but `ptr` has a size that the
-    target chooses: an `alloca ptr` is only loaded from and stored to as `ptr`, so that four bytes or eight make no difference;
- 2. no byte of a slot that holds a pointer is ever read or written as part of a number, nor the other way round.
+ 1. no instruction sees a pointer as a number (ptrtoint, inttoptr, a comparison but with null, an atomic), and no type but `ptr` has a size that the
+    target chooses: an `alloca ptr` is only loaded from and stored to as `ptr`, so that four bytes or eight make no difference. A pair of
+    numbers, `{ i8, i64 }`, has its second number at a multiple of that number's size, on all these targets;
+ 2. no byte of a slot that holds a pointer is ever read or written as part of a number, nor the other way round; only a slot as a whole
+    may be filled with zeros, which are the null pointer where it takes four bytes and where it takes eight.
 
 The second is followed through calls, copies and pointers kept in memory, for all callers at once. Every line has to be of a known form:
 one that is not is reported, never passed over. Exit status 1 with what is reported, 2 where a file can't be read."""
@@ -26,23 +28,30 @@ SIZE = {"ptr": 8, "i64": 8, "i32": 4, "i16": 2, "i8": 1, "i1": 1}
 VALUE = r'%(?:[\w.]+|"[^"]*")'
 NAME = r'@(?:"[^"]*"|[\w.]+)'
 NUMBER = r"i(?:1|8|16|32|64)"
+PAIR = rf"\{{ {NUMBER}, {NUMBER} \}}"
 OPERAND = rf"(?:{VALUE}|-?\d+|true|false)"
+PLACE = rf"(?:{OPERAND}|@static\.\d+)"
 NOTES = r"(?:, ![\w.]+ !\d+)*"
 FORMS = {kind: re.compile(form) for kind, form in {
     "alloca": rf"({VALUE}) = alloca (ptr|{NUMBER}|\[(\d+) x i8\]), align \d+",
     "gep": rf"({VALUE}) = getelementptr (?:inbounds )?(?:nuw )?i8, ptr ({VALUE}), i64 ({OPERAND})",
     "load": rf"({VALUE}) = load (ptr|{NUMBER}), ptr ({VALUE}), align \d+{NOTES}",
-    "store": rf"store (ptr|{NUMBER}) ({OPERAND}), ptr ({VALUE}), align \d+",
-    "call": rf"(?:({VALUE}) = )?(?:tail )?call (?:noundef )?(?:zeroext )?(void|ptr|{NUMBER}) ({NAME})\((.*)\)(?: #\d+)?{NOTES}",
-    "return": rf"ret (?:void|(ptr|{NUMBER}) ({OPERAND}))",
+    "pair": rf"{VALUE} = load ({PAIR}), ptr ({VALUE}), align \d+{NOTES}",
+    "part": rf"{VALUE} = extractvalue {PAIR} {VALUE}, [01]",
+    "store": rf"store (ptr|{NUMBER}) ({PLACE}), ptr ({VALUE}), align \d+",
+    "call": rf"(?:({VALUE}) = )?(?:tail )?call (?:noundef )?(?:zeroext )?(void|ptr|{NUMBER}|{PAIR}) ({NAME})\((.*)\)(?: #\d+)?{NOTES}",
+    "return": rf"ret (?:void|(ptr|{NUMBER}) ({OPERAND})|{PAIR} {VALUE})",
     "number": rf"{VALUE} = (?:add|sub|mul|udiv|urem|and|or|xor|shl|lshr)(?: nuw| nsw| exact)* {NUMBER} {OPERAND}, {OPERAND}",
     "compare": rf"{VALUE} = icmp (?:eq|ne|[us][gl][te]) {NUMBER} {OPERAND}, {OPERAND}",
+    "null": rf"{VALUE} = icmp eq ptr {VALUE}, null",
     "convert": rf"{VALUE} = (?:zext|trunc)(?: nneg| nuw| nsw)* {NUMBER} {OPERAND} to {NUMBER}",
     "jump": rf"br (?:label {VALUE}|i1 {OPERAND}, label {VALUE}, label {VALUE}){NOTES}|unreachable",
     "switch": rf"switch {NUMBER} {OPERAND}, label {VALUE} \[|{NUMBER} -?\d+, label {VALUE}|\]",
 }.items()}
-FUNCTION = re.compile(rf"define (?:internal )?(?:noundef )?(?:zeroext )?(?:void|{NUMBER}|ptr) ({NAME})\((.*)\) #0 {{")
-ARGUMENT = re.compile(rf"(ptr|{NUMBER})(?: noundef| zeroext| align \d+)* ({OPERAND})")
+FUNCTION = re.compile(rf"define (?:internal )?(?:noundef )?(?:zeroext )?(?:void|{NUMBER}|ptr|{PAIR}) ({NAME})\((.*)\) #0 {{")
+ARGUMENT = re.compile(rf"(ptr|{NUMBER})(?: noundef| zeroext| align \d+)* ({PLACE})")
+# bytes that are only read, and no pointers
+STATIC = re.compile(r'(@static\.\d+) = private unnamed_addr constant \[(\d+) x i8\] c"[^"]*", align \d+')
 OUTSIDE = re.compile(r"|;.*|source_filename = .*|target (?:datalayout|triple) = .*|attributes #\d+ = .*|!.*|}|[\w.]+:.*|\"[^\"]*\":.*|"
                      r"declare \w+ @llvm\.(?:memmove\.p0\.p0\.i64|memset\.p0\.i64|trap|ctlz\.i64)\(.*")
 
@@ -68,6 +77,8 @@ class Module:
                 function = self._function(number, line)
             elif line.startswith("  ") and function:
                 self._instruction(function, number, line.strip())
+            elif static := STATIC.fullmatch(line):
+                self.seen["", static[1]].add((0, int(static[2])))
             elif not OUTSIDE.fullmatch(line):
                 self._report(number, line, "an unknown form")
             if line.startswith("}"):
@@ -91,7 +102,12 @@ class Module:
         if None in found:
             self._report(number, line, "an unknown form of an argument")
             return []
-        return [(function, one[2]) if one[1] == "ptr" else None for one in found]
+        return [self._pointer(function, one[2]) if one[1] == "ptr" else None for one in found]
+
+    @staticmethod
+    def _pointer(function: str, name: str) -> tuple:
+        """A value: one of the function's own, or the module's constant bytes."""
+        return ("", name) if name.startswith("@") else (function, name)
 
     def _one_pointer(self, value) -> bool:
         return value in self.allocas and self.allocas[value][1]
@@ -111,10 +127,14 @@ class Module:
             self._access((function, found[3]), found[2], number, line)
             if found[2] == "ptr":
                 self.loaded.append(((function, found[1]), (function, found[3])))
+        elif kind == "pair":
+            first, second = re.findall(NUMBER, found[1])
+            self._access((function, found[2]), first, number, line)
+            self._access((function, found[2]), second, number, line, -SIZE[first] % SIZE[second] + SIZE[first])
         elif kind == "store":
             self._access((function, found[3]), found[1], number, line)
             if found[1] == "ptr":
-                self.stored.append(((function, found[2]), (function, found[3])))
+                self.stored.append((self._pointer(function, found[2]), (function, found[3])))
                 if self._one_pointer((function, found[2])):
                     self._report(number, line, "the place of an alloca ptr is stored")
         elif kind == "call":
@@ -122,8 +142,8 @@ class Module:
         elif kind == "return" and found[1] == "ptr":
             self.returned[function].append((function, found[2]))
 
-    def _access(self, value, kind: str, number: int, line: str) -> None:
-        self.seen[value].add((0, kind))
+    def _access(self, value, kind: str, number: int, line: str, place: int = 0) -> None:
+        self.seen[value].add((place, kind))
         if kind != "ptr" and self._one_pointer(value):
             self._report(number, line, "an alloca ptr read or written as a number")
 
@@ -139,7 +159,8 @@ class Module:
             elif callee.startswith("@llvm.memmove."):
                 self.copies.append((handed[0], handed[1], int(length[1])))
             else:
-                self.seen[handed[0]].add((0, int(length[1])))
+                filled = int(length[1])
+                self.seen[handed[0]].add((0, -filled if ", i8 0, " in arguments else filled))
         elif callee not in ("@llvm.trap", "@llvm.ctlz.i64"):
             self.calls.append((callee, handed, (function, result)))
 
@@ -215,7 +236,7 @@ class Places:
         for first, second, count in self.copies:
             for to, start in ((first, second), (second, first)):
                 to, start = self._found(to), self._found(start)
-                self._add(to, {(place, kind) for place, kind in self.seen[start] if place == ANY or place < count})
+                self._add(to, {(place, within(kind, place, count)) for place, kind in self.seen[start] if place == ANY or place < count})
                 for place, cell in list(self.kept[start].items()):
                     if place == ANY or place < count:
                         self._keep(to, place, cell)
@@ -232,12 +253,30 @@ class Places:
                 self._keep(value, nearer, cell)
 
 
+def within(kind, place, count):
+    """What an access to many bytes touches of the first `count`."""
+    if not isinstance(kind, int) or place == ANY or place + abs(kind) <= count:
+        return kind
+    return count - place if kind > 0 else place - count
+
+
 def shifted(place, offset):
     return ANY if ANY in (place, offset) or place + offset > FARTHEST else place + offset
 
 
 def width(kind) -> int:
-    return kind if isinstance(kind, int) else SIZE[kind]
+    return abs(kind) if isinstance(kind, int) else SIZE[kind]
+
+
+def is_zeros(kind) -> bool:
+    """Whether an access fills bytes with zeros: such a kind is the number of bytes, made negative."""
+    return isinstance(kind, int) and kind < 0
+
+
+def meets(pointer: int, place: int, kind) -> bool:
+    """Whether an access meets the slot of a pointer, other than by zeros in all of it."""
+    apart = place >= pointer + SIZE["ptr"] or pointer >= place + width(kind)
+    return not apart and not (is_zeros(kind) and place <= pointer and pointer + SIZE["ptr"] <= place + width(kind))
 
 
 def slots(places: Places) -> tuple:
@@ -251,7 +290,7 @@ def slots(places: Places) -> tuple:
             reports.append(f"{value}: pointers and numbers at offsets that are not known")
             continue
         reports += [f"{value}: a pointer at {pointer} and {kind} at {place}" for pointer in sorted(pointers) for place, kind in numbers
-                    if place < pointer + SIZE["ptr"] and pointer < place + width(kind)]
+                    if meets(pointer, place, kind)]
     return count, reports
 
 

@@ -8,7 +8,7 @@
 # All of them come from the bitcode that the kit's clang is given for the native archive, that is, what rattle lowers the proved crates to.
 # Compiler and linkers are the kit's: its clang is also each of LLVM's tools, chosen by the first word (`llvm wasm-ld ..`).
 KIT := $(patsubst %/bin/rt,%,$(realpath $(shell command -v rt)))
-KIT_BIN = $(KIT)/on/$(shell uname -m)/toolchain/bin
+KIT_BIN = $(KIT)/toolchain/bin
 BITCODE = target/bitcode
 LLVM = $(BITCODE)/llvm
 MODULES = c_entry c_questions c_lines
@@ -32,23 +32,26 @@ $(LLVM):
 	mkdir -p $(BITCODE)
 	ln -sf $(KIT_BIN)/clang $@
 
-# The kit by links, except that its clang first keeps a copy of the bitcode. Identity, prover, logic and libraries are the kit's own, so
-# that what is proved stays proved; `rt` takes such a folder as RATTLE_HOME.
+# The kit by links, except that its clang first keeps a copy of the bitcode, and that `rt`, which finds its kit by its own place, is a copy.
+# Identity, prover, logic and libraries are the kit's own, so that what is proved stays proved.
 target/kit/KIT-ID:
 	rm -rf target/kit
-	mkdir -p target/kit/on/$(shell uname -m)/toolchain/bin $(BITCODE)
-	ln -s $(filter-out %/on, $(wildcard $(KIT)/*)) target/kit
-	ln -s $(filter-out %/toolchain, $(wildcard $(KIT_BIN:/toolchain/bin=/*))) target/kit/on/$(shell uname -m)
-	ln -s $(filter-out %/bin, $(wildcard $(KIT_BIN:/bin=/*))) target/kit/on/$(shell uname -m)/toolchain
-	ln -s $(filter-out %/clang, $(wildcard $(KIT_BIN)/*)) target/kit/on/$(shell uname -m)/toolchain/bin
+	mkdir -p target/kit/bin target/kit/toolchain/bin $(BITCODE)
+	ln -s $(filter-out %/bin %/toolchain, $(wildcard $(KIT)/*)) target/kit
+	ln -s $(filter-out %/rt %/rtlib.py, $(wildcard $(KIT)/bin/*)) target/kit/bin
+	cp $(KIT)/bin/rt $(KIT)/bin/rtlib.py target/kit/bin
+	ln -s $(filter-out %/bin, $(wildcard $(KIT)/toolchain/*)) target/kit/toolchain
+	ln -s $(filter-out %/clang, $(wildcard $(KIT_BIN)/*)) target/kit/toolchain/bin
 	printf '#!/bin/sh\ncp module.bc "%s" && exec "%s" "$$@"\n' $(abspath $(BITCODE)/module.bc) $(KIT_BIN)/clang \
-	    > target/kit/on/$(shell uname -m)/toolchain/bin/clang
-	chmod +x target/kit/on/$(shell uname -m)/toolchain/bin/clang
+	    > target/kit/toolchain/bin/clang
+	chmod +x target/kit/toolchain/bin/clang
 
 # the archive for this machine, and the bitcode that it was made of
-target/staticlib/lib%.a $(BITCODE)/%.bc: target/proved target/kit/KIT-ID
+target/staticlib/lib%.a $(BITCODE)/%.bc: $(SOURCES) target/kit/KIT-ID
+	mkdir -p target/staticlib
 	rm -f $(BITCODE)/module.bc
-	RATTLE_HOME=$(abspath target/kit) bash .ci/in_memory rt staticlib $*
+	cd crates/$*_c && $(abspath target/kit/bin/rt) lib $(FOR_EVERY_PROCESSOR)
+	cp crates/$*_c/out/lib$*_c.a target/staticlib/lib$*.a
 	mv $(BITCODE)/module.bc $(BITCODE)/$*.bc
 
 # as text, not optimised, and checked for what pointers of four bytes need
@@ -69,10 +72,10 @@ $(BITCODE)/%.windows.ll: $(BITCODE)/%.ll host/targets.mk
 	sed $(call HEAD,$(ON_WINDOWS)) -e 's/ "probe-stack"="inline-asm"//' -e 's/^attributes #0 = { nounwind/& uwtable/' $< > $@
 
 $(BITCODE)/%.aarch64.ll: $(BITCODE)/%.ll host/targets.mk
-	sed $(call HEAD,$(ON_AARCH64)) -e 's/ "target-cpu"="x86-64"//' $< > $@
+	sed $(call HEAD,$(ON_AARCH64)) -e 's/ "target-cpu"="x86-64[^"]*"//' $< > $@
 
 $(BITCODE)/%.wasm.ll: $(BITCODE)/%.ll host/targets.mk
-	sed $(call HEAD,$(ON_WASM)) -e 's/ "target-cpu"="x86-64"//' -e 's/ "probe-stack"="inline-asm"//' $< > $@
+	sed $(call HEAD,$(ON_WASM)) -e 's/ "target-cpu"="x86-64[^"]*"//' -e 's/ "probe-stack"="inline-asm"//' $< > $@
 
 $(BITCODE)/%.windows.o: $(BITCODE)/%.windows.ll
 	$(COMPILE) --target=$(ON_WINDOWS) $< -o $@

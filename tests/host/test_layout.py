@@ -89,6 +89,35 @@ class Layout(unittest.TestCase):
                              ("handed on", "call void @llvm.memmove.p0.p0.i64(ptr %a, ptr %p, i64 8, i1 false)")):
             self.reported(word, ("define void @f(ptr noundef %a)", one, *lines, "ret void"))
 
+    def test_a_slot_filled_with_zeros_passes(self):
+        zeros = "call void @llvm.memset.p0.i64(ptr %s, i8 0, i64 16, i1 false)"
+        self.assertEqual(reports(("define void @f(ptr noundef %a)", *SLOT, zeros, "ret void")), [])
+
+    def test_a_part_of_a_pointer_filled_with_zeros(self):
+        self.reported("a pointer at 0 and -4 at 0", ("define void @f(ptr noundef %a)", *SLOT,
+                                                    "call void @llvm.memset.p0.i64(ptr %s, i8 0, i64 4, i1 false)", "ret void"))
+
+    def test_a_pointer_filled_with_other_bytes(self):
+        self.reported("a pointer at 0 and 16 at 0", ("define void @f(ptr noundef %a)", *SLOT,
+                                                    "call void @llvm.memset.p0.i64(ptr %s, i8 1, i64 16, i1 false)", "ret void"))
+
+    def test_a_pair_of_numbers(self):
+        pair = ("%p = load { i8, i64 }, ptr %s, align 8", "%n = extractvalue { i8, i64 } %p, 1", "ret { i8, i64 } %p")
+        self.assertEqual(reports(("define { i8, i64 } @f(i64 noundef %a)", "%s = alloca [16 x i8], align 8", *pair)), [])
+        self.reported("a pointer at 0 and i8 at 0", ("define { i8, i64 } @f(ptr noundef %a)", *SLOT, *pair))
+        self.reported("i64 at 8 of 15 bytes", ("define { i8, i64 } @f(i64 noundef %a)", "%s = alloca [15 x i8], align 8", *pair))
+
+    def test_constant_bytes(self):
+        bytes_of = '@static.0 = private unnamed_addr constant [16 x i8] c"' + "\\00" * 16 + '", align 1\n'
+        kept = ("define void @f(ptr noundef %a)", "%k = alloca [8 x i8], align 8", "store ptr @static.0, ptr %k, align 8",
+                "%q = load ptr, ptr %k, align 8")
+        self.assertEqual(layout.check(module((*kept, "%n = load i64, ptr %q, align 8", "ret void")).replace(HEAD, HEAD + bytes_of))[1], [])
+        found = layout.check(module((*kept, "%n = load ptr, ptr %q, align 8", "ret void")).replace(HEAD, HEAD + bytes_of))[1]
+        self.assertTrue(any("a pointer at 0 and 16 at 0" in one for one in found), found)
+
+    def test_a_test_for_null_passes(self):
+        self.assertEqual(reports(("define i1 @f(ptr noundef %a)", "%n = icmp eq ptr %a, null", "ret i1 %n")), [])
+
     def test_past_the_end(self):
         self.reported("i64 at 16 of 16 bytes", ("define void @f(ptr noundef %a)", *SLOT, "%h = getelementptr i8, ptr %s, i64 16",
                                                 "%n = load i64, ptr %h, align 8", "ret void"))
