@@ -17,6 +17,7 @@ AARCH64 = target/linux-aarch64
 WASM = target/wasm32
 # as rattle calls it, except for the target and -fPIC; a warning, such as one about the module's triple, is an error
 COMPILE = $(KIT_BIN)/clang -O3 -ffunction-sections -fdata-sections -mllvm -trap-unreachable -mllvm -no-trap-after-noreturn \
+    -mllvm -no-x86-call-frame-opt -mllvm -disable-machine-licm -mllvm -disable-postra-machine-licm -mllvm -sink-common-insts=false \
     --no-default-config -no-canonical-prefixes -fintegrated-cc1 -fno-crash-diagnostics -Werror -c -x ir
 
 # the one list of wrong builds
@@ -32,26 +33,21 @@ $(LLVM):
 	mkdir -p $(BITCODE)
 	ln -sf $(KIT_BIN)/clang $@
 
-# The kit by links, except that its clang first keeps a copy of the bitcode, and that `rt`, which finds its kit by its own place, is a copy.
-# Identity, prover, logic and libraries are the kit's own, so that what is proved stays proved.
-target/kit/KIT-ID:
-	rm -rf target/kit
-	mkdir -p target/kit/bin target/kit/toolchain/bin $(BITCODE)
-	ln -s $(filter-out %/bin %/toolchain, $(wildcard $(KIT)/*)) target/kit
-	ln -s $(filter-out %/rt %/rtlib.py, $(wildcard $(KIT)/bin/*)) target/kit/bin
-	cp $(KIT)/bin/rt $(KIT)/bin/rtlib.py target/kit/bin
-	ln -s $(filter-out %/bin, $(wildcard $(KIT)/toolchain/*)) target/kit/toolchain
-	ln -s $(filter-out %/clang, $(wildcard $(KIT_BIN)/*)) target/kit/toolchain/bin
-	printf '#!/bin/sh\ncp module.bc "%s" && exec "%s" "$$@"\n' $(abspath $(BITCODE)/module.bc) $(KIT_BIN)/clang \
-	    > target/kit/toolchain/bin/clang
-	chmod +x target/kit/toolchain/bin/clang
+# The kit's toolchain by links, except that its clang first keeps a copy of the bitcode; rattle calls it with no environment.
+target/toolchain/bin/clang: host/targets.mk
+	rm -rf target/toolchain
+	mkdir -p target/toolchain/bin $(BITCODE)
+	ln -s $(filter-out %/bin, $(wildcard $(KIT)/toolchain/*)) target/toolchain
+	ln -s $(filter-out %/clang, $(wildcard $(KIT_BIN)/*)) target/toolchain/bin
+	printf '#!/bin/sh\n/bin/cp module.bc "%s" && exec "%s" "$$@"\n' $(abspath $(BITCODE)/module.bc) $(KIT_BIN)/clang > $@
+	chmod +x $@
 
 # the archive for this machine, and the bitcode that it was made of
-target/staticlib/lib%.a $(BITCODE)/%.bc: $(SOURCES) target/kit/KIT-ID
+target/staticlib/lib%.a $(BITCODE)/%.bc: target/proved target/toolchain/bin/clang
 	mkdir -p target/staticlib
 	rm -f $(BITCODE)/module.bc
-	cd crates/$*_c && $(abspath target/kit/bin/rt) lib $(FOR_EVERY_PROCESSOR)
-	cp crates/$*_c/out/lib$*_c.a target/staticlib/lib$*.a
+	cd crates/$*_c && $(call BUILD,$*_c,lib) --crate-type staticlib --links $*_c= --toolchain $(abspath target/toolchain) \
+	    -o $(abspath target/staticlib/lib$*.a)
 	mv $(BITCODE)/module.bc $(BITCODE)/$*.bc
 
 # as text, not optimised, and checked for what pointers of four bytes need
