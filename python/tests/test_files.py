@@ -380,6 +380,7 @@ class Long(Folder):
     def test_interrupted(self):
         lines = [dict(case(101, season), station=number, season=season) for number in range(1, 20001) for season in (1, 2, 3, 4)]
         started = subprocess.Popen([sys.executable, "-m", "hocsimbur", "release", "--csv", "-"], cwd=ROOT, stdin=subprocess.PIPE,
+                                   preexec_fn=lambda: signal.signal(signal.SIGINT, signal.SIG_DFL),  # a shell's background job ignores it
                                    stdout=subprocess.PIPE, stderr=subprocess.PIPE, env={**os.environ, "PYTHONPATH": str(PYTHON)})
         started.stdin.write(sheet(*lines))  # it has started when it has read nearly all of this
         started.stdin.close()
