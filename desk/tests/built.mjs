@@ -42,3 +42,14 @@ test('the library inside is the built one', () => {
   assert.ok(Buffer.from(wasm, 'base64').equals(fs.readFileSync(at('wasm32/hocsimbur.wasm'))));
   assert.ok(Buffer.byteLength(page) < 450000);
 });
+
+test('a module imports only from its own layer and those above it', () => {
+  const layers = ['library', 'words', 'sheet', 'judging', 'views'], src = new URL('../src/', import.meta.url);
+  for (const [place, layer] of layers.entries()) {
+    for (const file of fs.readdirSync(new URL(`${layer}/`, src))) {
+      const text = fs.readFileSync(new URL(`${layer}/${file}`, src), 'utf8');
+      const others = [...text.matchAll(/from '\.\.\/(\w+)\//g)].map(([, other]) => other);
+      assert.deepEqual(others.filter((other) => layers.indexOf(other) > place), [], `${layer}/${file}`);
+    }
+  }
+});

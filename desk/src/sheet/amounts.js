@@ -1,6 +1,7 @@
 // A cell as `hocsimbur import` reads it: a number with or without a unit, or the size of a wire, made a whole number of the column's unit.
 // What is no whole number is rounded only to the cautious side, where the column has one, and only where the person says so.
 import { BY_NAME, COLUMN, NAMES, data, fill } from '../library/data.js';
+import { outside } from '../words/words.js';
 import { SPACES, below, exact, isWhole, shown, times } from './numbers.js';
 import { wireKey } from './wires.js';
 
@@ -54,12 +55,6 @@ function changeOf(text, name, value) {
 function sideOf(name, { layer = 0, soil = 0 }) {
   const side = SIDES[name]?.side ?? data.cells.neither;
   return side === data.cells.by_layer ? (layer > soil ? data.cells.down : data.cells.up) : side;
-}
-
-// Whether a number that is no whole number is out of its column's range: it is probably in another unit, so no side of it is cautious.
-export function outside(name, [upper, lower]) {
-  const { low, high } = BY_NAME[name];
-  return upper < BigInt(low) * lower || upper > BigInt(high) * lower;
 }
 
 // What a cell that is no plain whole number becomes, as `import` has it of a line with this frequency, layer and soil:

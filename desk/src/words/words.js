@@ -1,6 +1,5 @@
 // Refusals, margins and values in the product's words.
 import { BY_NAME, NAMES, REFUSAL, data, fill } from '../library/data.js';
-import { outside } from '../sheet/amounts.js';
 import { grouped, metres, share, tenths } from './decimals.js';
 
 const LONGEST = 40;
@@ -11,6 +10,12 @@ const KINDS = [
   ['empty', /^$/], ['point', /^\p{Nd}+[.]0*$/u], ['fraction', /^\p{Nd}*[.]\p{Nd}+$/u], ['zero', /^0\p{Nd}+$/u], ['digits', /^[0-9]{7,}$/],
   ['sign', /^[-+\u2212]\p{Nd}+$/u], ['letters', /^[\p{Nd}.]+ ?[\p{L}\p{Nl}\p{No}][^\n]*$/u], ['other', /^/],
 ];
+
+// Whether a number that is no whole number is out of its column's range: it is probably in another unit, so no side of it is cautious.
+export function outside(name, [upper, lower]) {
+  const { low, high } = BY_NAME[name];
+  return upper < BigInt(low) * lower || upper > BigInt(high) * lower;
+}
 
 // A text of digits and a point whose number is out of its column's range.
 function isOutside(name, text) {
