@@ -8,13 +8,11 @@ from __future__ import annotations
 
 import ctypes
 import enum
-import os
-import pathlib
-import sys
 from dataclasses import dataclass, fields
-from typing import List, NamedTuple, Optional, Sequence, Tuple
+from typing import List, NamedTuple, Sequence, Tuple
 
-from . import __version__
+# three of them for callers: what may be raised, the library's file, and a question
+from .entries import LibraryMissing, asked as _asked, library_name, version
 
 LINES = 256          # most value lines of a sheet
 SHEET_BYTES = 65536  # most bytes of a sheet
@@ -57,10 +55,6 @@ class Refused(Exception):
         self.number = number
         self.line = line
         self.column = column
-
-
-class LibraryMissing(Exception):
-    """The shared library is not there, or is not one that this package knows."""
 
 
 class Pair(NamedTuple):
@@ -180,46 +174,6 @@ class Split:
     split: int
 
 
-def library_name(system: str) -> str:
-    """The file of the shared library, as `sys.platform` names the system."""
-    return "hocsimbur.dll" if system == "win32" else f"libhocsimbur.so.{__version__.split('.', maxsplit=1)[0]}"
-
-
-def _library() -> ctypes.CDLL:
-    """The shared library: the one that HOCSIMBUR_LIBRARY names, the one inside this package, the one of a checkout, or the system's."""
-    here, name = pathlib.Path(__file__).resolve().parent, library_name(sys.platform)
-    named = os.environ.get("HOCSIMBUR_LIBRARY")
-    places = [named] if named else [
-        str(place) for place in (here / name, here.parents[1] / "target" / "host" / name) if place.exists()
-    ] + [name]
-    told = []
-    for place in places:
-        try:
-            return ctypes.CDLL(place)
-        except OSError as error:
-            told.append(str(error))
-    raise LibraryMissing("; ".join(told))
-
-
-class _Asked:
-    """The library, loaded when it is first asked."""
-
-    library: Optional[ctypes.CDLL] = None
-
-    def entry(self, name: str):
-        if self.library is None:
-            self.library = _library()
-        try:
-            function = getattr(self.library, name)
-        except AttributeError:
-            raise LibraryMissing(f"the library has no {name}") from None
-        function.restype = ctypes.c_uint32 if name == "hocsimbur_version" else ctypes.c_int64
-        return function
-
-
-_asked = _Asked()
-
-
 def _slice(array: ctypes.Array) -> list:
     """An array as the two arguments that stand for it; a null pointer where it is empty."""
     length = len(array)
@@ -258,12 +212,6 @@ def _numbers(name: str, width: int, most: int, *arguments) -> List[List[int]]:
 
 def _pairs(numbers: Sequence[int]) -> List[Pair]:
     return [Pair(*numbers[i:i + 2]) for i in range(0, len(numbers), 2)]
-
-
-def version() -> str:
-    """The version of the library, as 2.0.0."""
-    number = _asked.entry("hocsimbur_version")()
-    return f"{number // 10000}.{number // 100 % 100}.{number % 100}"
 
 
 def count(sheet: bytes) -> int:

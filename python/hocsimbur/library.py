@@ -17,8 +17,9 @@ from .portfolio.licence import ALL_SEASONS, MOST_AREA, Licence, Licensed
 from .sheets import checking, layout, rounding, units
 from .sheets.amounts import shown
 from .sheets.files import Batch, File, Lines, each
-from .sheets.forms import printable, whole_number
+from .sheets.forms import whole_number
 from .sheets.names import BY_NAME, FORMER, NAMES
+from .sheets.printable import printable
 from .sheets.words import Asked, refusal
 
 Yard = Mapping[str, object]  # the 22 names with whole numbers: ints, or floats, fractions and decimals that are whole

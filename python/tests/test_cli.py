@@ -63,6 +63,11 @@ class Help(unittest.TestCase):
         done = process("--version", env={"HOCSIMBUR_LIBRARY": "no-such-library.so"})
         self.assertEqual((done.status, done.out, done.err), (0, f"hocsimbur {core.version()}, no library found\n", ""))
 
+    def test_version_imports_little(self):
+        done = process(command=(sys.executable, "-c", "import sys; from hocsimbur.command.cli import main; main(['version']); print(*sys.modules)"))
+        self.assertIn("hocsimbur.entries", done.out.split())
+        self.assertFalse({"hocsimbur.core", "dataclasses", "fractions"} & set(done.out.split()))
+
     def test_did_you_mean(self):
         self.assertEqual(run("verdits", "tests/sample.csv"), (3, "", "hocsimbur: 'verdits' is no command; did you mean verdict?\n"
                                                              "`hocsimbur --help` shows how it is used\n"))

@@ -9,7 +9,8 @@ from .. import core
 from ..sheets.words import Asked
 from .inputs import named
 from .output import FAILED, REFUSED, WELL, Failed, read, reason, show_bytes, tell, write
-from .stopped import Stopped, ask
+from .refusing import ask
+from .stopped import Stopped
 
 
 def _folder(name: str) -> pathlib.Path:

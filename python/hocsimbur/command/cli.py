@@ -7,7 +7,7 @@ import re
 import sys
 from typing import Any, Callable, List, NamedTuple, NoReturn, Optional, Tuple
 
-from .. import core
+from ..entries import LibraryMissing
 from . import help_texts, output
 from .output import FAILED, REFUSED, WELL, ClosedPipe, Failed, show, tell
 from .stopped import Stopped
@@ -244,7 +244,7 @@ def _main(argv: Optional[List[str]]) -> int:
     except Failed as error:
         tell(f"hocsimbur: {error}")
         return FAILED
-    except core.LibraryMissing as error:
+    except LibraryMissing as error:
         tell(f"hocsimbur: the proved library is not found or is another one: {error}")
         tell("build it by `make`, or name it in the environment variable HOCSIMBUR_LIBRARY")
         return FAILED

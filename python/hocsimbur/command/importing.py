@@ -8,7 +8,8 @@ from ..portfolio import licence
 from ..sheets import checking, layout, spreadsheet
 from ..sheets.words import Asked
 from .output import WELL, Failed, read, show, tell, write
-from .stopped import Stopped, ask
+from .refusing import ask
+from .stopped import Stopped
 
 
 def _accepted(made: spreadsheet.Made) -> None:

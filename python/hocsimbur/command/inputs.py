@@ -11,7 +11,8 @@ from ..sheets.files import Batch, File, Lines
 from ..sheets.words import Asked, refusal
 from .output import Failed, read, reason, tell
 from .progress import watched
-from .stopped import Stopped, clear
+from .refusing import clear
+from .stopped import Stopped
 from .terminal import field
 
 if TYPE_CHECKING:

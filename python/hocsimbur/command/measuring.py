@@ -10,7 +10,7 @@ from ..sheets import site
 from ..sheets.words import Asked
 from . import measured
 from .output import WELL, Failed, read, show, tell
-from .stopped import ask, clear
+from .refusing import ask, clear
 
 
 def _given(name: str, option: str) -> bytes:

@@ -4,12 +4,11 @@ A write that fails is never passed over: it is raised as `Failed`, whose sentenc
 from __future__ import annotations
 
 import os
-import pathlib
 import stat
 import sys
 from typing import Iterable, Optional, TextIO
 
-from ..sheets.forms import printable
+from ..sheets.printable import printable
 
 WELL, REFUSED, HELD, FAILED = 0, 1, 2, 3  # exit statuses: all well; refused; unsafe, undecided or held; input or output failed
 
@@ -98,35 +97,35 @@ def read(name: str) -> bytes:
     return data
 
 
-def _special(path: pathlib.Path) -> bool:
+def _special(path: str) -> bool:
     """Whether something is there that is no regular file, as a device or a pipe."""
-    return path.exists() and not stat.S_ISREG(path.stat().st_mode)
+    return os.path.exists(path) and not stat.S_ISREG(os.stat(path).st_mode)
 
 
 def write(name: str, data: bytes, force: bool, sources: Iterable[Optional[str]] = ()) -> None:
     """A whole file under its name, or none: written under another name beside it and renamed.
 
     What is there already is replaced only with `force`, and never one of the files that were read."""
-    path = pathlib.Path(os.path.realpath(name))
+    path = os.path.realpath(name)
     try:
-        if path.exists() and any(source and source != "-" and path.samefile(source) for source in sources):
+        if os.path.exists(path) and any(source and source != "-" and os.path.samefile(path, source) for source in sources):
             raise Failed(f"{name}: this file was read; it is not overwritten")
         if _special(path):
             with open(path, "wb", buffering=0) as file:
                 file.write(data)
             return
-        if path.exists() and not force:
+        if os.path.exists(path) and not force:
             raise Failed(f"{name}: it is there already; --force replaces it")
         _rename_into(path, data)
     except OSError as error:
         raise Failed(f"{name}: {reason(error)}") from None
 
 
-def _rename_into(path: pathlib.Path, data: bytes) -> None:
+def _rename_into(path: str, data: bytes) -> None:
     """The bytes under a temporary name in the same folder, then renamed; the temporary file is taken away where that fails."""
-    mode = path.stat().st_mode & 0o777 if path.exists() else 0o666 & ~_umask()
+    mode = os.stat(path).st_mode & 0o777 if os.path.exists(path) else 0o666 & ~_umask()
     import tempfile  # only where a file is written
-    handle, temporary = tempfile.mkstemp(prefix=".hocsimbur-", dir=path.parent)
+    handle, temporary = tempfile.mkstemp(prefix=".hocsimbur-", dir=os.path.dirname(path))
     try:
         with os.fdopen(handle, "wb") as file:
             file.write(data)

@@ -13,7 +13,8 @@ from ..sheets.decimals import NO_BREAK, exact
 from ..sheets.names import BY_NAME
 from ..sheets.words import Asked, refusal, verdict
 from .output import HELD, WELL, read, show
-from .stopped import Stopped, ask, clear
+from .refusing import ask, clear
+from .stopped import Stopped
 from .terminal import aligned, commas
 
 Case = Dict[str, int]

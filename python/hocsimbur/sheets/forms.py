@@ -39,11 +39,6 @@ def foreign(sheet: bytes) -> str:
     return "the file has bytes 0 and is no plain text; save it as CSV in UTF-8" if b"\0" in sheet[:1000] else ""
 
 
-def printable(text: str) -> str:
-    """A text in which what a terminal would act on is escaped."""
-    return "".join(sign if sign.isprintable() else sign.encode("unicode_escape").decode() for sign in text)
-
-
 def short(text: str) -> str:
     """A field as it is quoted, cut where it is long."""
     return text if len(text) <= LONGEST else text[:LONGEST] + "…"

@@ -9,8 +9,9 @@ from typing import Callable, Dict, List, Optional, Sequence, Tuple
 from ..core import LINES, SHEET_BYTES, Refusal, Refused, Verdict
 from . import layout
 from .decimals import exact, grouped
-from .forms import FORMER_ONLY, cell, foreign, printable, wrong_name, wrong_value
+from .forms import FORMER_ONLY, cell, foreign, wrong_name, wrong_value
 from .names import BY_NAME, FORMER, METALS, NAMES, Name
+from .printable import printable
 
 __all__ = ["BY_NAME", "FORMER", "METALS", "NAMES", "Asked", "Name", "refusal", "verdict"]
 
