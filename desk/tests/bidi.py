@@ -67,6 +67,8 @@ class Firefox(Driven):
                 if answer["type"] == "error":
                     raise RuntimeError(f"{method}: {answer['error']}: {answer['message'][:600]}")
                 return answer["result"]
+            if "method" not in answer:
+                continue  # the late answer to a question that was given up
             self.events.append(answer)
 
     def size(self, width, height, scale=1):
