@@ -107,6 +107,9 @@ def drawn(b):
     same("edge of the curve is the headroom", "up to 3,476 A" in plain(b.run("document.querySelector('.under').textContent")), True)
 
 
+PAPER = (1039, 700)  # A4 across without its margins
+
+
 def printed(b):
     """A print names the sheet with its SHA-256, the library, and the command that makes the formal report."""
     b.click("#sample"), b.print(), b.settle()
@@ -120,6 +123,13 @@ def printed(b):
     text = b.run("document.getElementById('printed').textContent")
     same("changed", "portfolio.csv (not saved)" in text and digest not in text, True)
     b.click("#undo"), b.settle()
+    if b.name == "chromium":  # only it shows what is printed on the screen
+        wide = b.run("[innerWidth, innerHeight]")
+        b.size(*PAPER), b.call("Emulation.setEmulatedMedia", media="print"), b.run("dispatchEvent(new Event('beforeprint'))"), b.settle()
+        for query in ("#sheet", ".pf"):
+            same(f"{query} fits the paper", b.run(f"document.querySelector('{query}').offsetWidth <= innerWidth"), True)
+        b.run("dispatchEvent(new Event('afterprint'))"), b.call("Emulation.setEmulatedMedia", media="")
+        b.prefer(), b.size(*wide), b.settle()
 
 
 def hostile(b):

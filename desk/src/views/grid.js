@@ -18,7 +18,7 @@ const WIDTHS = { // rem: so that a cell that is typed moves no other
   ln: 2.3, station: 3.55, season: 3.25, soil: 2.8, layer: 2.95, thick: 2.75, shock: 2.95, clear: 2.65, wire: 2.7, body: 2.6, fault: 3.35,
   split: 2.4, xr: 1.9,
   across: 3.15, along: 2.9, space: 3.15, depth: 2.95, dia: 3.1, rods: 2.55, rodlen: 3.3, place: 2.75, metal: 2.9, hz: 1.95, verdict: 6.4,
-  near: 9, need: 5.1, upto: 4.9,
+  near: 9.25, need: 5, upto: 4.75,
 };
 const starts = new Set(GROUPS.map(([, names]) => names[0]));
 const lines = new Map(); // drawn rows by place: { tr, head, cells, texts, results, seen }

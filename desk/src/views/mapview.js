@@ -62,7 +62,8 @@ function grid(drawn, one) {
     cell(drawn.names, yard))));
   const words = `Verdicts over ${label(right)} and ${label(down)}: arrows move, Enter takes both values over`;
   return h('table', { class: 'map', role: 'grid', 'aria-label': words },
-  h('thead', {}, h('tr', {}, h('th', { scope: 'col', class: 'axes' }, h('span', {}, `→ ${unit(right)}`), h('span', {}, `↓ ${unit(down)}`)),
+  h('thead', {}, h('tr', {}, h('th', { scope: 'col', class: 'axes' },
+    h('span', {}, `→\u00a0${unit(right)}`), h('span', {}, `↓\u00a0${unit(down)}`)),
     drawn.right.map((x) => head(right, x, 'col')))),
   h('tbody', {}, rows));
 }
