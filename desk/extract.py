@@ -14,6 +14,7 @@ from hocsimbur.portfolio.lines import YARD
 from hocsimbur.report import drawing, pages, plan, style, tables
 from hocsimbur.sheets import catalogue, forms, labels, names, spreadsheet, words
 from cell_words import cell_words
+from head_words import head_words
 from sentences import advised, asides, current, differences, licences, margins, released, told, totals, tried
 from site_words import site_words
 from templates import HEADER, template
@@ -125,6 +126,6 @@ def data():
         "refusals": refusals(), "margins": margins(), "told": told(), "current": current(), "differences": differences(),
         "asides": asides(),
         "released": {str(licensed): [released(count, licensed) for count in (1, 2, 3, 4)] for licensed in (True, False)},
-        "tried": tried(), "advised": advised(), "site": site_words(), "cells": cell_words(), "licences": licences(),
+        "tried": tried(), "advised": advised(), "site": site_words(), "cells": cell_words(), "heads": head_words(), "licences": licences(),
         "totals": totals(), "proved": pages.PROVED,
     }

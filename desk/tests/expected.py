@@ -5,9 +5,12 @@ order, candidates for what to change, licences and the names of wires, cells wit
 same, and words.mjs compares them word for word."""
 from __future__ import annotations
 
+import difflib
 import json
 import random
+import re
 import sys
+from fractions import Fraction
 from pathlib import Path
 from typing import Dict, List
 
@@ -21,6 +24,7 @@ from hocsimbur.portfolio import advice, candidates, decision, licence, lines, re
 from hocsimbur.portfolio.compared import margin, share  # noqa: E402
 from hocsimbur.sheets import amounts, checking, decimals, layout, names, site, spreadsheet, units, words  # noqa: E402
 from hocsimbur.sheets.forms import Unclear  # noqa: E402
+from hocsimbur.sheets.labels import LABELS  # noqa: E402
 
 NAMES = [name.name for name in names.NAMES]
 COUNT = 1000
@@ -283,6 +287,88 @@ def imports(rng: random.Random):
         yield [rows, [layout.cells(line) for line in layout.lines(made.sheet)[1:]], told_ + made.rounded]
 
 
+def head(rng: random.Random, name: str):
+    """A head of a column, as people write it, and the unit that it says."""
+    label = LABELS[name].label if name in LABELS else name
+    own = [*units.UNITS.get(name, ()), *(["cycles"] if name in ("shock", "clear", "wire") else [])]
+    if name in ("soil", "layer"):  # always a whole number, since the thickness goes by them
+        own = ["ohm m", "Ω·m", "kohm m"]
+    unit = rng.choice(own) if own and rng.random() < 0.95 else rng.choice(("qqq", "m", ""))
+    plain = rng.choice((name,) * 9 + (name.upper(), label, label.lower(), f"{name} []"))
+    if rng.random() < 0.85 or not own and rng.random() < 0.9:
+        return plain, ""
+    return rng.choice((f"{name} [{unit}]", f"{label} ( {unit} )", f"{name.title()}({unit})")), unit
+
+
+def under(rng: random.Random, name: str, value: str, unit: str, calm: bool) -> str:
+    """A cell of a column whose head says a unit; a calm one becomes a whole number."""
+    if name in ("soil", "layer"):
+        return str(int(value) / 1000) if unit == "kohm m" else value
+    times = units.factor(name, unit, 60) if unit else 1
+    if calm and times is not None:
+        whole = [one for one in ("10", "5", "0.5", "2.5", "1000", "25", "12.0") if (Fraction(one) * times).denominator == 1]
+        return rng.choice(whole) if unit else value
+    if not unit:
+        return rng.choice((value,) * 30 + ("x", "12.5", "0.5s"))
+    return rng.choice(("4", "0.5", "7", "12.5", "3,18", "100", "1e2", "18in", "2.5 kA", "30 cycles", "1.234", "x", "-4", "0.05", "15"))
+
+
+def heads(rng: random.Random):
+    """Sheets under heads with units and labels, below a title, with other columns and names of stations; and what `import` makes of
+    them."""
+    for place in range(COUNT // 2):
+        order = list(NAMES) if place % 3 else rng.sample(NAMES, len(NAMES))
+        columns, calm = [(name, *head(rng, name)) for name in order], rng.random() < 0.6
+        if rng.random() < 0.1:
+            columns.pop(rng.randrange(len(columns)))
+        if rng.random() < 0.1:
+            at = rng.randrange(len(columns))
+            columns[at] = (columns[at][0], columns[at][0][:-1] + rng.choice(("", "x", "xy")), "")
+        if rng.random() < 0.05:
+            columns.insert(rng.randrange(len(columns)), rng.choice(columns))
+        for more in ("remark", "", "Substation (north)", "ms", "constructor"):
+            if rng.random() < 0.05:
+                columns.insert(rng.randrange(len(columns)), ("", more, ""))
+        if rng.random() < 0.4:
+            columns.insert(rng.randrange(len(columns)), ("name", rng.choice(("name", "Name", "NAME")), ""))
+        above = [[rng.choice(("Yards of 2026", "Ashgrove; second issue", "x" * 60))] for _ in range(rng.choice((0, 0, 0, 0, 1, 2)))]
+        below = []
+        for season in range(1, rng.randint(2, 4)):
+            values = dict(zip(NAMES, SOUND), season=str(season), name=rng.choice(("North",) * 20 + ("South", "")))
+            below.append([under(rng, name, values.get(name, "7"), unit, calm) if name not in ("", "name", "station", "season") else
+                          values.get(name, "remark") for name, _, unit in columns])
+        yield heads_asked([*above, [one for _, one, _ in columns], *below], rng.choice(",;\t"), len(above), place % 3 > 0)
+
+
+def near(rng: random.Random):
+    """Words that are nearly some of others, and which of them difflib finds nearest, as the command asks it."""
+    for _ in range(COUNT):
+        others = rng.sample([*NAMES, "abx", "aby", "bax", "space_mm"], rng.randint(1, 12))
+        letters = list(rng.choice(others))
+        for _ in range(rng.randint(0, 4)):
+            letters.insert(rng.randrange(len(letters) + 1), rng.choice("abcdelorst_xé"))
+            if rng.random() < 0.6:
+                letters.pop(rng.randrange(len(letters)))
+        yield ["".join(letters), others, (difflib.get_close_matches("".join(letters), others, 1) or [""])[0]]
+
+
+TOLD = re.compile(r"\d+ (lines? above the names|(name|column|value|diameter)s?): ")
+
+
+def heads_asked(table, sign: str, above: int, in_order: bool):
+    """A text of lines, what is above its names, whether its columns are in the order of a sheet, and what `import` makes of it."""
+    text = "".join(sign.join('"' + one.replace('"', '""') + '"' if set(one) & {sign,
+                                                                               '"'} else one for one in line) + "\n" for line in table)
+    try:
+        made = spreadsheet.make(text.encode())
+    except spreadsheet.Refusals as refusals:
+        return [text, above, in_order, {"refused": refusals.said}]
+    names_, *values = [layout.cells(line) for line in layout.lines(made.sheet)]
+    rows = [[line[names_.index(name)] for name in NAMES] for line in values] if set(names_) >= set(NAMES) else []
+    told_ = [one for one in made.changes.told() if TOLD.match(one)] + made.rounded
+    return [text, above, in_order, {"rows": rows, "told": told_, "called": [[int(one), name] for one, name in made.called.items()]}]
+
+
 WIRES = ["4/0", "250 kcmil", "95 mm2", "95 mm\u00b2", "211 kcmil", "2000 kcmil", "2001 kcmil", "0 kcmil", "4", "#4", "AWG 4", "no. 2",
          "0000", "00 awg", "70 sq mm", "70sqmm", "300MCM", "1kcmil", "250", "x", "5/0", "mm2", "185 MM^2", "96 mm2", "<b>", "W" * 60, "4/0 copper"]
 CALLED = ["Ashgrove", "Elm, west", 'say "so"', "a;b", "a\u00a0b", "a\u200bb", "\u202eevil", "\u00e9", "Кировск", "W" * 300, "=1+1", "a\tb"]
@@ -396,6 +482,7 @@ def square_words(case, text):
 KINDS = {"shown": shown, "shares": shares, "mended": mended, "ambiguous": ambiguous, "refused": refused, "portfolios": portfolios,
          "licences": licences, "outside": outside, "fields": fields, "cells": cells, "imports": imports, "soils": soils,
          "splits": splits, "squares": squares}
+KINDS.update({"heads": heads, "near": near})
 
 if __name__ == "__main__":
     json.dump({kind: list(make(random.Random(number))) for number, (kind, make) in enumerate(KINDS.items())}, sys.stdout)

@@ -17,6 +17,7 @@ from browsers import asked
 from hands import drawn, dropping, hostile, keys, many_lines, opened, paste, printed, ranges, site
 from moving import moving, telling
 from panels import by_keys, licensing, mapped, outside, units
+from panels import heads
 from tour import tour
 from hocsimbur.portfolio import advice, decision, licence, lines, reasons
 from hocsimbur.portfolio.compared import margin as margin_of
@@ -134,6 +135,7 @@ def closed(b):
 
 
 SCENARIOS = (keys, ranges, moving, telling, paste, units, drawn, mapped, site, stations, outside, licensing, by_keys, opened, dropping, many,
+             heads,
              refusals, printed, hostile, many_lines, tour, access)
 
 

@@ -78,6 +78,54 @@ def units(b):
     b.click("#sample"), b.settle()
 
 
+HEADS = {"soil": "Soil [ohm m]", "thick": "thick (in)", "shock": "shock [cycles]", "fault": "Fault current (kA)", "space": "space (m)",
+         "depth": "Depth (m)"}
+UNDER = dict(zip(NAMES, "9,1,400,2500,4,30,500,500,70,3.18,600,10,11,11,7,0.5,100,0,0,0,1,60".split(",")))
+
+
+def table(sign, *called, **heads_):
+    """A text as a spreadsheet writes it: a title, heads with units, and a line for each name of a station."""
+    names_ = ["name", *({**dict(zip(NAMES, NAMES)), **HEADS, **heads_}.values())]
+    lines = [[one, *{**UNDER, "season": str(season)}.values()] for season, one in enumerate(called, 1)]
+    return "".join(sign.join(line) + "\n" for line in [["Yards of 2026"], names_, *lines])
+
+
+def heads(b):
+    """A title, units in the heads of columns and names of stations, pasted and opened: read as by `import`, in its words."""
+    b.click("#new"), b.click(cell(0, "station")), b.paste(table("\t", "Elm")), b.settle()
+    cells = ("soil", "thick", "shock", "fault", "space", "depth")
+    same("by their heads", [shown(b, 0, name) for name in cells], ["400", "4 in", "500", "3180", "7000", "500"])
+    whole = spreadsheet.make(table("\t", "Elm").replace("\t4\t", "\t5\t").encode())
+    wanted = "; ".join(one.replace("line 3,", "line 2,") for one in whole.changes.told() if "tabs made commas" not in one)
+    said = b.said()
+    same("told", said.split("; left as it is: ")[0],
+         "1 line pasted; " + wanted.replace("1 value: in made mm (line 2, thick, 5 is 127)", "")
+         .replace("; ; ", "; ").rstrip("; "))
+    same("left", said.split("; left as it is: ")[1].startswith("line 2, thick: 4 is 101.6 mm, not a whole number of mm; the cautious"),
+         True)
+    b.click(cell(0, "thick")), b.key("Enter"), b.settle()
+    same("rounded", [shown(b, 0, "thick"), told(b)[0][0]], ["101", "unsafe"])
+    b.key("F2")
+    same("a keyboard with letters", b.run("document.activeElement.inputMode"), "text")
+    b.key("Escape"), b.click("#view-stations"), b.settle()
+    same("named", b.run("document.querySelector('[data-key=\"9 name\"]').value"), "Elm")
+    same("all seasons are asked", text(b, "#stations .why").split("; ")[1], "seasons 2, 3 and 4 have no line")
+    b.click("#view-lines"), b.click(cell(0, "station")), b.paste(table("\t", "Elm", depth="Depth (kA)")), b.settle()
+    same("another unit", b.said(), "Nothing was pasted: line 2, depth (column 17): "
+                                   "'Depth (kA)' has the unit 'kA'; depth may have mm, cm, m, in or ft")
+    same("the sheet stays", shown(b, 0, "depth"), "500")
+    folder = Path(tempfile.mkdtemp(prefix="desk-"))
+    (folder / "heads.csv").write_text(table(";", "Elm", "Elm", thick="thick (mm)", remark="remark").replace(";4;", ";102;"))
+    (folder / "twice.csv").write_text(table(";", "Elm", "Ash"))
+    same("opened", dropped(b, folder / "heads.csv").split("; ")[:2],
+         ["heads.csv: 2 lines", "1 line above the names: left out (line 1, 'Yards of 2026')"])
+    same("judged", [line[0] for line in told(b)], ["unsafe", "unsafe"])
+    same("not as in its file", text(b, "#name"), "heads.csv (not saved)")
+    same("two names", dropped(b, folder / "twice.csv"),
+         "twice.csv was not opened: line 4, name (column 1): station 9 is 'Ash' here and 'Elm' above")
+    b.click("#sample"), b.settle()
+
+
 YARDS = """JSON.stringify([...document.querySelectorAll('.map td')].map(e => [e.dataset.key, e.title]))"""
 
 

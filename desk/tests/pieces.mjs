@@ -13,6 +13,7 @@ const decimals = await import('../src/words/decimals.js');
 const words = await import('../src/words/words.js');
 const { cellsOf, parsed } = await import('../src/sheet/reading.js');
 const { licenceOf } = await import('../src/sheet/licence.js');
+const granting = await import('../src/sheet/granting.js');
 const { shown, whole } = await import('../src/sheet/numbers.js');
 const { areaOf } = await import('../src/sheet/wires.js');
 const store = await import('../src/sheet/store.js');
@@ -132,6 +133,16 @@ test('texts of several kinds are read: sep=, old line ends, quotes, a header of 
   assert.match(notes[0], /station, layer, .* and hz are/);
   assert.match(cellsOf(`${NAMES.filter((name) => name !== 'hz')}\n${SOUND.slice(0, -1)}\n`).notes[0], /\bhz is\b/);
   assert.equal(cellsOf('soil\n130\n').header, false);
+});
+
+test('names of stations go into the licence, and what is asked stays', () => {
+  const rows = [line(), line(['station', '8'])], all = [1, 2, 3, 4];
+  const called = new Map([[7, 'North'], [8, ''], [9, 'a\u200bb'], [70000, 'far']]);
+  const of = (licence) => [...granting.withNames(licence, rows, called)].map(([station, { name, seasons }]) => [station, name, seasons]);
+  assert.deepEqual(of(new Map()), [[7, 'North', all], [8, '', all]]);
+  const own = new Map([[8, { name: 'Elm', seasons: [2], wire: '4/0', area: 211, byLicence: true }]]);
+  assert.deepEqual(of(own), [[8, 'Elm', [2]], [7, 'North', []]]);
+  assert.equal(granting.withNames(own, rows, new Map([[7, '']])), own);
 });
 
 test('blank rows are no lines: numbers go on after them, and a place stays what it is', () => {

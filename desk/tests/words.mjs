@@ -17,10 +17,13 @@ const expected = JSON.parse(fs.readFileSync(process.env.EXPECTED, 'utf8'));
 const core = await import('../src/library/core.js');
 const { BY_NAME, NAMES, samples } = await import('../src/library/data.js');
 const decimals = await import('../src/words/decimals.js');
+const { nearest } = await import('../src/words/near.js');
 const words = await import('../src/words/words.js');
 const { cellsOf, parsed, tooMany } = await import('../src/sheet/reading.js');
+const { isBare, sheetOf } = await import('../src/sheet/reading.js');
 const { whole } = await import('../src/sheet/numbers.js');
 const amounts = await import('../src/sheet/amounts.js');
+const { columnOf } = await import('../src/sheet/heads.js');
 const importing = await import('../src/sheet/importing.js');
 const { isLicence, licenceOf } = await import('../src/sheet/licence.js');
 const granting = await import('../src/sheet/granting.js');
@@ -297,6 +300,88 @@ test('lines with units become the sheet that import makes of them, and all chang
     told += said.length;
   }
   assert.ok(told > 500, `${told} sentences`);
+});
+
+test('the name that a wrong one is meant for is the one that the command names', () => {
+  let found = 0;
+  for (const [word, others, wanted] of expected.near) {
+    assert.equal(nearest(word, others), wanted, `${word} of ${others}`);
+    found += Boolean(wanted);
+  }
+  assert.ok(found > 400 && found < 990, `${found} are near`);
+});
+
+// what the page makes of a text, and what it says of it as `import` does: of a cell with the line and column of the text
+function taken(text, above) {
+  const found = sheetOf(text), { rows, units, sign } = found, after = importing.imported(rows, importing.everyCell(rows, units), sign,
+    units);
+  const heads = parsed(text).lines[above].map((one) => columnOf(one).name), line = (said) => said.replace(/line (\d+),/,
+    (_, n) => `line ${Number(n) + above},`);
+  const left = after.left.map(([row, column, said]) => {
+    const offered = amounts.reading(rows[row], column, sign, units).rounded ? ', or give --round cautious' : '';
+    return `line ${row + 2 + above}, ${NAMES[column]} (column ${heads.indexOf(NAMES[column]) + 1}): ${said}${offered}`;
+  });
+  return { ...found, after, left, all: [...found.told, ...after.told.map(line)] };
+}
+
+test('heads with units and labels, titles, other columns and names of stations are read as by import', () => {
+  const counts = { made: 0, cells: 0, heads: 0, missing: 0, names: 0, left: 0 };
+  for (const [text, above, inOrder, wanted] of expected.heads) {
+    if (!above && isBare(parsed(text).lines[0])) { // names alone are read as ever
+      const { rows, header, notes, sign } = sheetOf(text);
+      assert.deepEqual({ rows, header, notes, sign }, cellsOf(text), text);
+      continue;
+    }
+    const { refused, notes, after, left, called, all, rows, units } = taken(text, above);
+    if (wanted.rows) {
+      assert.deepEqual([after.rows, [...called], refused, notes, left], [wanted.rows, wanted.called, [], [], []], text);
+      if (inOrder) assert.deepEqual(all, wanted.told, text);
+      counts.made++;
+      counts.names += called.size;
+    } else if (left.length && !notes.length) {
+      assert.deepEqual([...left, ...refused].sort(), wanted.refused.toSorted(), text);
+      counts.cells++;
+      // what is left keeps the unit of its head, so that it is read alike afterwards
+      for (const [row, column] of after.left) {
+        const again = amounts.reading(after.rows[row], column, ','), first = amounts.reading(rows[row], column, ',', units);
+        if (first.rounded) assert.deepEqual([again.digits, again.side], [first.digits, first.side], text);
+        counts.left += after.rows[row][column] !== rows[row][column];
+      }
+    } else {
+      assert.deepEqual(notes.length ? notes : refused, wanted.refused, text);
+      if (notes.length) counts.missing++;
+      else counts.heads++;
+    }
+  }
+  const least = { made: 40, cells: 80, heads: 40, missing: 40, names: 15, left: 50 };
+  for (const [kind, count] of Object.entries(least)) assert.ok(counts[kind] >= count, `${JSON.stringify(counts)}`);
+});
+
+test('a title, labels and units in heads: what the page reads beyond the names alone', () => {
+  const names = samples.sheet.split('\n')[0].split(','), [, first] = samples.sheet.split('\n'), values = first.split(',');
+  const found = (text) => {
+    const { rows, header, told, notes, refused, sign } = sheetOf(text);
+    return [rows, header, told, notes, refused, sign];
+  };
+  assert.deepEqual(found(`${values.join(';')}\n\n`), [[values], false, [], [], [], ';']);
+  assert.deepEqual(found(' \n'), [[], false, [], ['the sheet has names but no line of values'], [], '\t']);
+  const titled = `Yards of 2026\n${names}\n`;
+  assert.deepEqual(found(titled).slice(2, 4),
+    [["1 line above the names: left out (line 1, 'Yards of 2026')"], ['the sheet has names but no line of values']]);
+  assert.deepEqual(found(`${titled}${values},8\n`)[3], ['values past the last column were left out']);
+  assert.deepEqual(found('soil [kohm m]\tseason\n1\t2\n')[1], true); // two names are enough
+  assert.equal(sheetOf(`x\n${names}\n${names}\n${values}\n`).rows.length, 2); // of two lines of names the first counts
+  assert.match(sheetOf(`sep=;\nx\n${names.with(2, 'sol').join(';')}\n${values.join(';')}\n`).notes[0], /^line 3, column 3: 'sol'/);
+  assert.deepEqual(found(`${names},soil\n${values},8\n`).slice(3, 5),
+    [[], ['line 1, soil (column 23): soil stands already in column 3; each name stands once']]);
+  assert.deepEqual([...sheetOf(`name,${names}\nElm,${values}\n`).called], [[Number(values[0]), 'Elm']]);
+  const former = fs.readFileSync(new URL('../../examples/refused-2-ms.csv', import.meta.url), 'utf8');
+  assert.deepEqual(sheetOf(`Yards of 2026,,,\n${former}`).notes, ['a sheet of the former 18 names: the library made today’s of it']);
+  assert.deepEqual(sheetOf(`Yards of 2026,,,\n${former}`).rows, cellsOf(former).rows);
+  assert.match(sheetOf(former.replace('fault', 'fault (kA)')).notes[0], /^a sheet of the former 18 names with units in its heads: /);
+  const heads = NAMES.map((name) => (name === 'soil' || name === 'layer' ? 'kohm m' : ''));
+  const cells = (more) => NAMES.map((name) => more[name] ?? '');
+  assert.equal(amounts.reading(cells({ thick: '4in', soil: '4', layer: '2.5' }), NAMES.indexOf('thick'), ',', heads).digits, '102');
 });
 
 test('what import would refuse or round stays as it is, and is told', () => {

@@ -7,14 +7,23 @@ import { areaOf } from './wires.js';
 const fresh = (seasons) => ({ name: '', seasons, wire: '', area: 0, byLicence: true });
 
 // Without a licence every station is asked for all four seasons: the first edit makes that the licence, so that no other decision changes.
-function ofAll() {
-  const numbers = store.now.rows.map((row) => row[COLUMN.station]).filter((text) => /^[1-9]\d{0,4}$/.test(text) && Number(text) < 65536);
+function ofAll(rows) {
+  const numbers = rows.map((row) => row[COLUMN.station]).filter((text) => /^[1-9]\d{0,4}$/.test(text) && Number(text) < 65536);
   return new Map([...new Set(numbers.map(Number))].map((number) => [number, fresh(SEASONS)]));
+}
+
+// A licence with the names that a column of a sheet gives its stations; what is decided stays as it was.
+export function withNames(licence, rows, called) {
+  const names = [...called].filter(([station, name]) => name && station > 0 && station < 65536 && !nameRefused(name));
+  if (!names.length) return licence;
+  const made = new Map(licence.size ? licence : ofAll(rows));
+  for (const [station, name] of names) made.set(station, { ...(made.get(station) ?? fresh([])), name });
+  return made;
 }
 
 // Sets what is given of a station in the licence.
 export function grant(station, more) {
-  const licence = new Map(store.now.licence.size ? store.now.licence : ofAll());
+  const licence = new Map(store.now.licence.size ? store.now.licence : ofAll(store.now.rows));
   licence.set(station, { ...(licence.get(station) ?? fresh([])), ...more });
   change(`licence of station ${station}`, { licence });
 }

@@ -2,10 +2,10 @@
 import { NAMES, data, samples } from '../library/data.js';
 import { grouped } from '../words/decimals.js';
 import { byId, download } from './dom.js';
-import { anyRefused, forget } from '../sheet/granting.js';
+import { anyRefused, forget, withNames } from '../sheet/granting.js';
 import { everyCell, imported, leftWords } from '../sheet/importing.js';
 import { isLicence, licenceOf } from '../sheet/licence.js';
-import { cellsOf, parsed, tooMany } from '../sheet/reading.js';
+import { PAST, cellsOf, parsed, sheetOf, tooMany } from '../sheet/reading.js';
 import { LICENCE, change, markSaved, store, unsaved, unsavedPart } from '../sheet/store.js';
 import { grantedOf, licenceText, sheetText } from '../sheet/writing.js';
 import * as site from './siteview.js';
@@ -57,19 +57,22 @@ function open(found, name) {
   }
   const measured = site.opened(first.map((one) => one.toLowerCase()).join(','), found);
   if (measured) return say(`${name}: ${measured}`);
-  const { rows, header, notes, sign } = cellsOf(found);
-  const wide = rows.map((row) => NAMES.map((_, i) => row[i] ?? '')), most = tooMany(rows.length) || (rows.length ? '' : notes.join('; '));
+  const { rows, header, told, notes, refused, units, called, sign } = sheetOf(found);
+  const wide = rows.map((row) => NAMES.map((_, i) => row[i] ?? ''));
+  const most = refused.join('; ') || tooMany(rows.length) || (rows.length ? '' : notes.join('; '));
   if (most) return say(`${name} was not opened: ${most}`, true);
-  if (rows.some((row) => row.length > NAMES.length)) notes.push('values past the last column were left out');
+  if (rows.some((row) => row.length > NAMES.length)) notes.push(PAST);
   if (!header) notes.push('no line of names: the columns were taken in the order of the sheet');
-  const taken = imported(wide, everyCell(wide), sign), left = leftWords(wide, taken.left);
+  const taken = imported(wide, everyCell(wide, units), sign, units), left = leftWords(wide, taken.left);
   if (left) notes.push(left);
   forget();
   // a licence belongs to its sheet: it is opened after it
-  change(`${name} opened`, { rows: taken.rows, made: taken.made, licence: new Map(), name, licenceName: LICENCE });
-  if (!notes.length && !taken.told.length) markSaved({ sheet: name, licence: true });
+  const licence = withNames(new Map(), taken.rows, called);
+  change(`${name} opened`, { rows: taken.rows, made: taken.made, licence, name, licenceName: LICENCE });
+  if (!notes.length && !told.length && !taken.told.length) markSaved({ sheet: name, licence: true });
   opened();
-  return say([`${name}: ${wide.length} line${wide.length === 1 ? '' : 's'}`, ...taken.told, ...notes].join('; '), notes.length > 0);
+  return say([`${name}: ${wide.length} line${wide.length === 1 ? '' : 's'}`, ...told, ...taken.told, ...notes].join('; '),
+    notes.length > 0);
 }
 
 export function sample() {

@@ -4,7 +4,8 @@ import { byId, h } from './dom.js';
 import { cellAt, restore, rowCount } from './grid.js';
 import { changeWords, reading } from '../sheet/amounts.js';
 import { cellKey, imported, leftWords, whereOf } from '../sheet/importing.js';
-import { cellsOf, tooMany } from '../sheet/reading.js';
+import { withNames } from '../sheet/granting.js';
+import { sheetOf, tooMany } from '../sheet/reading.js';
 import { at, choose, chooseAll, chooseRows, move, range } from './select.js';
 import { change, draft, store, withCells } from '../sheet/store.js';
 
@@ -15,7 +16,7 @@ export const editing = () => editor !== null;
 function edit(text, over) {
   const td = cellAt(at.row, at.column), { row, column } = at;
   const input = h('input', {
-    class: 'editor', value: text, 'aria-label': `${NAMES[column]}, ${BY_NAME[NAMES[column]].meaning}`, inputmode: 'decimal',
+    class: 'editor', value: text, 'aria-label': `${NAMES[column]}, ${BY_NAME[NAMES[column]].meaning}`, inputmode: 'text',
     spellcheck: 'false', autocomplete: 'off',
   });
   td.replaceChildren(input);
@@ -126,15 +127,16 @@ function inGrid(event) {
 const inside = () => byId('sheet').contains(document.activeElement) && !editor;
 
 function paste(text) {
-  const { rows, header, notes, sign } = cellsOf(text), { top, left } = range(), from = header ? 0 : left;
+  const { rows, header, told, notes, refused, units, called, sign } = sheetOf(text), { top, left } = range(), from = header ? 0 : left;
   const cells = rows.flatMap((row, i) => row.map((cell, j) => [top + i, from + j, cell]));
-  const most = tooMany(top + rows.length);
+  const most = refused.join('; ') || tooMany(top + rows.length);
   if (most) { say(`Nothing was pasted: ${most}`, true); return; }
   const words = `${rows.length} line${rows.length > 1 ? 's' : ''} pasted`, after = withCells(cells);
-  const found = imported(after, cells.filter(([row, column]) => row < after.length && column < NAMES.length), sign);
-  if (cells.length) change(words, { rows: found.rows, made: found.made });
+  const found = imported(after, cells.filter(([row, column]) => row < after.length && column < NAMES.length), sign, units);
+  const licence = withNames(store.now.licence, found.rows, called);
+  if (cells.length) change(words, { rows: found.rows, made: found.made, licence });
   const left_ = leftWords(after, found.left);
-  say([words, ...found.told, ...notes, left_].filter(Boolean).join('; '), notes.length > 0 || Boolean(left_));
+  say([words, ...told, ...found.told, ...notes, left_].filter(Boolean).join('; '), notes.length > 0 || Boolean(left_));
   const wide = Math.max(1, ...rows.map((row) => row.length));
   Object.assign(at, { fromRow: top, fromColumn: from });
   choose(top + Math.max(1, rows.length) - 1, from + wide - 1, true);

@@ -54,7 +54,8 @@ class Changes:
         for what, count in self.counts.items():
             noun, _, said = what.partition(": ")
             example = f" ({self.examples[what]})" if self.examples[what] else ""
-            lines.append(f"{count} {noun if count == 1 else noun + 's'}: {said}{example}" if said else what + example)
+            many = noun.replace("line", "lines") if "line" in noun else noun + "s"
+            lines.append(f"{count} {noun if count == 1 else many}: {said}{example}" if said else what + example)
         return lines
 
 
@@ -165,7 +166,8 @@ class Column(NamedTuple):
     unit: str
 
 
-_LABELS = {label.label.casefold(): name for name, label in LABELS.items()}
+LABELLED = {label.label.casefold(): name for name, label in LABELS.items()}  # names by the labels of the report
+HEADS = 20              # lines, among the first of which the line of names is looked for
 STATION_NAME = "name"  # a column with the names of stations, for the licence
 
 
@@ -176,14 +178,14 @@ def _column(head: str) -> Column:
     lower = name.casefold()
     if lower in KNOWN or lower == STATION_NAME:
         return Column(lower, unit)
-    return Column(_LABELS.get(lower, ""), unit)
+    return Column(LABELLED.get(lower, ""), unit)
 
 
 def _head(lines: Lines, changes: Changes) -> Lines:
-    """The lines from the line of names on: of the first twenty the one with the most names of a sheet."""
+    """The lines from the line of names on: of the first HEADS the one with the most names of a sheet."""
     if not lines:
         raise Refusals(["there is no line of names"])
-    first = lines[:20]
+    first = lines[:HEADS]
     counts = [sum(_column(cell).name in KNOWN for cell in cells) for _, cells in first]
     at = counts.index(max(counts)) if max(counts) > 1 else 0
     changes.add("line above the names: left out", f"line {lines[0][0]}, '{short(' '.join(lines[0][1]).strip())}'", at)
