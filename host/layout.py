@@ -7,7 +7,10 @@ The text lays out all memory by itself, in bytes, with eight for a pointer. It m
 
  1. no instruction sees a pointer as a number (ptrtoint, inttoptr, a comparison but with null, an atomic), and no type but `ptr` has a size that the
     target chooses: an `alloca ptr` is only loaded from and stored to as `ptr`, so that four bytes or eight make no difference. A pair of
-    numbers, `{ i8, i64 }`, has its second number at a multiple of that number's size, on all these targets;
+    numbers, `{ i8, i64 }`, has its second number at a multiple of that number's size, on all these targets, and so has a slice,
+    `{ ptr, i64 }`. A pointer that may be missing, `{ i8, ptr }`, would have its pointer after four bytes or eight: it is never loaded from
+    memory as one value (host/apart.py loads its parts). The library's copy compares the distance of two places with how many bytes it
+    copies: the distance of a place from one above it is less than no such number, whether pointers take four bytes or eight;
  2. no byte of a slot that holds a pointer is ever read or written as part of a number, nor the other way round; only a slot as a whole
     may be filled with zeros, which are the null pointer where it takes four bytes and where it takes eight.
 
@@ -23,12 +26,14 @@ from pathlib import Path
 ANY = "any"          # an offset that is not known
 FARTHEST = 65536     # an offset past this counts as any
 LOOPS = 40           # rounds after which an offset that still grows, as in a loop, counts as any
+COPY = re.compile(r'@"core::ptr::copy_drop::copy_bits::<i\d+>"')  # the library's copy of as many numbers as it is told, to and from anywhere
 SIZE = {"ptr": 8, "i64": 8, "i32": 4, "i16": 2, "i8": 1, "i1": 1}
 
 VALUE = r'%(?:[\w.]+|"[^"]*")'
 NAME = r'@(?:"[^"]*"|[\w.]+)'
 NUMBER = r"i(?:1|8|16|32|64)"
 PAIR = rf"\{{ {NUMBER}, {NUMBER} \}}"
+LENT = r"\{ ptr, i64 \}|\{ i8, ptr \}"  # a slice, a pointer that may be missing
 OPERAND = rf"(?:{VALUE}|-?\d+|true|false)"
 PLACE = rf"(?:{OPERAND}|@static\.\d+)"
 NOTES = r"(?:, ![\w.]+ !\d+)*"
@@ -38,20 +43,26 @@ FORMS = {kind: re.compile(form) for kind, form in {
     "load": rf"({VALUE}) = load (ptr|{NUMBER}), ptr ({VALUE}), align \d+{NOTES}",
     "pair": rf"{VALUE} = load ({PAIR}), ptr ({VALUE}), align \d+{NOTES}",
     "part": rf"{VALUE} = extractvalue {PAIR} {VALUE}, [01]",
+    "slice": rf"({VALUE}) = load {{ ptr, i64 }}, ptr ({VALUE}), align 8{NOTES}",
+    "lent": rf"({VALUE}) = extractvalue (?:{{ ptr, i64 }} ({VALUE}), 0|{{ i8, ptr }} ({VALUE}), 1)",
+    "beside": rf"{VALUE} = extractvalue (?:{{ ptr, i64 }} {VALUE}, 1|{{ i8, ptr }} {VALUE}, 0)",
+    "byte": rf"{VALUE} = insertvalue {{ i8, ptr }} poison, i8 {OPERAND}, 0",
+    "place": rf"({VALUE}) = insertvalue {{ i8, ptr }} {VALUE}, ptr ({VALUE}), 1",
+    "address": rf"({VALUE}) = ptrtoaddr ptr {VALUE} to i64",
     "store": rf"store (ptr|{NUMBER}) ({PLACE}), ptr ({VALUE}), align \d+",
-    "call": rf"(?:({VALUE}) = )?(?:tail )?call (?:noundef )?(?:zeroext )?(void|ptr|{NUMBER}|{PAIR}) ({NAME})\((.*)\)(?: #\d+)?{NOTES}",
-    "return": rf"ret (?:void|(ptr|{NUMBER}) ({OPERAND})|{PAIR} {VALUE})",
-    "number": rf"{VALUE} = (?:add|sub|mul|udiv|urem|and|or|xor|shl|lshr)(?: nuw| nsw| exact)* {NUMBER} {OPERAND}, {OPERAND}",
+    "call": rf"(?:({VALUE}) = )?(?:tail )?call (?:noundef )?(?:zeroext )?(void|ptr|{NUMBER}|{PAIR}|{LENT}) ({NAME})\((.*)\)(?: #\d+)?{NOTES}",
+    "return": rf"ret (?:void|(ptr|{NUMBER}|{LENT}) ({OPERAND})|{PAIR} {VALUE})",
+    "number": rf"{VALUE} = (?:add|sub|mul|udiv|urem|sdiv|srem|and|or|xor|shl|lshr|ashr)(?: nuw| nsw| exact)* {NUMBER} {OPERAND}, {OPERAND}",
     "compare": rf"{VALUE} = icmp (?:eq|ne|[us][gl][te]) {NUMBER} {OPERAND}, {OPERAND}",
     "null": rf"{VALUE} = icmp eq ptr {VALUE}, null",
     "convert": rf"{VALUE} = (?:zext|trunc)(?: nneg| nuw| nsw)* {NUMBER} {OPERAND} to {NUMBER}",
     "jump": rf"br (?:label {VALUE}|i1 {OPERAND}, label {VALUE}, label {VALUE}){NOTES}|unreachable",
     "switch": rf"switch {NUMBER} {OPERAND}, label {VALUE} \[|{NUMBER} -?\d+, label {VALUE}|\]",
 }.items()}
-FUNCTION = re.compile(rf"define (?:internal )?(?:noundef )?(?:zeroext )?(?:void|{NUMBER}|ptr|{PAIR}) ({NAME})\((.*)\) #0 {{")
+FUNCTION = re.compile(rf"define (?:internal )?(?:noundef )?(?:zeroext )?(?:void|{NUMBER}|ptr|{PAIR}|{LENT}) ({NAME})\((.*)\) #[0-2] {{")
 ARGUMENT = re.compile(rf"(ptr|{NUMBER})(?: noundef| zeroext| align \d+)* ({PLACE})")
 # bytes that are only read, and no pointers
-STATIC = re.compile(r'(@static\.\d+) = private unnamed_addr constant \[(\d+) x i8\] c"[^"]*", align \d+')
+STATIC = re.compile(r'(@static\.\d+) = private (?:unnamed_addr )?constant \[(\d+) x i8\] (?:c"[^"]*"|zeroinitializer), align \d+')
 OUTSIDE = re.compile(r"|;.*|source_filename = .*|target (?:datalayout|triple) = .*|attributes #\d+ = .*|!.*|}|[\w.]+:.*|\"[^\"]*\":.*|"
                      r"declare \w+ @llvm\.(?:memmove\.p0\.p0\.i64|memset\.p0\.i64|trap|ctlz\.i64)\(.*")
 
@@ -139,7 +150,17 @@ class Module:
                     self._report(number, line, "the place of an alloca ptr is stored")
         elif kind == "call":
             self._call(function, found, number, line)
-        elif kind == "return" and found[1] == "ptr":
+        elif kind == "slice":
+            self._access((function, found[2]), "ptr", number, line)
+            self._access((function, found[2]), "i64", number, line, SIZE["ptr"])
+            self.loaded.append(((function, found[1]), (function, found[2])))
+        elif kind == "lent":
+            self.steps.append(((function, found[1]), (function, found[2] or found[3]), 0))
+        elif kind == "place":
+            self.steps.append(((function, found[1]), (function, found[2]), 0))
+        elif kind == "address" and not COPY.match(function):
+            self._report(number, line, "an address outside the library's copy")
+        elif kind == "return" and found[1] and not re.fullmatch(NUMBER, found[1]):
             self.returned[function].append((function, found[2]))
 
     def _access(self, value, kind: str, number: int, line: str, place: int = 0) -> None:
@@ -153,9 +174,14 @@ class Module:
         if any(self._one_pointer(one) for one in handed):
             self._report(number, line, "an alloca ptr handed on by its place")
         if callee.startswith("@llvm.memmove.") or callee.startswith("@llvm.memset."):
-            length = re.search(r", i64 (\d+), i1 false$", arguments)
+            length = re.search(rf", i64 (\d+|{VALUE}), i1 false$", arguments)
             if not length or len(handed) != 4:
+                self._report(number, line, "an unknown form of a copy")
+            elif not length[1].isdigit() and not COPY.match(function):
                 self._report(number, line, "a copy of no fixed length")
+            elif not length[1].isdigit():
+                self.seen[handed[0]].add((ANY, "i8"))
+                self.seen[handed[1]].add((ANY, "i8"))
             elif callee.startswith("@llvm.memmove."):
                 self.copies.append((handed[0], handed[1], int(length[1])))
             else:

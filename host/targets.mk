@@ -50,14 +50,15 @@ target/staticlib/lib%.a $(BITCODE)/%.bc: target/proved target/toolchain/bin/clan
 	    -o $(abspath target/staticlib/lib$*.a)
 	mv $(BITCODE)/module.bc $(BITCODE)/$*.bc
 
-# as text, not optimised, and checked for what pointers of four bytes need
-$(BITCODE)/%.ll: $(BITCODE)/%.bc host/layout.py
+# as text, not optimised, with what pointers of four bytes need, and checked for it
+$(BITCODE)/%.ll: $(BITCODE)/%.bc host/apart.py host/layout.py
 	$(KIT_BIN)/clang -S -emit-llvm -Xclang -disable-llvm-passes -x ir $< -o $@.new
+	$(PYTHON) host/apart.py $@.new
 	$(PYTHON) host/layout.py $@.new
 	mv $@.new $@
 
-# For each platform the same text except for its head and one line of attributes. The data layout is dropped (clang takes the target's);
-# triple and processor become the target's. Windows probes the stack by a call, and would take "inline-asm" for that function's name; its
+# For each platform the same text except for its head and the lines of attributes; on WebAssembly an address has 32 bits, and is widened.
+# The data layout is dropped (clang takes the target's); triple and processor become the target's. Windows probes the stack by a call, and would take "inline-asm" for that function's name; its
 # x64 ABI wants unwind data for every function that moves the stack pointer, which `nounwind` alone leaves out.
 HEAD = -e '/^target datalayout = /d' -e 's/^target triple = .*/target triple = "$(1)"/'
 ON_WINDOWS = x86_64-pc-windows-msvc19.33.0
@@ -65,13 +66,13 @@ ON_AARCH64 = aarch64-unknown-linux-gnu
 ON_WASM = wasm32-unknown-unknown
 
 $(BITCODE)/%.windows.ll: $(BITCODE)/%.ll host/targets.mk
-	sed $(call HEAD,$(ON_WINDOWS)) -e 's/ "probe-stack"="inline-asm"//' -e 's/^attributes #0 = { nounwind/& uwtable/' $< > $@
+	sed $(call HEAD,$(ON_WINDOWS)) -e 's/ "probe-stack"="inline-asm"//' -e 's/^attributes #[0-2] = {\( alwaysinline\| noinline\)* nounwind/& uwtable/' $< > $@
 
 $(BITCODE)/%.aarch64.ll: $(BITCODE)/%.ll host/targets.mk
 	sed $(call HEAD,$(ON_AARCH64)) -e 's/ "target-cpu"="x86-64[^"]*"//' $< > $@
 
 $(BITCODE)/%.wasm.ll: $(BITCODE)/%.ll host/targets.mk
-	sed $(call HEAD,$(ON_WASM)) -e 's/ "target-cpu"="x86-64[^"]*"//' -e 's/ "probe-stack"="inline-asm"//' $< > $@
+	sed $(call HEAD,$(ON_WASM)) -e 's/ = ptrtoaddr / = ptrtoint /' -e 's/ "target-cpu"="x86-64[^"]*"//' -e 's/ "probe-stack"="inline-asm"//' $< > $@
 
 $(BITCODE)/%.windows.o: $(BITCODE)/%.windows.ll
 	$(COMPILE) --target=$(ON_WINDOWS) $< -o $@

@@ -23,7 +23,8 @@ def edit(name: str) -> tuple:
 
 def changed(text: str, function: str, find: str, becomes: str) -> str:
     """The text with the first such instruction of the function changed."""
-    start = text.find(f'@"{function}"(')
+    defined = re.search(rf'^define .*@"{re.escape(function)}"\(', text, flags=re.MULTILINE)
+    start = defined.start() if defined else -1
     end = text.find("\n}", start)
     body, count = re.subn(find, becomes, text[start:end], count=1)
     if start < 0 or count != 1:

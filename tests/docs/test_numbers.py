@@ -9,7 +9,7 @@ ROOT = Path(__file__).parents[2]
 CRATES = ROOT / "crates"
 DOCS = ROOT / "docs"
 ROW = re.compile(r"^\| (\d+) \| ([A-Z_]+) \| ([^|]+) \| ([^|]+) \| \[(\S+)\]\((\.\./crates/\S+)\) \|$", flags=re.MULTILINE)
-NUMERAL = re.compile(r"\b(?:Refused|refused_at) (\d+)")
+NUMERAL = re.compile(r"\b(?:Refused|refuse|refused_at) (\d+)")
 
 sys.path.insert(0, str(ROOT / "python"))
 

@@ -6,6 +6,7 @@ from pathlib import Path
 
 sys.path.insert(0, str(Path(__file__).parents[2] / "host"))
 
+import apart  # noqa: E402
 import layout  # noqa: E402
 
 HEAD = """; ModuleID = 'small'
@@ -117,6 +118,36 @@ class Layout(unittest.TestCase):
 
     def test_a_test_for_null_passes(self):
         self.assertEqual(reports(("define i1 @f(ptr noundef %a)", "%n = icmp eq ptr %a, null", "ret i1 %n")), [])
+
+    def test_slices_handed_on(self):
+        both = ("define { ptr, i64 } @g(ptr noundef %a)", *SLOT, "%v = load { ptr, i64 }, ptr %s, align 8", "ret { ptr, i64 } %v")
+        call = ("%v = call { ptr, i64 } @g(ptr %a)", "%p = extractvalue { ptr, i64 } %v, 0", "%n = extractvalue { ptr, i64 } %v, 1")
+        self.assertEqual(reports(both, ("define i64 @f(ptr noundef %a)", *call, "%m = load i64, ptr %p, align 8", "ret i64 %n")), [])
+        lent = ("define i64 @f(ptr noundef %a)", "%k = alloca [8 x i8], align 8", "store i64 3, ptr %k, align 8",
+                "%v = call { ptr, i64 } @g(ptr %k)", "%p = extractvalue { ptr, i64 } %v, 0", "%m = load ptr, ptr %p, align 8", "ret i64 3")
+        self.reported("a pointer at 0 and i64 at 0", both, lent)
+
+    def test_a_pointer_that_may_be_missing(self):
+        slot = ("%s = alloca [16 x i8], align 8", "store i8 1, ptr %s, align 1", "%l = getelementptr i8, ptr %s, i64 8",
+                "store ptr %a, ptr %l, align 8", "%v = load { i8, ptr }, ptr %s, align 8")
+        used = ("%b = extractvalue { i8, ptr } %v, 0", "%p = extractvalue { i8, ptr } %v, 1")
+        text = module(("define void @f(ptr noundef %a)", *slot, *used, "%n = load i64, ptr %p, align 8", "ret void"))
+        self.assertTrue(any("an unknown form" in one for one in layout.check(text)[1]))
+        self.assertEqual(layout.check(apart.apart(text))[1], [])
+        again = module(("define void @f(ptr noundef %a)", "%z = load i64, ptr %a, align 8", *slot, *used, "%n = load ptr, ptr %p, align 8", "ret void"))
+        self.assertTrue(any("a pointer at 0 and i64 at 0" in one for one in layout.check(apart.apart(again))[1]))
+
+    def test_the_copy_of_the_library(self):
+        lines = ("%x = ptrtoaddr ptr %a to i64", "call void @llvm.memmove.p0.p0.i64(ptr %a, ptr %b, i64 %n, i1 false)", "ret void")
+        copy = '@"core::ptr::copy_drop::copy_bits::<i8>"'
+        self.assertEqual(reports((f"define internal void {copy}(ptr noundef %a, ptr noundef %b, i64 noundef %n)", *lines)), [])
+        for line in lines[:2]:
+            self.assertNotEqual(reports(("define void @f(ptr noundef %a, ptr noundef %b, i64 noundef %n)", line, "ret void")), [], line)
+        kept = ("define void @f(ptr noundef %a)", *SLOT, "%d = alloca [16 x i8], align 8", f"call void {copy}(ptr %d, ptr %s, i64 16)",
+                "ret void")
+        self.reported("pointers and numbers at offsets that are not known",
+                      (f"define internal void {copy}(ptr noundef %a, ptr noundef %b, i64 noundef %n)", *lines), kept)
+        self.assertNotEqual(reports((f"define void {copy.replace('i8', 'ptr')}(ptr noundef %a, ptr noundef %b, i64 noundef %n)", *lines)), [])
 
     def test_past_the_end(self):
         self.reported("i64 at 16 of 16 bytes", ("define void @f(ptr noundef %a)", *SLOT, "%h = getelementptr i8, ptr %s, i64 16",

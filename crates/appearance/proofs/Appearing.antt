@@ -60,23 +60,6 @@ pub record Placing (table : List ℤ) (n i : ℕ) (known : List ℤ) (places : L
   pub own : (k : ℕ) → k < i → get_or known (get_or places k 0) (pos 0) ≡ station_at table k
   pub apart : (j k : ℕ) → j < count → k < count → get_or known j (pos 0) ≡ get_or known k (pos 0) → j ≡ k
 
-count_all : (n : ℕ) → n - 0 ≡ n
-count_all n = omega arith
-
-pub placing_start : (table : List ℤ) (n : ℕ) {known : List ℤ} {places : List ℕ} → length known ≡ most_lines → length places ≡ most_lines
-    → Placing table n 0 known places 0
-placing_start table n p q =
-    record {
-      most = omega arith;
-      fewer = omega arith;
-      known_size = p;
-      places_size = q;
-      found = rw (count_all n);
-      within = λ k h. absurd (omega arith);
-      own = λ k h. absurd (omega arith);
-      apart = λ j k h. absurd (omega arith);
-    }
-
 module _ {table : List ℤ} {n i : ℕ} {known : List ℤ} {places : List ℕ} {count : ℕ} (a : Placing table n i known places count) (h : i < n)
     (small : n ≤ most_lines) where
   next_row : station_column table i (n - i) ≡ station_at table i ∷ station_column table (suc i) (n - suc i)

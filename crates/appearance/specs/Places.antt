@@ -1,11 +1,10 @@
 -- §7.1, "stations by first appearance": the stations of a table of rows, and the place of each row's station among them.
-use Rattle.std.specs.Prelude.{ℕ, zero, suc, ◌*◌, ◌%◌, ◌≤◌, ◌<◌}
-use mathlib.Core.{Path.{◌≡◌}, Bool.{cond}, List.{List, [], ◌∷◌}}
+use Rattle.std.specs.Prelude.{ℕ, zero, suc, ◌*◌, ◌%◌, ◌≤◌, ◌<◌, Option, position}
+use mathlib.Core.{Path.{◌≡◌}, List.{List, [], ◌∷◌}}
 use lib.{IntN.{ℤ, pos, negsuc}, ListN.{get_or, take, length}}
 use Rattle.judgement.specs.Limits.{most_lines}
 use Rattle.row.specs.Row.{row_length}
 use Rattle.station_sums.specs.Summary.{same_z, by_appearance}
-use Rattle.appearance.specs.declared.Place.{Place, TheVariants.{At, New}}
 
 -- the low sixteen bits of a station, which distinguish it from most others
 unfoldable pub mark_of : ℤ → ℕ
@@ -21,13 +20,9 @@ pub record Marked (known : List ℤ) (marks : List ℕ) (count : ℕ) : Type 0 w
   pub room : count ≤ length marks
   pub marks_are : (k : ℕ) → k < count → get_or marks k 0 ≡ mark_of (get_or known k (pos 0))
 
--- the place of a station among some that stand from place k on: the first at which it stands, or New where it is none of them
-unfoldable pub place_from : ℕ → ℤ → List ℤ → Place
-place_from k station [] = New
-place_from k station (x ∷ xs) = cond (same_z station x) (At k) (place_from (suc k) station xs)
-
-unfoldable pub place_of : ℤ → List ℤ → Place
-place_of station known = place_from 0 station known
+-- the place of a station among some: the first at which it stands, or None where it is none of them
+unfoldable pub place_of : ℤ → List ℤ → Option ℕ
+place_of station known = position (same_z station) known
 
 -- the station of row i of a table, its first number
 abbrev pub station_at : List ℤ → ℕ → ℤ

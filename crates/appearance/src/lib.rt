@@ -1,7 +1,7 @@
 // The stations of a table of rows by first appearance.
 #![tactic(auto)]
 
-ghost use Rattle.std.specs.Prelude.{◌≡◌, false, ◌≤◌, ◌*◌, length, take};
+ghost use Rattle.std.specs.Prelude.{◌≡◌, false, ◌≤◌, ◌*◌, length};
 ghost use Rattle.row.specs.Row.{row_length};
 ghost use Rattle.judgement.specs.Limits.{most_lines};
 ghost use Rattle.station_sums.specs.Summary.{same_z};
@@ -18,61 +18,37 @@ pub struct Found {
     pub count: usize,
 }
 
-// The place of a station among some, or that it is none of them.
-#[derive(Clone, Copy)]
-enum Place {
-    At(usize),
-    New,
-}
-
-fn same(a: i64, b: i64) -> bool
-    ensures { result ≡ same_z a b }
-{
-    a == b
-}
-
 // The low sixteen bits of a station.
 fn mark(station: i64) -> u16
     ensures { result ≡ mark_of station }
 {
-    if station < 0 {
-        return 0;
-    }
-    (station as u64 % 65536) as u16
+    (station.max(0) % 65536) as u16
 }
 
-// Whether a mark may be among the first count. It does not stop at the first, so that several are compared at once.
-fn is_marked(marks: &[u16], count: usize, mark: u16) -> bool
-    requires { count ≤ length marks.now }
-    ensures { result ≡ false → NotMarked marks.now count mark }
+// Whether a mark may be among some. It does not stop at the first, so that several are compared at once.
+fn is_marked(marks: &[u16], mark: u16) -> bool
+    ensures { result ≡ false → NotMarked marks.now (length marks.now) mark }
 {
     let mut found = false;
-    let mut i: usize = 0;
-    while i < count {
-        let here = marks[i] == mark;
-        found = found | here;
-        i += 1;
+    for here in marks {
+        found |= *here == mark;
     }
     found
 }
 
-// The place of a station among the first count; the marks show quickly that it is new.
-fn place_of<'a>(known: &'a [i64], marks: &'a [u16], count: usize, station: i64) -> Place
-    requires count_in_bounds { count ≤ length known.now }
-    requires marked { Marked known.now marks.now count }
-    ensures { result ≡ place_of station (take count known.now) }
+// The place of a station among those known; the marks show quickly that it is new.
+fn place_of(known: &[i64], marks: &[u16], station: i64) -> Option<usize>
+    requires { Marked known.now marks.now (length known.now) }
+    ensures { result ≡ place_of station known.now }
 {
-    if !is_marked(marks, count, mark(station)) {
-        return Place::New;
+    if !is_marked(marks, mark(station)) {
+        return None;
     }
-    let mut i: usize = 0;
-    while i < count {
-        if same(known[i], station) {
-            return Place::At(i);
-        }
-        i += 1;
-    }
-    Place::New
+    known.iter().position(
+        |here| -> bool
+            ensures { result ≡ same_z station here.now }
+        { *here == station },
+    )
 }
 
 // The stations of n rows.
@@ -84,22 +60,20 @@ pub fn find_stations(table: &[i64], n: usize) -> Found
     let mut known = [0i64; LINES];
     let mut marks = [0u16; LINES];
     let mut places = [0usize; LINES];
-    let mut count: usize = 0;
-    let mut i: usize = 0;
-    while i < n {
+    let mut count = 0;
+    for i in 0..n {
         let station = table[ROW_LENGTH * i];
-        match place_of(&known, &marks, count, station) {
-            Place::At(place) => {
+        match place_of(&known[..count], &marks[..count], station) {
+            Some(place) => {
                 places[i] = place;
             }
-            Place::New => {
+            None => {
                 places[i] = count;
                 known[count] = station;
                 marks[count] = mark(station);
                 count += 1;
             }
         }
-        i += 1;
     }
     Found {
         stations: known,

@@ -5,29 +5,30 @@
 use Rattle.std.specs.Prelude.{ℕ, ◌/◌}
 use mathlib.Core.{Path.{◌≡◌}, List.{List}}
 use lib.{IntN.{ℤ}, ListN.{length}}
-use Rattle.case.specs.declared.Counted.{Counted, TheVariants.{Count, Refused}}
 use Rattle.sheet.specs.{declared.Answer.{Answer}, Answer.{answer, cases}}
 use Rattle.sheet.specs.declared.Answer.TheVariants as sheet
 use Rattle.c_bytes.specs.Bytes.{number_bytes}
 use Rattle.c_tell.specs.{Answer.{signed_answer}, Place.{place_after}}
 use Rattle.c_rows.specs.Rows.{Filled}
+use Rattle.std.specs.Prelude.{Result, Ok, Err}
+use Rattle.refusal.specs.{declared.Refused.{Refused}, Refused.{refuse}}
 
 -- "with the buffer untouched"
-unfoldable pub BufferAfter : List ℕ → List ℕ → List ℕ → Counted → Type 0
-BufferAfter s before after (Count count) = Filled (cases s) before after
-BufferAfter s before after (Refused number line column) = after ≡ before
+unfoldable pub BufferAfter : List ℕ → List ℕ → List ℕ → Result ℕ Refused → Type 0
+BufferAfter s before after (Ok count) = Filled (cases s) before after
+BufferAfter s before after (Err why) = after ≡ before
 
 -- a sheet's answer as a count or a refusal
-unfoldable pub row_count : Answer → Counted
-row_count (sheet.Rows count) = Count count
-row_count (sheet.Refused number line column) = Refused number line column
+unfoldable pub row_count : Answer → Result ℕ Refused
+row_count (sheet.Rows count) = Ok count
+row_count (sheet.Refused number line column) = refuse number line column
 
 -- the answer of the sheet's own question for as many numbers as the buffer has room for
-unfoldable pub answer_for : List ℕ → List ℕ → Counted
+unfoldable pub answer_for : List ℕ → List ℕ → Result ℕ Refused
 answer_for s buffer = row_count (answer s (length buffer / number_bytes))
 
 -- the answer to a sheet and what it leaves in the buffer
-pub record InBytes (s before after : List ℕ) (r : Counted) : Type 0 where
+pub record InBytes (s before after : List ℕ) (r : Result ℕ Refused) : Type 0 where
   pub answer_is : r ≡ answer_for s before
   pub buffer_is : BufferAfter s before after r
 

@@ -13,8 +13,9 @@ ghost use Rattle.c_entry.specs.Buffer.{AnsweredAt};
 
 use c_rows::{ROW_BYTES, write_rows};
 use c_tell::{put_place, signed_answer};
-use case::{Counted, Form, NAMES, REFUSED_SHORT};
+use case::{Form, NAMES, REFUSED_SHORT};
 use judgement::{VALUES, read_within};
+use refusal::Refused;
 use text::count_lines;
 
 // A sheet of at most so many bytes and lines, that of the names among them, is short: to clear a store for as many lines as a sheet may
@@ -33,25 +34,20 @@ fn is_short(s: &[u8]) -> bool
 }
 
 // The answer to a sheet, and its rows as bytes in the buffer, through a store with room for its lines.
-fn fill_buffer(s: &[u8], values: &mut [u32], buffer: &mut [u8]) -> Counted
+fn fill_buffer(s: &[u8], values: &mut [u32], buffer: &mut [u8]) -> Result<usize, Refused>
     requires { Room (form_of Present) (lines_of s.now) values.old }
     ensures { InBytes s.now buffer.old buffer.new result }
 {
-    let judged = read_within(Form::Present, s, values);
-    match judged {
-        Counted::Count(n) => {
-            if buffer.len() < ROW_BYTES * n {
-                return Counted::Refused(REFUSED_SHORT, 0, 0);
-            }
-            write_rows(values, n, buffer);
-            Counted::Count(n)
-        }
-        Counted::Refused(_, _, _) => judged,
+    let n = read_within(Form::Present, s, values)?;
+    if buffer.len() < ROW_BYTES * n {
+        return Err(Refused(REFUSED_SHORT, 0, 0));
     }
+    write_rows(values, n, buffer);
+    Ok(n)
 }
 
 // The answer to a sheet, and its rows as bytes in the buffer.
-fn rows_in_bytes(s: &[u8], buffer: &mut [u8]) -> Counted
+fn rows_in_bytes(s: &[u8], buffer: &mut [u8]) -> Result<usize, Refused>
     ensures { InBytes s.now buffer.old buffer.new result }
 {
     if is_short(s) {

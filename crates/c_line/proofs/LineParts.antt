@@ -9,10 +9,10 @@ use Rattle.text.proofs.Clash.{clash}
 use Rattle.case.specs.{declared.Case.{Case}, Bounds.{Bounds}}
 use Rattle.row.specs.{Row.{numbers}, Ends.{row_of}}
 use Rattle.working.specs.Numbers.{working_numbers}
-use Rattle.margin.{specs.{declared.Compared.{Compared}, Margin.{margins_of}, Meaning.{Right}}, proofs.Right.{right_margins}}
-use Rattle.margin.specs.declared.Compared.TheVariants as compared
+use Rattle.margin.{specs.{Margin.{margins_of}, Meaning.{Right}}, proofs.Right.{right_margins}}
 use Rattle.c_line.specs.declared.Question.{Question, TheVariants.{Margins, Working, Headroom}}
 use Rattle.c_line.specs.Line.{width_of, MarginsLine, LineOf}
+use Rattle.std.specs.Prelude.{Option, Some, None}
 
 -- as many numbers as a part has take the place of all of it
 pub put_whole : (zs part : List ℤ) → length part ≡ length zs → zs ++ drop (length zs) part ≡ zs
@@ -30,11 +30,11 @@ set_one (a ∷ b ∷ part) z e = absurd (omega arith)
 
 module _ {c : Case} (b : Bounds c) where
   -- a row has margins
-  pub margins_some : margins_of (numbers (row_of c)) ≡ compared.None → ⊥
+  pub margins_some : margins_of (numbers (row_of c)) ≡ None → ⊥
   unfolding Right
   margins_some e = rw e at (right_margins b)
 
-  pub margins_line : {r : Compared} {mesh step : ℤ} {part : List ℤ} → r ≡ margins_of (numbers (row_of c)) → r ≡ compared.Margins mesh step
+  pub margins_line : {r : Option (ℤ × ℤ)} {mesh step : ℤ} {part : List ℤ} → r ≡ margins_of (numbers (row_of c)) → r ≡ Some (mesh, step)
       → part ≡ mesh ∷ step ∷ [] → MarginsLine c part
   margins_line e f p = record { mesh = _; step = _; is = p; margins = sym e ∙ f }
 

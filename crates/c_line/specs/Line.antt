@@ -4,11 +4,11 @@ use mathlib.Core.{Path.{◌≡◌}, List.{List, [], ◌∷◌}}
 use Rattle.std.specs.Prelude.{ℤ, pos}
 use Rattle.case.specs.declared.Case.{Case}
 use Rattle.row.specs.{Row.{numbers}, Ends.{row_of}}
-use Rattle.margin.specs.declared.Compared.TheVariants as compared
 use Rattle.margin.specs.Margin.{margins_of}
 use Rattle.working.specs.{Ends.{working_of}, Numbers.{working_numbers}, Working.{RightWorking}}
 use Rattle.headroom.specs.Headroom as room
 use Rattle.c_line.specs.declared.Question.{Question, TheVariants.{Margins, Working, Headroom}}
+use Rattle.std.specs.Prelude.{Some, None}
 
 -- how many numbers a line has
 unfoldable pub width_of : Question → ℕ
@@ -21,7 +21,7 @@ pub record MarginsLine (c : Case) (part : List ℤ) : Type 0 where
   pub mesh : ℤ
   pub step : ℤ
   pub is : part ≡ mesh ∷ step ∷ []
-  pub margins : margins_of (numbers (row_of c)) ≡ compared.Margins mesh step
+  pub margins : margins_of (numbers (row_of c)) ≡ Some (mesh, step)
 
 -- the working of the case, which is right
 pub record WorkingLine (c : Case) (part : List ℤ) : Type 0 where

@@ -8,7 +8,7 @@ ghost use Rattle.c_line.specs.Line.{width_of, MarginsLine, WorkingLine, Headroom
 use c_reply::put_first;
 use case::Case;
 use headroom::greatest_fault;
-use margin::{Compared, margins};
+use margin::margins;
 use row::{ROW_LENGTH, put_row, work_row};
 use working::{WORKING_NUMBERS, work, working_numbers};
 
@@ -44,12 +44,9 @@ fn put_margins(c: Case, part: &mut [i64])
     let mut row = [0i64; ROW_LENGTH];
     put_row(work_row(c), &mut row);
     match margins(&row) {
-        Compared::Margins(mesh, step) => {
-            let zs = [mesh, step];
-            put_first(&zs, part);
-        }
+        Some((mesh, step)) => put_first(&[mesh, step], part),
         // no row has none
-        Compared::None => {}
+        None => {}
     }
 }
 

@@ -8,12 +8,13 @@ use borrow.Rule.Slice.PartMut.{put_mid}
 use Rattle.tables.specs.Parts as parts
 use Rattle.tables.proofs.{Writing.{put_written_as, part_before}, Filling.{filled_step}}
 use Rattle.case.specs.{declared.Case.{Case}, Case.{case_of}, Columns.{columns}}
-use Rattle.case.specs.declared.Counted.{Counted, TheVariants.{Count, Refused}}
 use Rattle.judgement.{specs.{Limits.{most_lines}, Sheet.{judgement}}, proofs.Accepted.{accepted}}
 use Rattle.sheet.specs.Answer.{cases}
 use Rattle.c_tell.specs.Room.{Few}
 use Rattle.c_line.{specs.{declared.Question.{Question}, Line.{width_of, LineOf}}, proofs.LineParts.{line_length_lem, width_most}}
 use Rattle.c_lines.specs.Lines.{lines_by, lines_answer, Filled, ArrayAfter, LinesAnswered}
+use Rattle.std.specs.Prelude.{Result, Ok, Err}
+use Rattle.refusal.specs.{declared.Refused.{Refused}, Refused.{refuse}}
 
 -- ---- line after line
 
@@ -41,33 +42,33 @@ module _ (question : Question) {wide : ℕ} (is : wide ≡ width_of question) wh
 
 -- ---- the answer
 
-module _ {j : Counted} {question : Question} (s : List ℕ) (t : List ℤ) (judged_is : j ≡ judgement columns s) where
+module _ {j : Result ℕ Refused} {question : Question} (s : List ℕ) (t : List ℤ) (judged_is : j ≡ judgement columns s) where
   -- refused by its judgement
-  pub answered_refused : {k l c : ℕ} → j ≡ Refused k l c → LinesAnswered question s t t j
+  pub answered_refused : {why : Refused} → j ≡ Err why → LinesAnswered question s t t (Err why)
   unfolding ArrayAfter lines_answer lines_by
-  answered_refused e = record { answer_is = rw (← judged_is, e); array_is = rw e refl }
+  answered_refused e = record { answer_is = rw (← judged_is, e); array_is = refl }
 
   -- an array too short
-  pub answered_short : {n wide : ℕ} → wide ≡ width_of question → j ≡ Count n → length t < wide * n
-      → LinesAnswered question s t t (Refused 8 0 0)
+  pub answered_short : {n wide : ℕ} → wide ≡ width_of question → j ≡ Ok n → length t < wide * n
+      → LinesAnswered question s t t (refuse 8 0 0)
   unfolding ArrayAfter lines_answer lines_by
   answered_short {n} is e h = record { answer_is = rw (← judged_is, e, ← is, lt-ltb _ _ h); array_is = refl }
 
-  pub answered_lines : {n wide : ℕ} {u : List ℤ} → wide ≡ width_of question → j ≡ Count n → wide * n ≤ length t
-      → Filled question (cases s) t u → LinesAnswered question s t u (Count n)
+  pub answered_lines : {n wide : ℕ} {u : List ℤ} → wide ≡ width_of question → j ≡ Ok n → wide * n ≤ length t
+      → Filled question (cases s) t u → LinesAnswered question s t u (Ok n)
   unfolding ArrayAfter lines_answer lines_by
   answered_lines {n} is e h f = record { answer_is = rw (← judged_is, e, ← is, le-ltb _ _ h); array_is = f }
 
 -- ---- the count has 64 signed bits
 
-pub lines_few : {question : Question} {s : List ℕ} {before after : List ℤ} {a : Counted} → LinesAnswered question s before after a → Few a
+pub lines_few : {question : Question} {s : List ℕ} {before after : List ℤ} {a : Result ℕ Refused} → LinesAnswered question s before after a → Few a
 unfolding lines_answer lines_by Few
 lines_few {question} {s} {before} h = rw h.answer_is (go (judgement columns s) refl)
   where
-    go : (j : Counted) → judgement columns s ≡ j → Few (lines_by (width_of question) (length before) j)
-    go (Refused k l c) e = tt
-    go (Count n) e = room (ltb (length before) (width_of question * n))
+    go : (j : Result ℕ Refused) → judgement columns s ≡ j → Few (lines_by (width_of question) (length before) j)
+    go (Err why) e = tt
+    go (Ok n) e = room (ltb (length before) (width_of question * n))
       where
-        room : (b : Bool) → Few (cond b (Refused 8 0 0) (Count n))
+        room : (b : Bool) → Few (cond b (refuse 8 0 0) (Ok n))
         room true = tt
         room false = omega (arith, (accepted columns s n e).most)

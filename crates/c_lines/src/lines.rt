@@ -7,8 +7,9 @@ ghost use Rattle.c_line.specs.Line.{width_of};
 ghost use Rattle.c_lines.specs.Lines.{Filled, LinesAnswered};
 
 use c_line::{Question, put_line, width};
-use case::{Counted, Form, REFUSED_SHORT};
+use case::{Form, REFUSED_SHORT};
 use judgement::{VALUES, read};
+use refusal::Refused;
 use table_rows::line_case;
 
 // The numbers of n lines of values, which are sound.
@@ -31,23 +32,25 @@ fn write_lines(question: Question, values: &[u32], n: usize, numbers: &mut [i64]
 
 // The answer to a sheet, and the numbers of its lines in the array, through a store with room for the values of as many lines as a sheet
 // may have.
-fn fill_lines(question: Question, s: &[u8], values: &mut [u32], numbers: &mut [i64]) -> Counted
+fn fill_lines(
+    question: Question,
+    s: &[u8],
+    values: &mut [u32],
+    numbers: &mut [i64],
+) -> Result<usize, Refused>
     requires { length values.old ≡ name_count * most_lines }
     ensures { LinesAnswered question s.now numbers.old numbers.new result }
 {
-    let judged = read(Form::Present, s, values);
-    let Counted::Count(n) = judged else {
-        return judged;
-    };
+    let n = read(Form::Present, s, values)?;
     if numbers.len() < width(question) * n {
-        return Counted::Refused(REFUSED_SHORT, 0, 0);
+        return Err(Refused(REFUSED_SHORT, 0, 0));
     }
     write_lines(question, values, n, numbers);
-    Counted::Count(n)
+    Ok(n)
 }
 
 // The answer to a sheet, and the numbers of its lines in the array.
-pub fn answer_lines(question: Question, s: &[u8], numbers: &mut [i64]) -> Counted
+pub fn answer_lines(question: Question, s: &[u8], numbers: &mut [i64]) -> Result<usize, Refused>
     ensures { LinesAnswered question s.now numbers.old numbers.new result }
 {
     let mut values = [0u32; VALUES];

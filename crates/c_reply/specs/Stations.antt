@@ -1,8 +1,8 @@
 -- §11.1, §11.3: the answer of a summary as one count, that of its stations.
-use Rattle.case.specs.declared.Counted.{Counted, TheVariants.{Count, Refused}}
-use Rattle.stations.specs.declared.Summed.{Summed}
-use Rattle.stations.specs.declared.Summed.TheVariants as summed
+use Rattle.std.specs.Prelude.{ℕ, Result, Ok, Err}
+use Rattle.refusal.specs.{declared.Refused.{Refused}, Refused.{refuse}}
+use Rattle.stations.specs.declared.Counts.{Counts}
 
-unfoldable pub station_count : Summed → Counted
-station_count (summed.Summary rows stations) = Count stations
-station_count (summed.Refused number line column) = Refused number line column
+unfoldable pub station_count : Result Counts Refused → Result ℕ Refused
+station_count (Ok counts) = Ok counts.stations
+station_count (Err why) = Err why

@@ -5,10 +5,11 @@ ghost use Rattle.std.specs.Prelude.{◌≡◌, ◌++◌, ◌≤◌, length, drop
 ghost use Rattle.c_reply.specs.Stations.{station_count};
 ghost use Rattle.c_reply.specs.Reply.{Numbers, soil_numbers, soil_reply, split_reply, SmallSplit, fewest_reply, Replied};
 
-use case::{Counted, REFUSED_SHORT};
-use readings::{Report, Sounding};
-use staged::SplitAnswer;
-use stations::Summed;
+use case::REFUSED_SHORT;
+use readings::Report;
+use refusal::Refused;
+use staged::GridShare;
+use stations::Counts;
 use yards::FewestLines;
 
 const SOIL_NUMBERS: usize = 7;
@@ -20,23 +21,18 @@ pub fn put_first(zs: &[i64], numbers: &mut [i64])
     requires { length zs.now ≤ length numbers.old }
     ensures { numbers.new ≡ zs.now ++ drop (length zs.now) numbers.old }
 {
-    let mut i: usize = 0;
-    while i < zs.len() {
-        let z = zs[i];
-        numbers[i] = z;
-        i += 1;
-    }
+    numbers[..zs.len()].copy_from_slice(zs);
 }
 
 // The numbers where there is room for them.
-fn reply(count: usize, zs: &[i64], numbers: &mut [i64]) -> Counted
+fn reply(count: usize, zs: &[i64], numbers: &mut [i64]) -> Result<usize, Refused>
     ensures { Replied (Numbers count zs.now) numbers.old numbers.new result }
 {
     if numbers.len() < zs.len() {
-        return Counted::Refused(REFUSED_SHORT, 0, 0);
+        return Err(Refused(REFUSED_SHORT, 0, 0));
     }
     put_first(zs, numbers);
-    Counted::Count(count)
+    Ok(count)
 }
 
 fn report_numbers(report: Report) -> [i64; SOIL_NUMBERS]
@@ -57,38 +53,31 @@ fn report_numbers(report: Report) -> [i64; SOIL_NUMBERS]
 }
 
 // The seven numbers of a report, or a refusal.
-pub fn put_soil(answer: Sounding, numbers: &mut [i64]) -> Counted
+pub fn put_soil(answer: Result<Report, Refused>, numbers: &mut [i64]) -> Result<usize, Refused>
     ensures { Replied (soil_reply answer) numbers.old numbers.new result }
 {
-    match answer {
-        Sounding::Refused(number, line, column) => Counted::Refused(number, line, column),
-        Sounding::Soil(report) => {
-            let zs = report_numbers(report);
-            reply(SOIL_NUMBERS, &zs, numbers)
-        }
-    }
+    let zs = report_numbers(answer?);
+    reply(SOIL_NUMBERS, &zs, numbers)
 }
 
 // The grid current's two parts and the split, or a refusal.
-pub fn put_split(answer: SplitAnswer, numbers: &mut [i64]) -> Counted
+pub fn put_split(answer: Result<GridShare, Refused>, numbers: &mut [i64]) -> Result<usize, Refused>
     requires { SmallSplit answer }
     ensures { Replied (split_reply answer) numbers.old numbers.new result }
 {
-    match answer {
-        SplitAnswer::Refused(number, line, column) => Counted::Refused(number, line, column),
-        SplitAnswer::Grid(in_phase, quadrature, split) => {
-            let zs = [in_phase, quadrature, split as i64];
-            reply(SPLIT_NUMBERS, &zs, numbers)
-        }
-    }
+    let split = answer?;
+    let zs = [split.in_phase, split.quadrature, split.per_mille as i64];
+    reply(SPLIT_NUMBERS, &zs, numbers)
 }
 
 // The lines, the rods and how many yards were tried, of which the last is safe or none is; or a refusal.
-pub fn put_fewest(answer: FewestLines, numbers: &mut [i64]) -> Counted
+pub fn put_fewest(
+    answer: Result<FewestLines, Refused>,
+    numbers: &mut [i64],
+) -> Result<usize, Refused>
     ensures { Replied (fewest_reply answer) numbers.old numbers.new result }
 {
-    match answer {
-        FewestLines::Refused(number, line, column) => Counted::Refused(number, line, column),
+    match answer? {
         FewestLines::Found(lines, rods, tried) => {
             let zs = [lines as i64, rods as i64, tried as i64];
             reply(1, &zs, numbers)
@@ -101,11 +90,8 @@ pub fn put_fewest(answer: FewestLines, numbers: &mut [i64]) -> Counted
 }
 
 // The count of stations of a summary.
-pub fn station_count(summed: Summed) -> Counted
+pub fn station_count(summed: Result<Counts, Refused>) -> Result<usize, Refused>
     ensures { result ≡ station_count summed }
 {
-    match summed {
-        Summed::Summary(_, stations) => Counted::Count(stations),
-        Summed::Refused(number, line, column) => Counted::Refused(number, line, column),
-    }
+    Ok(summed?.stations)
 }

@@ -5,14 +5,13 @@ ghost use Rattle.caller.specs.Release.{Released};
 ghost use Rattle.caller.specs.Later.{StaysReleased};
 ghost use Rattle.caller.specs.Margins.{MarginsTold};
 
-use hocsimbur::{Case, Compared, RowAnswer, Verdict};
+use hocsimbur::{Case, Verdict};
 
 // Whether a yard may be released for a season.
 pub fn may_release(c: Case) -> bool
     ensures { Released c result }
 {
-    let answer = hocsimbur::row(c);
-    let RowAnswer::Is(row) = answer else {
+    let Ok(row) = hocsimbur::row(c) else {
         return false;
     };
     let verdict = row.verdict;
@@ -41,12 +40,11 @@ pub fn stays_released(c: Case, fault: u32) -> bool
 }
 
 // The margins of a case asked alone, or None of a case that is refused.
-pub fn margins_of(c: Case) -> Compared
+pub fn margins_of(c: Case) -> Option<(i64, i64)>
     ensures { MarginsTold c result }
 {
-    let answer = hocsimbur::row(c);
-    let RowAnswer::Is(row) = answer else {
-        return Compared::None;
+    let Ok(row) = hocsimbur::row(c) else {
+        return None;
     };
     let numbers = hocsimbur::row_numbers(row);
     hocsimbur::margins(&numbers)

@@ -7,9 +7,10 @@ use borrow.Author.Tests.{eq-eqb, eqb-true}
 use Rattle.text.{specs.Text.{same}, proofs.Clash.{clash}}
 use Rattle.case.specs.{declared.Form.{Form as CodeForm, TheVariants.{Present, Former}}, Columns.{columns, former_columns, name_index, named}}
 use Rattle.case.{specs.{Check.{count_from}, Parts.{form_of}}, proofs.Values.{entries_from}}
-use Rattle.case.specs.declared.Counted.{Counted, TheVariants.{Count, Refused}}
 use Rattle.carried_values.specs.{Values.{other, present_values, former_values, carried}, Changes.{line_change, changes_from, changes}}
 use Rattle.carried_values.proofs.SoundCases.{SoundCases}
+use Rattle.std.specs.Prelude.{Result, Ok}
+use Rattle.refusal.specs.{declared.Refused.{Refused}, Refused.{refuse}}
 
 -- ---- what the former form can say of a case
 
@@ -19,15 +20,15 @@ record Same (v : List ℕ) : Type 0 where
   along : get_or v 13 0 ≡ get_or v 12 0
   hz : get_or v 21 0 ≡ 60
 
-same_line : {m : ℕ} (n : ℕ) (next : Counted) (v : List ℕ) → line_change n next v ≡ Count m → Same v × (next ≡ Count m)
+same_line : (n : ℕ) (next : Result (Unit {0}) Refused) (v : List ℕ) → line_change n next v ≡ Ok tt → Same v × (next ≡ Ok tt)
 unfolding line_change named name_index columns same
-same_line {m} n next v e =
+same_line n next v e =
     go (eqb (get_or v 5 0) (get_or v 6 0)) refl (eqb (get_or v 6 0) (get_or v 7 0)) refl (eqb (get_or v 12 0) (get_or v 13 0)) refl
     (eqb (get_or v 21 0) 60) refl e
   where
     go : (a : Bool) → eqb (get_or v 5 0) (get_or v 6 0) ≡ a → (b : Bool) → eqb (get_or v 6 0) (get_or v 7 0) ≡ b → (c : Bool)
         → eqb (get_or v 12 0) (get_or v 13 0) ≡ c → (d : Bool) → eqb (get_or v 21 0) 60 ≡ d
-        → cond (a && b) (cond c (cond d next (Refused 11 n 0)) (Refused 10 n 0)) (Refused 9 n 0) ≡ Count m → Same v × (next ≡ Count m)
+        → cond (a && b) (cond c (cond d next (refuse 11 n 0)) (refuse 10 n 0)) (refuse 9 n 0) ≡ Ok (tt {0}) → Same v × (next ≡ Ok tt)
     go true p true q true r true t h =
         let x = eqb-true (get_or v 5 0) (get_or v 6 0) p in
         let y = eqb-true (get_or v 6 0) (get_or v 7 0) q in (
@@ -69,7 +70,7 @@ unfolding form_of
 former_lines earlier [] s = refl
 former_lines earlier (v ∷ vs) s = rw (former_restored v s.0.count, former_lines (v ∷ earlier) vs s.1.1)
 
-present_lines : {m : ℕ} (earlier vs : List (List ℕ)) (n : ℕ) → SoundCases (form_of Present) earlier vs → changes_from n vs ≡ Count m
+present_lines : (earlier vs : List (List ℕ)) (n : ℕ) → SoundCases (form_of Present) earlier vs → changes_from n vs ≡ Ok tt
     → map present_values (map former_values vs) ≡ vs
 unfolding form_of changes_from
 present_lines earlier [] n s e = refl
@@ -78,7 +79,7 @@ present_lines earlier (v ∷ vs) n s e =
     rw (present_restored v s.0.count k.0, present_lines (v ∷ earlier) vs (suc n) s.1.1 k.1)
 
 -- carried to a form and back, where nothing is left out on the way
-pub restored : {m : ℕ} (form : CodeForm) (vs : List (List ℕ)) → SoundCases (form_of (other form)) [] vs → changes form vs ≡ Count m
+pub restored : (form : CodeForm) (vs : List (List ℕ)) → SoundCases (form_of (other form)) [] vs → changes form vs ≡ Ok tt
     → map (carried (other form)) (map (carried form) vs) ≡ vs
 unfolding other carried changes
 restored Present vs s e = former_lines [] vs s
@@ -86,7 +87,7 @@ restored Former vs s e = present_lines [] vs 2 s e
 
 -- ---- what was carried over can be carried back
 
-kept_line : (n : ℕ) (next : Counted) (v : List ℕ) → line_change n next (present_values v) ≡ next
+kept_line : (n : ℕ) (next : Result (Unit {0}) Refused) (v : List ℕ) → line_change n next (present_values v) ≡ next
 unfolding line_change named name_index columns same present_values
 kept_line n next v =
     rw (
@@ -95,12 +96,12 @@ kept_line n next v =
           (named former_columns v "lines") refl,
     )
 
-kept_lines : (n : ℕ) (vs : List (List ℕ)) → changes_from n (map present_values vs) ≡ Count 0
+kept_lines : (n : ℕ) (vs : List (List ℕ)) → changes_from n (map present_values vs) ≡ Ok tt
 unfolding changes_from
 kept_lines n [] = refl
 kept_lines n (v ∷ vs) = kept_line n (changes_from (suc n) (map present_values vs)) v ∙ kept_lines (suc n) vs
 
-pub nothing_left_out : (form : CodeForm) (vs : List (List ℕ)) → changes (other form) (map (carried form) vs) ≡ Count 0
+pub nothing_left_out : (form : CodeForm) (vs : List (List ℕ)) → changes (other form) (map (carried form) vs) ≡ Ok tt
 unfolding other carried changes
 nothing_left_out Present vs = kept_lines 2 vs
 nothing_left_out Former vs = refl

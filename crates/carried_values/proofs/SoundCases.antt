@@ -9,7 +9,6 @@ use Rattle.writing.specs.Text.{all_lines}
 use Rattle.case.specs.declared.{Form.{Form as CodeForm, TheVariants.{Present, Former}}, Finding.{Finding}}
 use Rattle.case.specs.{Columns.{Form, columns, former_columns, name_index, named}, Check.{finding}, Bounds.{Placed}, Parts.{form_of}}
 use Rattle.case.specs.declared.Finding.TheVariants as found
-use Rattle.case.specs.declared.Counted.{Counted, TheVariants.{Count}}
 use Rattle.line.specs.Line.{wrong_form, line_values}
 use Rattle.line_finding.specs.Findings.{or_finding, same_key, repeats, line_finding}
 use Rattle.line_finding.specs.declared.LineFinding.TheVariants as line
@@ -17,6 +16,8 @@ use Rattle.judgement.specs.{Sheet.{value_lines, lines_judgement}, Accepted.{Acce
 use Rattle.judgement.proofs.LineJudged.{sound_line}
 use Rattle.carried_values.specs.Values.{other, present_values, former_values, carried, cases_in}
 use Rattle.carried_values.proofs.Soundness.{Sound, sound_values, sound_small, carried_sound}
+use Rattle.std.specs.Prelude.{Result, Ok}
+use Rattle.refusal.specs.{declared.Refused.{Refused}}
 
 -- after the cases of earlier lines
 abbrev pub SoundCases : Form → List (List ℕ) → List (List ℕ) → Type 0
@@ -36,8 +37,8 @@ sound_parts true c (found.Disagreement k) r e = clash cc
 sound_parts false c f r e = clash cc
 
 lines_sound : (form : Form) (at : List ℕ) → Placed (length form) at
-    → (earlier : List (List ℕ)) (n m : ℕ) (sound : Counted) (ls : List (List ℕ))
-    → lines_judgement form at earlier n sound ls ≡ Count m → SoundCases form earlier (map (λ l. line_values at (fields_of l)) ls)
+    → (earlier : List (List ℕ)) (n m : ℕ) (sound : Result ℕ Refused) (ls : List (List ℕ))
+    → lines_judgement form at earlier n sound ls ≡ Ok m → SoundCases form earlier (map (λ l. line_values at (fields_of l)) ls)
 unfolding lines_judgement line_finding line_values
 lines_sound form at p earlier n m sound [] e = tt
 lines_sound form at p earlier n m sound (l ∷ ls) e =
@@ -52,7 +53,7 @@ lines_sound form at p earlier n m sound (l ∷ ls) e =
 
 pub accepted_cases : {form : Form} {s : List ℕ} {n : ℕ} → Accepted form s n → SoundCases form [] (cases_in form s)
 unfolding cases_in
-accepted_cases {form} {s} {n} a = lines_sound form _ a.placed [] 2 n (Count n) (value_lines s) a.judged
+accepted_cases {form} {s} {n} a = lines_sound form _ a.placed [] 2 n (Ok n) (value_lines s) a.judged
 
 -- ---- carried over
 

@@ -10,7 +10,8 @@ ghost use Rattle.carried_values.specs.Changes.{changes_from};
 ghost use Rattle.carried_values.specs.Changes.{changes};
 
 use crate::FORMER_HZ;
-use case::{Counted, Form, NAMES, REFUSED_COUNTS, REFUSED_HERTZ, REFUSED_TIMES};
+use case::{Form, NAMES, REFUSED_COUNTS, REFUSED_HERTZ, REFUSED_TIMES};
+use refusal::Refused;
 
 // Places of the times, the counts and the frequency among today's names, from 0.
 const SHOCK: usize = 5;
@@ -25,28 +26,28 @@ const ALONG: usize = 13;
 
 const HZ: usize = 21;
 
-// Refusals 9, 10 and 11 of a line, or no lines where it has none of them.
-fn line_change(line: usize, v: &[u32]) -> Counted
+// Refusals 9, 10 and 11 of a line.
+fn line_change(line: usize, v: &[u32]) -> Result<(), Refused>
     requires { length v.now ≡ name_count }
-    ensures { result ≡ line_change line (Counted.Count 0) v.now }
+    ensures { result ≡ line_change line (Ok tt) v.now }
 {
     if v[SHOCK] != v[CLEAR] {
-        return Counted::Refused(REFUSED_TIMES, line, 0);
+        return Err(Refused(REFUSED_TIMES, line, 0));
     }
     if v[CLEAR] != v[WIRE] {
-        return Counted::Refused(REFUSED_TIMES, line, 0);
+        return Err(Refused(REFUSED_TIMES, line, 0));
     }
     if v[ACROSS] != v[ALONG] {
-        return Counted::Refused(REFUSED_COUNTS, line, 0);
+        return Err(Refused(REFUSED_COUNTS, line, 0));
     }
     if v[HZ] != FORMER_HZ {
-        return Counted::Refused(REFUSED_HERTZ, line, 0);
+        return Err(Refused(REFUSED_HERTZ, line, 0));
     }
-    Counted::Count(0)
+    Ok(())
 }
 
-// The first of them on n lines of today's form, or no lines.
-fn changes_of(values: &[u32], n: usize) -> Counted
+// The first of them on n lines of today's form.
+fn changes_of(values: &[u32], n: usize) -> Result<(), Refused>
     requires n_in_bounds { name_count * n ≤ length values.now }
     requires n_le_most_lines { n ≤ most_lines }
     ensures { result ≡ changes_from 2 (parts_of name_count n values.now) }
@@ -55,23 +56,20 @@ fn changes_of(values: &[u32], n: usize) -> Counted
     while i < n {
         let a = NAMES * i;
         let b = a + NAMES;
-        let r = line_change(i + 2, &values[a..b]);
-        if let Counted::Refused(number, line, column) = r {
-            return Counted::Refused(number, line, column);
-        }
+        line_change(i + 2, &values[a..b])?;
         i += 1;
     }
-    Counted::Count(0)
+    Ok(())
 }
 
 // On the way to a form: only the former form leaves something out.
-pub fn first_change(form: Form, values: &[u32], n: usize) -> Counted
+pub fn first_change(form: Form, values: &[u32], n: usize) -> Result<(), Refused>
     requires n_in_bounds { length (form_of (other form)) * n ≤ length values.now }
     requires n_le_most_lines { n ≤ most_lines }
     ensures { result ≡ changes form (parts_of (length (form_of (other form))) n values.now) }
 {
     match form {
-        Form::Present => Counted::Count(0),
+        Form::Present => Ok(()),
         Form::Former => changes_of(values, n),
     }
 }

@@ -18,12 +18,12 @@ pub fn other_form(form: Form) -> Form
 
 // The places of today's values among the former ones: one time for the three, one count for both. The frequency is not among them: its
 // place is past the last.
-const AMONG_FORMER: [usize; NAMES] = [
+static AMONG_FORMER: [usize; NAMES] = [
     0, 1, 2, 3, 4, 5, 5, 5, 6, 7, 8, 9, 10, 10, 11, 12, 13, 14, 15, 16, 17, 18,
 ];
 
 // The places of the former values among today's.
-const AMONG_PRESENT: [usize; FORMER_NAMES] = [
+static AMONG_PRESENT: [usize; FORMER_NAMES] = [
     0, 1, 2, 3, 4, 5, 8, 9, 10, 11, 12, 14, 15, 16, 17, 18, 19, 20,
 ];
 
@@ -44,8 +44,7 @@ fn carried_value(form: Form, v: &[u32], k: usize) -> u32
     requires k_in_bounds { k < length (form_of form) }
     ensures { result ≡ get_or (carried form v.now) k 0 }
 {
-    let p = source(form, k);
-    if p < v.len() { v[p] } else { FORMER_HZ }
+    v.get(source(form, k)).copied().unwrap_or(FORMER_HZ)
 }
 
 // The values of a case in a form, from those in the other.
@@ -54,10 +53,8 @@ fn convert_line(form: Form, v: &[u32], row: &mut [u32])
     requires row_len { length row.old ≡ length (form_of form) }
     ensures { row.new ≡ carried form v.now }
 {
-    let mut k: usize = 0;
-    while k < row.len() {
-        row[k] = carried_value(form, v, k);
-        k += 1;
+    for (k, x) in row.iter_mut().enumerate() {
+        *x = carried_value(form, v, k);
     }
 }
 
@@ -69,13 +66,9 @@ pub fn convert(form: Form, values: &[u32], n: usize, carried: &mut [u32])
 {
     let k = name_count(form);
     let j = name_count(other_form(form));
-    let mut i: usize = 0;
-    while i < n {
+    for i in 0..n {
         let a = j * i;
-        let b = a + j;
         let c = k * i;
-        let d = c + k;
-        convert_line(form, &values[a..b], &mut carried[c..d]);
-        i += 1;
+        convert_line(form, &values[a..a + j], &mut carried[c..c + k]);
     }
 }

@@ -7,12 +7,13 @@ ghost use Rattle.conversion.specs.Answer.{Answered};
 ghost use Rattle.carry_text.specs.Carried.{carry_text};
 ghost use Rattle.judgement.specs.Limits.{most_bytes};
 
-use case::{Counted, Form};
+use case::Form;
 use conversion::{carry, carry_back};
 use fields::put_refusal;
+use refusal::Refused;
 
 // A sheet carried over to a form.
-fn carry_to(form: Form, s: &[u8], out: &mut [u8]) -> Counted
+fn carry_to(form: Form, s: &[u8], out: &mut [u8]) -> Result<usize, Refused>
     ensures { Answered form s.now out.old out.new result }
 {
     match form {
@@ -26,9 +27,8 @@ pub fn put_carried(form: Form, s: &[u8], out: &mut [u8]) -> usize
     requires { most_bytes ≤ length out.old }
     ensures { Put out.old 0 (carry_text form s.now) out.new result }
 {
-    let a = carry_to(form, s, out);
-    match a {
-        Counted::Count(count) => count,
-        Counted::Refused(why, line, column) => put_refusal(out, why, line, column),
+    match carry_to(form, s, out) {
+        Ok(count) => count,
+        Err(Refused(why, line, column)) => put_refusal(out, why, line, column),
     }
 }

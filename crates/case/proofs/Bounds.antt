@@ -9,8 +9,8 @@ use Rattle.case.specs.declared.{Case.{Case}, Finding.{Finding, TheVariants.{Soun
 use Rattle.case.specs.{Columns.{columns, in_range, name_index, named}, Case.{values}}
 use Rattle.case.specs.Check.{out_of_range, disagreement, finding, case_finding, count_from, own_places, record_finding, judged_by}
 use Rattle.case.specs.{Check.{record_judged}, Parts.{range_at}, Bounds.{Placed, Between, Bare, Layered, Rodless, Rodded, Bounds}}
-use Rattle.case.specs.declared.Judged.TheVariants as judged
 use Rattle.case.proofs.{Ranges.{InRange, in_range_lem, in_range_at, some_columns}, Agreement.{Agree, Agreed, agreements}}
+use Rattle.std.specs.Prelude.{Ok}
 
 -- ---- the two tests of a sound case
 
@@ -117,11 +117,11 @@ own_placed =
       within = λ i. omega (arith, count_within 1 (length columns) i (omega arith));
     }
 
-pub record_bounds : {c : Case} → record_judged c ≡ judged.Sound → Bounds c
+pub record_bounds : {c : Case} → record_judged c ≡ Ok tt → Bounds c
 unfolding record_finding record_judged judged_by
 record_bounds {c} h = bounds own_placed (found (record_finding c) h)
   where
-    found : (f : Finding) → judged_by f ≡ judged.Sound → f ≡ Sound
+    found : (f : Finding) → judged_by f ≡ Ok tt → f ≡ Sound
     found Sound e = refl
     found (OutOfRange k) e = clash cc
     found (Disagreement k) e = clash cc

@@ -5,12 +5,13 @@ use native.Mathlib.Omega.{arith}
 use lib.Dec.{T, leb, eqb, le→leb, eqb-suc-zero}
 use borrow.Author.Tests.{eq-eqb}
 use mir.Facts.{yes_and}
-use Rattle.case.specs.{declared.{Case.{Case}, Judged.TheVariants.{Sound}}, Columns.{columns, in_range}, Case.{values}}
+use Rattle.case.specs.{declared.{Case.{Case}}, Columns.{columns, in_range}, Case.{values}}
 use Rattle.case.specs.Check.{out_of_range, agree, disagreement, finding, case_finding, own_places, record_finding, judged_by, record_judged}
 use Rattle.case.specs.Bounds.{Between, Bare, Layered, Rodless, Rodded, Bounds}
 use Rattle.case.specs.declared.Finding.TheVariants as found
 use Rattle.case.proofs.{Tests.{passed, or_right, ◌then◌}, Ranges.{InRange, in_range_at}, RangeNumbers.{in_ranges}}
 use Rattle.case.proofs.Agreement.{disagreement_is}
+use Rattle.std.specs.Prelude.{Ok}
 
 -- ---- the three kinds of range
 
@@ -126,6 +127,6 @@ module _ {c : Case} (b : Bounds c) where
   none_disagrees : disagreement columns own_places (values c) ≡ found.Sound
   none_disagrees = disagreement_is own_places c ∙ rw ((surface_tests b.surface).agrees, (rod_tests b.rods).agrees)
 
-  pub bounds_sound : record_judged c ≡ Sound
+  pub bounds_sound : record_judged c ≡ Ok tt
   unfolding record_judged record_finding case_finding finding judged_by
   bounds_sound = rw (none_outside, none_disagrees)

@@ -1,6 +1,6 @@
 -- The search for the leftmost column out of range, from the last name of a form to the first: what holds when the names from k on are done.
 use Prim.Native.Nat.{ℕ, zero, suc, ◌-◌, ◌≤◌, ◌<◌}
-use mathlib.Core.{Path.{◌≡◌}, Bool.{Bool, cond}, List.{List}}
+use mathlib.Core.{Path.{◌≡◌}, Bool.{true, false, cond}, List.{List}}
 use native.Mathlib.{Numerals.{sub-one}, Omega.{arith}}
 use lib.{ListN.{length, get_or, drop, drop_of_length-le}, Seq.{drop-cons}}
 use Rattle.case.specs.{Columns.{Form, in_range}, Check.{left_of, out_of_range}, Parts.{range_at, no_column}}
@@ -37,10 +37,14 @@ leftmost_step {form} {at} {v} {c} {k = suc k} r a h e =
           (rw sub-one at e);
     }
 
--- the same, with the test of the value by an equation
-pub leftmost_by : {form : Form} {at v : List ℕ} {c k : ℕ} {b : Bool} (r : ℕ) → Leftmost form at v c k → 0 < k
-    → b ≡ in_range (range_at form (k - 1)) (get_or v (k - 1) 0) → r ≡ cond b c (left_of (get_or at (k - 1) 0) c) → Leftmost form at v r (k - 1)
-leftmost_by r a h q e = leftmost_step r a h (rw q at e)
+-- the value of the next name is out of its range, or in it
+pub leftmost_outside : {form : Form} {at v : List ℕ} {c k r : ℕ} → Leftmost form at v c k → 0 < k
+    → in_range (range_at form (k - 1)) (get_or v (k - 1) 0) ≡ false → r ≡ left_of (get_or at (k - 1) 0) c → Leftmost form at v r (k - 1)
+leftmost_outside {r = r} a h t e = leftmost_step r a h (rw t e)
+
+pub leftmost_inside : {form : Form} {at v : List ℕ} {c k : ℕ} → Leftmost form at v c k → 0 < k
+    → in_range (range_at form (k - 1)) (get_or v (k - 1) 0) ≡ true → Leftmost form at v c (k - 1)
+leftmost_inside {c = c} a h t = leftmost_step c a h (rw t)
 
 pub leftmost_end : {form : Form} {at v : List ℕ} {c k : ℕ} → Leftmost form at v c k → k ≤ 0 → c ≡ out_of_range form at v
 leftmost_end {k = zero} a h = a.is

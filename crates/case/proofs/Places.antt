@@ -1,12 +1,12 @@
 -- The places of a form's columns among those of both forms: what one test over the whole table says of each place.
 use Prim.Native.Nat.{ℕ, zero, suc, ◌<◌}
-use mathlib.Core.{Path.{◌≡◌, refl, ap}, Bool.{Bool, true, ◌&&◌}, List.{List, [], ◌∷◌, map}}
+use mathlib.Core.{Path.{◌≡◌, refl}, Bool.{Bool, true, ◌&&◌}, List.{List, [], ◌∷◌, map}}
 use native.Mathlib.Omega.{arith}
 use lib.{Dec.{T, ltb, ltb→lt}, ListN.{length, get_or, get_or-append}}
 use mir.Facts.{and_yes}
 use Rattle.text.proofs.Clash.{clash}
-use Rattle.case.specs.Columns.{Column, Form, columns, name_count, name_count_lem, former_columns, all_columns, all_count}
-use Rattle.case.specs.{Parts.{no_column, range_at, form_of, SameColumn}, declared.Form.TheVariants.{Present, Former}}
+use Rattle.case.specs.Columns.{Column, Form, columns, name_count_lem, former_columns, all_columns, all_count}
+use Rattle.case.specs.{Parts.{no_column, form_of, SameColumn}, declared.Form.TheVariants.{Present, Former}}
 
 -- every place is below a count
 all_below : ℕ → List ℕ → Bool
@@ -36,7 +36,3 @@ former_place k h =
 pub present_place : (k : ℕ) → k < length columns → SameColumn Present k k
 unfolding form_of all_columns
 present_place k h = record { within = omega (arith, name_count_lem); is = get_or-append columns _ no_column k h }
-
-pub first_range : (k : ℕ) → k < name_count → range_at all_columns k ≡ range_at columns k
-unfolding range_at form_of
-first_range k h = ap (λ (c : Column). c.range) (present_place k (omega (arith, name_count_lem))).is

@@ -1,13 +1,13 @@
 -- The ranges as three numbers each: a value between the first two, or the third, is in the range.
 use Prim.Native.Nat.{ℕ, zero, suc, ◌+◌, ◌≤◌, ◌<◌}
-use mathlib.Core.{Path.{◌≡◌, refl, sym, ◌∙◌}, Bool.{Bool, true, false, ◌&&◌, ◌||◌, or_comm}, List.{List, [], ◌∷◌}}
+use mathlib.Core.{Path.{◌≡◌, refl, sym, ap, ◌∙◌}, Bool.{Bool, true, false, ◌&&◌, ◌||◌, or_comm}, List.{List, [], ◌∷◌, map}}
 use native.Mathlib.{Decide.{ℕ_discrete, dec_lt}, Omega.{arith}}
 use lib.{ListN.{length, get_or}, Dec.{leb, eqb}}
 use borrow.Author.Tests.{eq-eqb, ne_eqb, le-leb, lt-leb}
 use Rattle.text.proofs.Clash.{clash}
-use Rattle.case.specs.Columns.{Range, from, zero_or, either, in_range, Form, columns, name_count, name_count_lem, all_columns, all_count}
-use Rattle.case.specs.{Columns.{all_count_lem}, Check.{out_of_range}, Parts.{range_at, low_of, high_of, other_of, passes, InRanges}}
-use Rattle.case.proofs.Places.{first_range}
+use Rattle.case.specs.Columns.{Range, Column, from, zero_or, either, in_range, Form, columns, name_count, name_count_lem, all_columns}
+use Rattle.case.specs.{Columns.{all_count_lem}, Check.{out_of_range}, Parts.{range_at, low_of, high_of, other_of, numbers_of, passes, form_of, SameColumn, InRanges}}
+use Rattle.case.specs.declared.{Form.{Form as CodeForm}, range.Range.{Range as CodeRange}}
 
 or-false : (a : Bool) → (a || false) ≡ a
 or-false true = refl
@@ -22,8 +22,8 @@ and_right true b e = e
 and_right false b e = clash cc
 
 -- the test is that of the range, where its low end is not above its high end
-passes_is : (r : Range) (x : ℕ) → leb (low_of r) (high_of r) ≡ true → passes (low_of r) (high_of r) (other_of r) x ≡ in_range r x
-unfolding in_range low_of high_of other_of passes
+passes_is : (r : Range) (x : ℕ) → leb (low_of r) (high_of r) ≡ true → passes (numbers_of r) x ≡ in_range r x
+unfolding in_range low_of high_of other_of numbers_of passes
 passes_is (from low high) x o = go (ℕ_discrete x low)
   where
     go : Dec (x ≡ low) → ((leb low x && leb x high) || eqb x low) ≡ (leb low x && leb x high)
@@ -37,43 +37,30 @@ passes_is (either a b) x o = go (ℕ_discrete x a) (dec_lt x a)
     go (no p) (yes l) = rw (ne_eqb x a p, lt-leb a x l)
     go (no p) (no l) = rw (ne_eqb x a p, le-leb a x (omega arith), lt-leb x a (omega (arith, p)))
 
--- ---- the tables of a form
-
-abbrev pub lows : Form → List ℕ
-lows [] = []
-lows (c ∷ form) = low_of c.range ∷ lows form
-
-abbrev pub highs : Form → List ℕ
-highs [] = []
-highs (c ∷ form) = high_of c.range ∷ highs form
-
-abbrev pub others : Form → List ℕ
-others [] = []
-others (c ∷ form) = other_of c.range ∷ others form
-
 -- no range has its low end above its high end
 abbrev orderly : Form → Bool
 orderly [] = true
 orderly (c ∷ form) = leb (low_of c.range) (high_of c.range) && orderly form
 
-entry_is : (form : Form) → orderly form ≡ true → (k : ℕ) → k < length form → (x : ℕ)
-    → passes (get_or (lows form) k 0) (get_or (highs form) k 0) (get_or (others form) k 0) x ≡ in_range (range_at form k) x
+entry_is : (form : Form) → orderly form ≡ true → (k : ℕ) (d : CodeRange) → k < length form → (x : ℕ)
+    → passes (get_or (map (λ c. numbers_of c.range) form) k d) x ≡ in_range (range_at form k) x
 unfolding range_at
-entry_is [] o k h x = absurd (omega arith)
-entry_is (c ∷ form) o zero h x = passes_is c.range x (and_left (leb (low_of c.range) (high_of c.range)) (orderly form) o)
-entry_is (c ∷ form) o (suc k) h x =
-    entry_is form (and_right (leb (low_of c.range) (high_of c.range)) (orderly form) o) k (omega arith) x
+entry_is [] o k d h x = absurd (omega arith)
+entry_is (c ∷ form) o zero d h x = passes_is c.range x (and_left (leb (low_of c.range) (high_of c.range)) (orderly form) o)
+entry_is (c ∷ form) o (suc k) d h x =
+    entry_is form (and_right (leb (low_of c.range) (high_of c.range)) (orderly form) o) k d (omega arith) x
 
 orderly_columns : orderly all_columns ≡ true
 unfolding columns all_columns low_of high_of
 orderly_columns = refl
 
--- the test of a value by the tables of both forms
-abbrev pub passes_at : ℕ → ℕ → Bool
-passes_at k x = passes (get_or (lows all_columns) k 0) (get_or (highs all_columns) k 0) (get_or (others all_columns) k 0) x
-
-pub table_entry : (k x : ℕ) → k < all_count → passes_at k x ≡ in_range (range_at all_columns k) x
-table_entry k x h = entry_is all_columns orderly_columns k (omega (arith, all_count_lem)) x
+-- the test of a value by the entry of the name with index k of a form in the table of both
+pub table_entry : {table : List CodeRange} → table ≡ map (λ c. numbers_of c.range) all_columns → {form : CodeForm} {k i : ℕ} (d : CodeRange)
+    → SameColumn form k i → (x : ℕ) → passes (get_or table i d) x ≡ in_range (range_at (form_of form) k) x
+unfolding range_at
+table_entry e {form} {k} {i} d s x =
+    rw e
+    (entry_is all_columns orderly_columns i d (omega (arith, s.within, all_count_lem)) x ∙ ap (λ (c : Column). in_range c.range x) s.is)
 
 -- ---- the pass over the values of today's form: what holds when the first k are done
 
@@ -84,13 +71,13 @@ pub record Tested (v : List ℕ) (all : Bool) (k : ℕ) : Type 0 where
 pub tested_start : (v : List ℕ) → Tested v true 0
 tested_start v = record { most = omega arith; each = λ e j h. absurd (omega arith) }
 
-pub tested_step : {v : List ℕ} {all : Bool} {k : ℕ} → Tested v all k → k < name_count → Tested v (all && passes_at k (get_or v k 0)) (k + 1)
-tested_step {v} {all} {k} a h =
-    let here = passes_at k (get_or v k 0) in
+pub tested_step : {v : List ℕ} {all here : Bool} {k : ℕ} → Tested v all k → k < name_count
+    → here ≡ in_range (range_at columns k) (get_or v k 0) → Tested v (all && here) (k + 1)
+tested_step {v} {all} {here} {k} a h t =
     record { most = omega arith; each = λ e j l. go j (ℕ_discrete j k) l (and_left all here e) (and_right all here e) }
   where
-    go : (j : ℕ) → Dec (j ≡ k) → j < k + 1 → all ≡ true → passes_at k (get_or v k 0) ≡ true → in_range (range_at columns j) (get_or v j 0) ≡ true
-    go j (yes p) l e f = rw (p, ← first_range k h) (sym (table_entry k (get_or v k 0) (omega arith)) ∙ f)
+    go : (j : ℕ) → Dec (j ≡ k) → j < k + 1 → all ≡ true → here ≡ true → in_range (range_at columns j) (get_or v j 0) ≡ true
+    go j (yes p) l e f = rw p (sym t ∙ f)
     go j (no p) l e f = a.each e j (omega (arith, p))
 
 pub tested_end : {v : List ℕ} {all : Bool} {k : ℕ} → Tested v all k → name_count ≤ k → all ≡ true → InRanges columns v

@@ -2,9 +2,10 @@
 use Rattle.std.specs.Prelude.{ℕ, zero, suc}
 use mathlib.Core.{Bool.{Bool, cond, not, ◌&&◌}, List.{List, [], ◌∷◌}}
 use lib.{ListN.{length}, Dec.{leb, eqb}}
-use Rattle.case.specs.declared.{Case.{Case}, Finding.{Finding, TheVariants.{Sound, OutOfRange, Disagreement}}, Judged.{Judged}}
+use Rattle.case.specs.declared.{Case.{Case}, Finding.{Finding, TheVariants.{Sound, OutOfRange, Disagreement}}}
 use Rattle.case.specs.{Columns.{Form, columns, in_range, named}, Case.{values}}
-use Rattle.case.specs.declared.Judged.TheVariants as judged
+use Rattle.std.specs.Prelude.{Result, Ok, Err}
+use Rattle.refusal.specs.{declared.Refused.{Refused}, Refused.{refuse}}
 
 -- Below, `at` lists for each name of a form the column, from 1, in which it stands, and `v` the values in the form's order.
 
@@ -52,15 +53,15 @@ unfoldable pub record_finding : Case → Finding
 record_finding c = case_finding own_places c
 
 -- refusals 5 and 6 with line 0
-unfoldable pub judged_by : Finding → Judged
-judged_by Sound = judged.Sound
-judged_by (OutOfRange column) = judged.Refused 5 0 column
-judged_by (Disagreement column) = judged.Refused 6 0 column
+unfoldable pub judged_by : Finding → Result (Unit {0}) Refused
+judged_by Sound = Ok tt
+judged_by (OutOfRange column) = refuse 5 0 column
+judged_by (Disagreement column) = refuse 6 0 column
 
-unfoldable pub record_judged : Case → Judged
+unfoldable pub record_judged : Case → Result (Unit {0}) Refused
 record_judged c = judged_by (record_finding c)
 
 -- the answer to a record: what is asked, or the refusal with number, line and column
-unfoldable pub record_answer : {A : Type 0} → (ℕ → ℕ → ℕ → A) → A → Judged → A
-record_answer refused asked judged.Sound = asked
-record_answer refused asked (judged.Refused number line column) = refused number line column
+unfoldable pub record_answer : {A : Type 0} → Result A Refused → Result (Unit {0}) Refused → Result A Refused
+record_answer asked (Ok sound) = asked
+record_answer asked (Err why) = Err why

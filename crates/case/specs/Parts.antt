@@ -3,6 +3,7 @@ use Rattle.std.specs.Prelude.{ℕ, ◌+◌, ◌≤◌, ◌<◌}
 use mathlib.Core.{Path.{◌≡◌}, Bool.{Bool, true, ◌&&◌, ◌||◌}, List.{List, []}}
 use lib.{Dec.{leb, eqb}, ListN.{length, get_or}}
 use Rattle.case.specs.Columns.{Range, from, zero_or, either, in_range, Column, Form, columns, name_count, former_columns, all_columns}
+use Rattle.case.specs.declared.range.Range.{Range as CodeRange}
 use Rattle.case.specs.{Columns.{all_count}, declared.Form.{Form as CodeForm, TheVariants.{Present, Former}}}
 
 -- past the table's end
@@ -51,9 +52,12 @@ other_of (from low high) = low
 other_of (zero_or low high) = 0
 other_of (either a b) = b
 
+unfoldable pub numbers_of : Range → CodeRange
+numbers_of r = record { low = low_of r; high = high_of r; other = other_of r }
+
 -- the test by these: a value between the first two, or the third
-unfoldable pub passes : ℕ → ℕ → ℕ → ℕ → Bool
-passes low high other x = (leb low x && leb x high) || eqb x other
+unfoldable pub passes : CodeRange → ℕ → Bool
+passes r x = (leb r.low x && leb x r.high) || eqb x r.other
 
 -- every value of a form is in its range
 pub record InRanges (form : Form) (v : List ℕ) : Type 0 where

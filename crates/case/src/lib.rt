@@ -14,6 +14,7 @@ ghost use Rattle.case.specs.Parts.{form_of};
 use parts::{disagreement, out_of_range};
 use range::all_in_range;
 pub use range::place;
+use refusal::Refused;
 pub use refusals::{
     REFUSED_COUNTS, REFUSED_FORM, REFUSED_HERTZ, REFUSED_LICENCE, REFUSED_LINES, REFUSED_NAME,
     REFUSED_NO_RODLEN, REFUSED_PARTS, REFUSED_RANGE, REFUSED_RELEASE, REFUSED_REPEATED,
@@ -68,20 +69,6 @@ pub enum Finding {
     Sound,
     OutOfRange(usize),
     Disagreement(usize),
-}
-
-// A count, or a refusal with number, line and column: what is asked of a sheet or a licence is answered so, unless the answer says more.
-#[derive(Clone, Copy)]
-pub enum Counted {
-    Count(usize),
-    Refused(u32, usize, usize),
-}
-
-// What the checks of a record answer before anything is asked of it: sound, or a refusal with number, line and column.
-#[derive(Clone, Copy)]
-pub enum Judged {
-    Sound,
-    Refused(u32, usize, usize),
 }
 
 // How many names a form has.
@@ -167,12 +154,12 @@ fn check(c: Case) -> Finding
 }
 
 // The refusal of a record, if its checks find a fault.
-pub fn judge(c: Case) -> Judged
+pub fn judge(c: Case) -> Result<(), Refused>
     ensures { result ≡ record_judged c }
 {
     match check(c) {
-        Finding::Sound => Judged::Sound,
-        Finding::OutOfRange(column) => Judged::Refused(REFUSED_RANGE, 0, column),
-        Finding::Disagreement(column) => Judged::Refused(REFUSED_PARTS, 0, column),
+        Finding::Sound => Ok(()),
+        Finding::OutOfRange(column) => Err(Refused(REFUSED_RANGE, 0, column)),
+        Finding::Disagreement(column) => Err(Refused(REFUSED_PARTS, 0, column)),
     }
 }

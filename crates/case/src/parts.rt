@@ -1,9 +1,9 @@
 // The checks of the values of a form: ranges, and which values must agree.
-ghost use Rattle.std.specs.Prelude.{◌≡◌, cond, length};
+ghost use Rattle.std.specs.Prelude.{◌≡◌, length};
 ghost use Rattle.case.specs.Check.{left_of, out_of_range, agree as agreeing, disagreement as disagreeing};
-ghost use Rattle.case.specs.Parts.{passes, form_of, RodsPlace};
+ghost use Rattle.case.specs.Parts.{form_of, RodsPlace};
 
-use crate::range::{HIGHS, LOWS, OTHERS, in_range, place};
+use crate::range::range_of;
 use crate::{Finding, Form};
 
 // The places of layer and thick among the names of either form, from 0.
@@ -25,40 +25,20 @@ fn rods_place(form: Form) -> usize
 fn left_of(a: usize, c: usize) -> usize
     ensures { result ≡ left_of a c }
 {
-    if c == 0 {
-        return a;
-    }
-    if a <= c {
-        return a;
-    }
-    c
+    if c == 0 || a <= c { a } else { c }
 }
 
-// The leftmost column at fault from a name on: its range as three numbers, its value v, its column a, and the leftmost after it, c.
-fn worse(low: u32, high: u32, other: u32, v: u32, a: usize, c: usize) -> usize
-    ensures { result ≡ cond (passes low high other v) c (left_of a c) }
-{
-    if in_range(low, high, other, v) {
-        return c;
-    }
-    left_of(a, c)
-}
-
-// The leftmost column whose value is out of its range, or 0. The tables are locals: a constant would be rebuilt for each name.
-pub fn out_of_range<'a>(form: Form, at: &'a [usize], v: &'a [u32]) -> usize
+// The leftmost column whose value is out of its range, or 0.
+pub fn out_of_range(form: Form, at: &[usize], v: &[u32]) -> usize
     requires at_len { length at.now ≡ length (form_of form) }
     requires v_len { length v.now ≡ length (form_of form) }
     ensures { result ≡ out_of_range (form_of form) at.now v.now }
 {
-    let lows = LOWS;
-    let highs = HIGHS;
-    let others = OTHERS;
     let mut c: usize = 0;
-    let mut k: usize = v.len();
-    while 0 < k {
-        k -= 1;
-        let p = place(form, k);
-        c = worse(lows[p], highs[p], others[p], v[k], at[k], c);
+    for k in (0..v.len()).rev() {
+        if !range_of(form, k).holds(v[k]) {
+            c = left_of(at[k], c);
+        }
     }
     c
 }
@@ -67,7 +47,7 @@ pub fn out_of_range<'a>(form: Form, at: &'a [usize], v: &'a [u32]) -> usize
 fn agree(a: u32, b: u32) -> bool
     ensures { result ≡ agreeing a b }
 {
-    if a == 0 { b == 0 } else { b != 0 }
+    (a == 0) == (b == 0)
 }
 
 // Layer and thick agree, then rods, rodlen and place.

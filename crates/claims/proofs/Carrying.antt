@@ -8,7 +8,6 @@ use Rattle.text.{proofs.Clash.{clash}}
 use Rattle.case.specs.declared.Form.{Form, TheVariants.{Present, Former}}
 use Rattle.case.specs.{Columns.{columns, former_columns, name_count_lem, former_name_count_lem, named}, Parts.{form_of}}
 use Rattle.case.{specs.Counted.{refused_or}, proofs.Passed.{passed}}
-use Rattle.case.specs.declared.Counted.{Counted, TheVariants.{Count, Refused}}
 use Rattle.header.{specs.Header.{no_columns, wrong_name}, proofs.NamesStand.{names_stand}}
 use Rattle.judgement.specs.Refusal.{name_refused}
 use Rattle.judgement.{specs.Sheet.{names, value_lines, names_judgement, judgement_within, judgement}, proofs.Accepted.{accepted}}
@@ -22,19 +21,21 @@ use Rattle.claims.specs.Carried as claim
 use Rattle.claims.proofs.OwnLines.{values_in}
 use Rattle.claims.proofs.CarriedLines.{map_at, line_values_lem, into, own_kept, others_kept, TimesIn, CountsIn, HertzIn, HeldIn}
 use Rattle.claims.proofs.CarriedLines.{times, counts, hertz, returns_at, held_at}
+use Rattle.std.specs.Prelude.{Result, Ok, Err}
+use Rattle.refusal.specs.{declared.Refused.{Refused}, Refused.{refuse}}
 
 -- ---- the lines on the way back
 
 abbrev ReturnsIn : List ℕ → Type 0
 ReturnsIn v = TimesIn v × CountsIn v × HertzIn v
 
-data Changed (vs : List (List ℕ)) (k : ℕ) : Counted → Type 0 where
-  none : ((i : ℕ) → i < length vs → ReturnsIn (get_or vs i [])) → Changed vs k (Count 0)
+data Changed (vs : List (List ℕ)) (k : ℕ) : Result (Unit {0}) Refused → Type 0 where
+  none : ((i : ℕ) → i < length vs → ReturnsIn (get_or vs i [])) → Changed vs k (Ok tt)
   first : {n : ℕ} (line i : ℕ) → line ≡ i + k → i < length vs → ((j : ℕ) → j < i → ReturnsIn (get_or vs j [])) → HeldIn (get_or vs i []) n
-      → Changed vs k (Refused n line 0)
+      → Changed vs k (refuse n line 0)
 
 -- one line, and what the later ones leave
-line_changed : (v : List ℕ) (vs : List (List ℕ)) (k : ℕ) {later : Counted} → Changed vs (suc k) later
+line_changed : (v : List ℕ) (vs : List (List ℕ)) (k : ℕ) {later : Result (Unit {0}) Refused} → Changed vs (suc k) later
     → Changed (v ∷ vs) k (line_change k later v)
 unfolding line_change
 line_changed v vs k {later} c =
@@ -44,10 +45,10 @@ line_changed v vs k {later} c =
     the : String → ℕ
     the name = named columns v name
 
-    here : {n : ℕ} → HeldIn v n → Changed (v ∷ vs) k (Refused n k 0)
+    here : {n : ℕ} → HeldIn v n → Changed (v ∷ vs) k (refuse n k 0)
     here h = first k 0 (omega arith) (omega arith) (λ j l. absurd (omega arith)) h
 
-    past : ReturnsIn v → {j : Counted} → Changed vs (suc k) j → Changed (v ∷ vs) k j
+    past : ReturnsIn v → {j : Result (Unit {0}) Refused} → Changed vs (suc k) j → Changed (v ∷ vs) k j
     past r (none all) = none each
       where
         each : (i : ℕ) → i < suc (length vs) → ReturnsIn (get_or (v ∷ vs) i [])
@@ -61,7 +62,7 @@ line_changed v vs k {later} c =
 
     go : (a : Bool) → eqb (the "shock") (the "clear") ≡ a → (b : Bool) → eqb (the "clear") (the "wire") ≡ b → (d : Bool)
         → eqb (the "across") (the "along") ≡ d → (h : Bool) → eqb (the "hz") 60 ≡ h
-        → Changed (v ∷ vs) k (cond (a && b) (cond d (cond h later (Refused 11 k 0)) (Refused 10 k 0)) (Refused 9 k 0))
+        → Changed (v ∷ vs) k (cond (a && b) (cond d (cond h later (refuse 11 k 0)) (refuse 10 k 0)) (refuse 9 k 0))
     go false e b f d g h i = here (times (λ t. eqb-false _ _ e t.0))
     go true e false f d g h i = here (times (λ t. eqb-false _ _ f t.1))
     go true e true f false g h i = here (counts (eqb-true _ _ e, eqb-true _ _ f) (eqb-false _ _ g))
@@ -127,13 +128,13 @@ module _ {form : Form} {s before after : List ℕ} where
   roomed {n} g b = go (ltb (length before) (length (carried_text form s))) refl b
     where
       go : (t : Bool) → ltb (length before) (length (carried_text form s)) ≡ t
-          → after ≡ buffer_after form s before (cond t (Refused 8 0 0) (Count (length (carried_text form s))))
-          → CarryOutcome form s before after (cond t (Refused 8 0 0) (Count (length (carried_text form s))))
+          → after ≡ buffer_after form s before (cond t (refuse 8 0 0) (Ok (length (carried_text form s))))
+          → CarryOutcome form s before after (cond t (refuse 8 0 0) (Ok (length (carried_text form s))))
       go true q b = short g (ltb-true (length before) (length (carried_text form s)) q) b
       go false q b = carried g (new_sheet form s n g.accepted) (written (ltb-false (length before) (length (carried_text form s)) q) b)
 
 -- the checks of the way back, then the room
-back_way : {s before after : List ℕ} {n : ℕ} {j : Counted} → AcceptedIn Present s n → Changed (cases_in columns s) 2 j
+back_way : {s before after : List ℕ} {n : ℕ} {j : Result (Unit {0}) Refused} → AcceptedIn Present s n → Changed (cases_in columns s) 2 j
     → after ≡ buffer_after Former s before (refused_or j (room_answer (carried_text Former s) (length before)))
     → CarryOutcome Former s before after (refused_or j (room_answer (carried_text Former s) (length before)))
 unfolding refused_or buffer_after form_of other
@@ -172,19 +173,19 @@ unfolding changes refused_or form_of other
 way Present a b = roomed (record { accepted = a; returns = λ e. absurd (not_back e) }) b
 way Former {s} a b = back_way a (changed 2 (cases_in columns s)) b
 
-pub carry_outcome : {form : Form} {s before after : List ℕ} {r : Counted} → Answered form s before after r
+pub carry_outcome : {form : Form} {s before after : List ℕ} {r : Result ℕ Refused} → Answered form s before after r
     → CarryOutcome form s before after r
 unfolding answer refused_or buffer_after
 carry_outcome {form} {s} {before} {after} {r} a =
     rw a.answer_is (go (judgement (form_of (other form)) s) refl (rw a.answer_is at a.buffer_is))
   where
-    go : (j : Counted) → judgement (form_of (other form)) s ≡ j
+    go : (j : Result ℕ Refused) → judgement (form_of (other form)) s ≡ j
         → after ≡ buffer_after form s before
         (refused_or j (refused_or (changes form (cases_in (form_of (other form)) s)) (room_answer (carried_text form s) (length before))))
         → CarryOutcome form s before after
         (refused_or j (refused_or (changes form (cases_in (form_of (other form)) s)) (room_answer (carried_text form s) (length before))))
-    go (Refused n l c) e b = rule e b
-    go (Count n) e b = way form e b
+    go (Err why) e b = rule e b
+    go (Ok n) e b = way form e b
 
 -- ---- there and back
 
@@ -194,8 +195,8 @@ other_twice Present = refl
 other_twice Former = refl
 
 -- the sheet that comes back has the values of the first
-sheet_restored : (form : Form) (s : List ℕ) (n : ℕ) → AcceptedIn (other form) s n → {k : ℕ}
-    → changes form (cases_in (form_of (other form)) s) ≡ Count k
+sheet_restored : (form : Form) (s : List ℕ) (n : ℕ) → AcceptedIn (other form) s n
+    → changes form (cases_in (form_of (other form)) s) ≡ Ok tt
     → Restored (other form) s (carried_text (other form) (carried_text form s)) n
 sheet_restored form s n e c =
     let text = carried_text (other form) (carried_text form s) in
@@ -216,28 +217,28 @@ sheet_restored form s n e c =
     }
 
 -- the bytes of the way there
-text_of : {form : Form} {s before after : List ℕ} {k : ℕ} → CarryOutcome form s before after (Count k) → take k after ≡ carried_text form s
+text_of : {form : Form} {s before after : List ℕ} {k : ℕ} → CarryOutcome form s before after (Ok k) → take k after ≡ carried_text form s
 text_of (carried g n w) = w.bytes
 
-module _ {form : Form} {s before after : List ℕ} {k : ℕ} (h : Answered form s before after (Count k)) where
-  source : (n : ℕ) × (judgement (form_of (other form)) s ≡ Count n)
-      × (Count k ≡ refused_or (changes form (cases_in (form_of (other form)) s)) (room_answer (carried_text form s) (length before)))
+module _ {form : Form} {s before after : List ℕ} {k : ℕ} (h : Answered form s before after (Ok k)) where
+  source : (n : ℕ) × (judgement (form_of (other form)) s ≡ Ok n)
+      × (Ok k ≡ refused_or (changes form (cases_in (form_of (other form)) s)) (room_answer (carried_text form s) (length before)))
   unfolding answer
   source = passed (judgement (form_of (other form)) s) _ h.answer_is
 
-  changed_none : (n : ℕ) × (changes form (cases_in (form_of (other form)) s) ≡ Count n)
-      × (Count k ≡ room_answer (carried_text form s) (length before))
+  changed_none : (x : Unit {0}) × (changes form (cases_in (form_of (other form)) s) ≡ Ok x)
+      × (Ok k ≡ room_answer (carried_text form s) (length before))
   changed_none = passed (changes form (cases_in (form_of (other form)) s)) _ source.2
 
   -- the way back of the text is answered by its room alone
   back_answer : (room : ℕ) → answer (other form) (carried_text form s) room ≡ room_answer (carried_text (other form) (carried_text form s)) room
   unfolding answer refused_or
   back_answer room =
-      let a : judgement (form_of (other (other form))) (carried_text form s) ≡ Count source.0
+      let a : judgement (form_of (other (other form))) (carried_text form s) ≡ Ok source.0
       = rw (other_twice form) (trip.carried_accepted form s source.0 source.1) in
       rw (a, trip.back_not_refused form s source.0 source.1 changed_none.1)
 
-  pub there_and_back : {before' after' : List ℕ} {r : Counted} → Answered (other form) (take k after) before' after' r
+  pub there_and_back : {before' after' : List ℕ} {r : Result ℕ Refused} → Answered (other form) (take k after) before' after' r
       → BackOutcome form s (take k after) before' after' r
   unfolding room_answer buffer_after
   there_and_back {before'} {after'} {r} b =
@@ -253,8 +254,8 @@ module _ {form : Form} {s before after : List ℕ} {k : ℕ} (h : Answered form 
           is b = b.answer_is ∙ back_answer (length before')
 
           go : (t : Bool) → ltb (length before') (length (carried_text (other form) text)) ≡ t
-              → after' ≡ buffer_after (other form) text before' (cond t (Refused 8 0 0) (Count (length (carried_text (other form) text))))
-              → BackOutcome form s text before' after' (cond t (Refused 8 0 0) (Count (length (carried_text (other form) text))))
+              → after' ≡ buffer_after (other form) text before' (cond t (refuse 8 0 0) (Ok (length (carried_text (other form) text))))
+              → BackOutcome form s text before' after' (cond t (refuse 8 0 0) (Ok (length (carried_text (other form) text))))
           go true q e = claim.short (ltb-true (length before') (length (carried_text (other form) text)) q)
           go false q e =
               claim.restored {lines = source.0} {count = length (carried_text (other form) text)}

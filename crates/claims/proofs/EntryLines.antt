@@ -7,18 +7,14 @@ use borrow.Author.Tests.{ltb-true, ltb-false}
 use Rattle.tables.specs.Parts.{part_at}
 use Rattle.case.specs.{declared.Case.{Case}, Columns.{columns}, Check.{record_answer}, Bounds.{Bounds}}
 use Rattle.case.proofs.BoundsSound.{bounds_sound}
-use Rattle.case.specs.declared.Counted.{Counted}
-use Rattle.case.specs.declared.Counted.TheVariants as counted
 use Rattle.judgement.specs.Sheet.{judgement}
 use Rattle.row.specs.{declared.Row.{Row}, Ends.{row_of}}
 use Rattle.margin.{specs.Meaning.{Right, RightMargins}, proofs.Right.{right_margins}}
 use Rattle.working.specs.{Ends.{working_of}, Working.{working_answer, RightWorked}}
 use Rattle.headroom.specs.Headroom as headroom
 use Rattle.sheet.specs.Answer.{cases}
-use Rattle.hocsimbur.{specs.{declared.RowAnswer.{RowAnswer}, Asked.{RowAnswered}}, proofs.Answers.{bounds_answered}}
-use Rattle.hocsimbur.specs.declared.RowAnswer.TheVariants as answered
+use Rattle.hocsimbur.{specs.{Asked.{RowAnswered}}, proofs.Answers.{bounds_answered}}
 use Rattle.c_line.specs.declared.Question.{Question}
-use Rattle.working.specs.declared.Worked.TheVariants as worked
 use Rattle.c_line.specs.declared.Question.TheVariants as question
 use Rattle.c_line.specs.Line as line
 use Rattle.c_lines.specs.Lines.{lines_by, lines_answer, Filled, ArrayAfter, LinesTold}
@@ -26,6 +22,8 @@ use Rattle.claims.specs.Words.{BreaksNone, case_at}
 use Rattle.claims.specs.Entries as entries
 use Rattle.claims.proofs.{Sheets.{cases_count, bounds_at}, Workings.{working_outcome}, Later.{headroom_outcome}}
 use Rattle.claims.proofs.Entries.{Says, in_c, rule_number}
+use Rattle.std.specs.Prelude.{Result, Ok, Err}
+use Rattle.refusal.specs.{declared.Refused.{Refused}, Refused.{refuse}}
 
 -- ---- every question: what its numbers say of a case within its bounds is all that differs
 
@@ -46,17 +44,17 @@ module _ (q : Question) (Line : Case → List ℤ → Type 0)
         same_length = f.size;
       }
 
-  answer_says : (s : List ℕ) (before after : List ℤ) (j : Counted) → judgement columns s ≡ j
+  answer_says : (s : List ℕ) (before after : List ℤ) (j : Result ℕ Refused) → judgement columns s ≡ j
       → ArrayAfter q s before after (lines_by width (length before) j)
       → Says (entries.EveryLine width Line s before after) (entries.LinesRefused width Line s before after)
       (lines_by width (length before) j)
   unfolding Says ArrayAfter lines_by
-  answer_says s before after (counted.Refused k l c) e h = (rule_number columns s e, entries.rule e h)
-  answer_says s before after (counted.Count n) e h = roomy (ltb (length before) (width * n)) refl h
+  answer_says s before after (Err why) e h = (rule_number columns s e, entries.rule e h)
+  answer_says s before after (Ok n) e h = roomy (ltb (length before) (width * n)) refl h
     where
-      roomy : (b : Bool) → ltb (length before) (width * n) ≡ b → ArrayAfter q s before after (cond b (counted.Refused 8 0 0) (counted.Count n))
+      roomy : (b : Bool) → ltb (length before) (width * n) ≡ b → ArrayAfter q s before after (cond b (refuse 8 0 0) (Ok n))
           → Says (entries.EveryLine width Line s before after) (entries.LinesRefused width Line s before after)
-          (cond b (counted.Refused 8 0 0) (counted.Count n))
+          (cond b (refuse 8 0 0) (Ok n))
       roomy true p h =
           (omega arith, entries.short (record { lines = n; breaks_none = e; short = ltb-true (length before) (width * n) p }) h)
       roomy false p h = every_line e (ltb-false (length before) (width * n) p) h
@@ -72,7 +70,7 @@ module _ (q : Question) (Line : Case → List ℤ → Type 0)
 -- ---- the three
 
 -- a case within its bounds is answered with its row
-answered_row : {c : Case} {a : RowAnswer} {r : Row} → Bounds c → RowAnswered c a → a ≡ answered.Is r → r ≡ row_of c
+answered_row : {c : Case} {a : Result Row Refused} {r : Row} → Bounds c → RowAnswered c a → a ≡ Ok r → r ≡ row_of c
 answered_row b h e = let z = sym e ∙ bounds_answered b h in cc
 
 margins_say : (c : Case) (part : List ℤ) → Bounds c → line.MarginsLine c part → entries.MarginNumbers c part
@@ -90,7 +88,7 @@ margins_say c part b l =
     )))
 
 -- a case within its bounds has a working
-is_worked : {c : Case} → Bounds c → working_answer c ≡ worked.Is (working_of c)
+is_worked : {c : Case} → Bounds c → working_answer c ≡ Ok (working_of c)
 unfolding working_answer record_answer
 is_worked b = rw (bounds_sound b)
 

@@ -9,7 +9,6 @@ use Rattle.case.specs.declared.Form.{Form as CodeForm, TheVariants.{Present, For
 use Rattle.case.specs.Columns.{Form, columns, former_columns, name_index, named, in_range}
 use Rattle.case.specs.{Check.{out_of_range, agree}, Parts.{range_at, form_of}}
 use Rattle.case.proofs.{Ranges.{Some, in_range_lem, in_range_at, some_columns}, Tests.{passed}, Agreement.{Agree, agreed}}
-use Rattle.case.specs.declared.Counted.{Counted, TheVariants.{Count, Refused}}
 use Rattle.header.{specs.{Names.{WrongName, Leftmost, None}}}
 use Rattle.header.proofs.{NamesStand.{Named, names_stand, name_stands, no_wrong_name, wrong_name_lem}, HeaderAccepted.{header_accepted}}
 use Rattle.line_finding.specs.{declared.LineFinding.{LineFinding, TheVariants.{Sound}}, Findings.{same_key, repeats}}
@@ -27,6 +26,9 @@ use Rattle.claims.specs.Order.{Agrees, FirstBroken, NoneBroken}
 use Rattle.claims.specs.Order as rule
 use Rattle.claims.proofs.{OnePlace.{yes_or_no, one_column, one_number, one_place, none_or_first}, OwnLines.{value_at}}
 use Rattle.claims.proofs.OwnLines.{columns_in, values_in, stand, columns_count, values_count, names_right, stands_at, under}
+use Rattle.std.specs.Prelude.{Result, Ok, Err}
+use Rattle.refusal.proofs.Same.{same_place}
+use Rattle.refusal.specs.{declared.Refused.{Refused}, Refused.{refuse}}
 
 both : (a b : Bool) → (a && b) ≡ true → (a ≡ true) × (b ≡ true)
 both true b e = (refl, e)
@@ -226,11 +228,11 @@ module _ (form : Form) (k : Known form) (s : List ℕ) (right : wrong_column for
       record { agrees = agrees i q.0; new = new_key i (none_before form at (values_at i) [] (value_lines s) i h q.1).1 }
 
   -- a refusal by its number and column
-  told : {i n m d number l c : ℕ} → Refused n m d ≡ Refused number l c → LineBroken form s i n d → LineBroken form s i number c
-  told {n = n} {d = d} {number} {c = c} e b =
-      let p : n ≡ number = cc in
-      let q : d ≡ c = cc in
-      rw (← p, ← q) b
+  told : {i n m d number l c : ℕ} → ◌≡◌ {A = Result (Unit {0}) Refused} (refuse n m d) (refuse number l c) → LineBroken form s i n d
+      → LineBroken form s i number c
+  told e b =
+      let p = same_place e in
+      rw (← p.0, ← p.2) b
 
   -- the first line that is not sound
   module _ {number l c : ℕ} (r : RefusedAt form at [] 2 (value_lines s) number l c) where
@@ -243,7 +245,7 @@ module _ (form : Form) (k : Known form) (s : List ℕ) (right : wrong_column for
     repeated_at (inr e) = absurd (yes_or_no e refl)
 
     by_finding : {f : LineFinding} → line.LineFound form at (before form at [] (value_lines s) i) (fields_at s i) f
-        → line_judgement (i + 2) (Count 0) f ≡ Refused number l c → LineBroken form s i number c
+        → line_judgement {A = Unit {0}} (i + 2) (Ok tt) f ≡ refuse number l c → LineBroken form s i number c
     unfolding line_judgement
     by_finding (line.all_sound a q) e = clash cc
     by_finding (line.wrong_form_lem q) e = told e (rule.value (wrong_values (length form) (fields_at s i) q))
@@ -270,7 +272,7 @@ count_kept p q place (rule.none e) = p e
 count_kept p q place (rule.many h) = omega arith
 
 module _ (form : Form) (k : Known form) (s : List ℕ) where
-  pub first_broken : {number line column : ℕ} → judgement form s ≡ Refused number line column
+  pub first_broken : {number line column : ℕ} → judgement form s ≡ refuse number line column
       → FirstBroken form s number line column
   unfolding judgement
   first_broken e = go (rw e at (cause.cause form s today))
@@ -289,7 +291,7 @@ module _ (form : Form) (k : Known form) (s : List ℕ) where
           })
           (line_broken form k s right r))
 
-      go : {n l c : ℕ} → cause.Cause form s today (Refused n l c) → FirstBroken form s n l c
+      go : {n l c : ℕ} → cause.Cause form s today (refuse n l c) → FirstBroken form s n l c
       go (cause.text h) = rule.text (text_wrong today s h)
       go (cause.name b h) = rule.name (text_kept s b) (wrong_name_lem form (names s) h)
       go (cause.no_line b w h) = rule.count (text_kept s b) (no_wrong_name (names_stand form (names s) w)) (rule.none h)
@@ -297,7 +299,7 @@ module _ (form : Form) (k : Known form) (s : List ℕ) where
       go (cause.lines b right some most h) =
           at_line b right some most (refused_at_lem form (columns_in form s) (length (value_lines s)) [] 2 (value_lines s) h)
 
-  pub none_broken : {n : ℕ} → judgement form s ≡ Count n → NoneBroken form s n
+  pub none_broken : {n : ℕ} → judgement form s ≡ Ok n → NoneBroken form s n
   none_broken {n} e =
       let a = judged.accepted form s n e in
       record {
@@ -308,23 +310,23 @@ module _ (form : Form) (k : Known form) (s : List ℕ) where
           count = count_kept (λ z. omega (arith, z, a.count, a.some)) (omega (arith, a.count, a.most));
           lines = λ j h.
               line_kept form k s a.names_sound j (omega (arith, a.count))
-              (sound_at form (columns_in form s) [] 2 (Count n) (value_lines s) a.judged j (omega (arith, a.count)));
+              (sound_at form (columns_in form s) [] 2 (Ok n) (value_lines s) a.judged j (omega (arith, a.count)));
         };
       }
 
   -- ---- and the other way
 
   pub refused_by : {number line column : ℕ} → FirstBroken form s number line column
-      → judgement form s ≡ Refused number line column
+      → judgement form s ≡ refuse number line column
   refused_by {number} {line} {column} b = go (judgement form s) refl
     where
-      go : (j : Counted) → judgement form s ≡ j → judgement form s ≡ Refused number line column
-      go (Count n) e = absurd (none_or_first (none_broken e) b)
-      go (Refused k l c) e = let q = one_place (first_broken e) b in e ∙ rw (q.0, q.1, q.2)
+      go : (j : Result ℕ Refused) → judgement form s ≡ j → judgement form s ≡ refuse number line column
+      go (Ok n) e = absurd (none_or_first (none_broken e) b)
+      go (Err why) e = let q = one_place (first_broken e) b in e ∙ rw (q.0, q.1, q.2)
 
-  pub accepted_by : {n : ℕ} → NoneBroken form s n → judgement form s ≡ Count n
+  pub accepted_by : {n : ℕ} → NoneBroken form s n → judgement form s ≡ Ok n
   accepted_by {n} a = go (judgement form s) refl
     where
-      go : (j : Counted) → judgement form s ≡ j → judgement form s ≡ Count n
-      go (Count m) e = let q : m ≡ n = (none_broken e).count ∙ sym a.count in e ∙ ap Count q
-      go (Refused k l c) e = absurd (none_or_first a (first_broken e))
+      go : (j : Result ℕ Refused) → judgement form s ≡ j → judgement form s ≡ Ok n
+      go (Ok m) e = let q : m ≡ n = (none_broken e).count ∙ sym a.count in e ∙ ap Ok q
+      go (Err why) e = absurd (none_or_first a (first_broken e))

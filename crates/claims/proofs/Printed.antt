@@ -5,7 +5,6 @@ use native.Mathlib.Omega.{arith}
 use lib.{ListN.{length, get_or, drop, length-map}, Seq.{take_at, drop_at}, Dec.{leb}}
 use borrow.Author.Tests.{leb-true, leb-false}
 use Rattle.case.specs.{Case.{case_of}, Columns.{columns}}
-use Rattle.case.specs.declared.Counted.{Counted, TheVariants.{Count, Refused}}
 use Rattle.text.specs.Text.{bytes}
 use Rattle.writing.specs.{Decimal.{decimal}, Text.{parted, more_fields, text_of}}
 use Rattle.judgement.specs.Sheet.{judgement}
@@ -19,6 +18,8 @@ use Rattle.sheet_text.specs.Texts.{verdict_text}
 use Rattle.claims.specs.Printed.{Printed, RowPrinted, VerdictOutcome, rows, refused, short}
 use Rattle.claims.proofs.{Lines.{map_at}, Sheets.{cases_count, bounds_at}, RowNumbers.{row_alone}}
 use Rattle.claims.specs.Words.{BreaksNone, case_at}
+use Rattle.std.specs.Prelude.{Result, Ok, Err}
+use Rattle.refusal.specs.{declared.Refused.{Refused}}
 
 -- the line of a row
 abbrev line : Row → List ℕ
@@ -57,20 +58,20 @@ at_start {t} {before} ls q w e =
     }
 
 module _ {s before after : List ℕ} {r : ℕ} where
-  shown : text_room ≤ length before → (j : Counted) → judgement columns s ≡ j
+  shown : text_room ≤ length before → (j : Result ℕ Refused) → judgement columns s ≡ j
       → r ≡ length (unless_refused j (listed verdict_names (map verdict_fields (sheet_rows s))))
       → after
       ≡ unless_refused j (listed verdict_names (map verdict_fields (sheet_rows s)))
       ++ drop (length (unless_refused j (listed verdict_names (map verdict_fields (sheet_rows s))))) before
       → VerdictOutcome s before after r
   unfolding unless_refused listed
-  shown room (Count n) e q w =
+  shown room (Ok n) e q w =
       let k : n ≡ length (cases s) = cases_count s n e in
       rows n (map line (sheet_rows s)) room e (length-map (sheet_rows s) line ∙ length-map (cases s) row_of ∙ sym k)
       (λ i h. printed_row s e i h (omega arith))
       (at_start _ q w (ap (λ (ls : List (List ℕ)). text_of (parted verdict_names ∷ ls)) (lines_of (sheet_rows s))
       ∙ ap (λ (l : List ℕ). text_of (l ∷ map line (sheet_rows s))) names_line_lem))
-  shown room (Refused number line column) e q w = refused number line column room e (at_start _ q w (refusal_line number line column))
+  shown room (Err why) e q w = refused why.0 why.1 why.2 room e (at_start _ q w (refusal_line why.0 why.1 why.2))
 
   pub verdict_outcome : Told text_room (program_text Verdict s) before after r → VerdictOutcome s before after r
   unfolding program_text verdict_text

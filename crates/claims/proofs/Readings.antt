@@ -8,8 +8,9 @@ use borrow.Author.Tests.{leb-true, leb-false, eqb-true, eqb-false}
 use Rattle.whole.{specs.Whole.{ceil_div}, proofs.Rounding.{ceil_div_above, ceil_div_by}}
 use Rattle.interval.specs.{declared.Interval.{Interval}, Operations.{natural}}
 use Rattle.exact.specs.{Exact.{AtOrBelow}, Reported.{ten}}
-use Rattle.readings.specs.declared.{outside.{Range.{Range}, Found.{Found, TheVariants.{At, Nothing}}}, Sounding.{Sounding}}
-use Rattle.readings.specs.{declared.Sounding.TheVariants.{Soil, Refused}, Reading.{Reading, pairs_of}}
+use Rattle.std.specs.Prelude.{Option, Some, None}
+use Rattle.readings.specs.declared.outside.Range.{Range}
+use Rattle.readings.specs.Reading.{Reading, pairs_of}
 use Rattle.readings.specs.Limits.{distances, resistances, in_range}
 use Rattle.readings.specs.Refusal.{sound_count, number_in, first_outside, refused_at, judged, answer_of}
 use Rattle.readings.specs.{Resistivity.{apparent, least, greatest}, Report.{μΩm, soil_of, RightReport}, Ends.{products_of, report_of}}
@@ -21,6 +22,9 @@ use Rattle.numbers.proofs.Readings.{reading_numbers}
 use Rattle.claims.specs.Measured.{WrongCount, DistanceInside, ResistanceInside, FirstPair, SoilReport, SoilOutcome, count, distance}
 use Rattle.claims.specs.Measured.{resistance, soil}
 use Rattle.claims.proofs.Betweens.{and_yes, between_yes, between_no}
+use Rattle.std.specs.Prelude.{Result, Ok}
+use Rattle.refusal.specs.{declared.Refused.{Refused}, Refused.{refuse}}
+use Rattle.readings.specs.declared.Report.{Report}
 
 -- ---- the count
 
@@ -69,18 +73,18 @@ pair_is s i h =
 inside_at : Range → ℕ → List Reading → ℕ → Bool
 inside_at range column ps i = in_range range (number_in column (get_or ps i no_reading))
 
-data First (range : Range) (column place : ℕ) (ps : List Reading) : Found → Type 0 where
-  nothing : ((i : ℕ) → i < length ps → inside_at range column ps i ≡ true) → First range column place ps Nothing
+data First (range : Range) (column place : ℕ) (ps : List Reading) : Option ℕ → Type 0 where
+  nothing : ((i : ℕ) → i < length ps → inside_at range column ps i ≡ true) → First range column place ps None
   at : (p i : ℕ) → p ≡ place + i → i < length ps → inside_at range column ps i ≡ false
-      → ((j : ℕ) → j < i → inside_at range column ps j ≡ true) → First range column place ps (At p)
+      → ((j : ℕ) → j < i → inside_at range column ps j ≡ true) → First range column place ps (Some p)
 
 first : (range : Range) (column place : ℕ) (ps : List Reading) → First range column place ps (first_outside range column place ps)
 unfolding first_outside inside_at
 first range column place [] = nothing (λ i h. absurd (omega arith))
 first range column place (p ∷ ps) = go (in_range range (number_in column p)) refl (first range column (suc place) ps)
   where
-    go : {found : Found} (b : Bool) → in_range range (number_in column p) ≡ b → First range column (suc place) ps found
-        → First range column place (p ∷ ps) (cond b found (At place))
+    go : {found : Option ℕ} (b : Bool) → in_range range (number_in column p) ≡ b → First range column (suc place) ps found
+        → First range column place (p ∷ ps) (cond b found (Some place))
     go false e f = at place 0 (omega arith) (omega arith) e (λ j h. absurd (omega arith))
     go true e (nothing all) = nothing each
       where
@@ -173,27 +177,27 @@ module _ (s : List ℕ) (some : 1 ≤ length (pairs_of s)) (right : RightReport 
 
 -- ---- the claim
 
-pub soil_outcome : {s : List ℕ} {r : Sounding} → Answered s r → SoilOutcome s r
+pub soil_outcome : {s : List ℕ} {r : Result Report Refused} → Answered s r → SoilOutcome s r
 unfolding answer_of judged refused_at RightAnswer
 soil_outcome {s} {r} a = rw a.answer (counted (sound_count (length s)) refl (rw a.answer at a.right))
   where
-    judge : 1 ≤ length (pairs_of s) → ¬ WrongCount (length s) → (f g : Found) → First distances 1 1 (pairs_of s) f
-        → First resistances 2 1 (pairs_of s) g → RightAnswer (pairs_of s) (refused_at 13 1 f (refused_at 14 2 g (Soil (report_of (pairs_of s)))))
-        → SoilOutcome s (refused_at 13 1 f (refused_at 14 2 g (Soil (report_of (pairs_of s)))))
-    judge some n (At _) g (at p i e l f b) k h =
+    judge : 1 ≤ length (pairs_of s) → ¬ WrongCount (length s) → (f g : Option ℕ) → First distances 1 1 (pairs_of s) f
+        → First resistances 2 1 (pairs_of s) g → RightAnswer (pairs_of s) (refused_at 13 1 f (refused_at 14 2 g (Ok (report_of (pairs_of s)))))
+        → SoilOutcome s (refused_at 13 1 f (refused_at 14 2 g (Ok (report_of (pairs_of s)))))
+    judge some n (Some _) g (at p i e l f b) k h =
         let z : p ≡ suc i = omega arith in rw z (distance {i = i} n (first_not s (distances_tested s) i l f b))
-    judge some n Nothing (At _) (nothing d) (at p i e l f b) h =
+    judge some n None (Some _) (nothing d) (at p i e l f b) h =
         let z : p ≡ suc i = omega arith in
         rw z (resistance {i = i} n (all_so s (distances_tested s) d) (first_not s (resistances_tested s) i l f b))
-    judge some n Nothing Nothing (nothing d) (nothing k) h =
+    judge some n None None (nothing d) (nothing k) h =
         soil n (all_so s (distances_tested s) d) (all_so s (resistances_tested s) k) (report s some h)
 
     some_pair : sound_count (length s) ≡ true → 1 ≤ length (pairs_of s)
     some_pair e = two_numbers s (count_right (length s) e)
 
     counted : (b : Bool) → sound_count (length s) ≡ b
-        → RightAnswer (pairs_of s) (cond b (judged (pairs_of s) (report_of (pairs_of s))) (Refused 12 0 0))
-        → SoilOutcome s (cond b (judged (pairs_of s) (report_of (pairs_of s))) (Refused 12 0 0))
+        → RightAnswer (pairs_of s) (cond b (judged (pairs_of s) (report_of (pairs_of s))) (refuse 12 0 0))
+        → SoilOutcome s (cond b (judged (pairs_of s) (report_of (pairs_of s))) (refuse 12 0 0))
     counted false e h = count (count_wrong (length s) e)
     counted true e h =
         judge (some_pair e) (count_right (length s) e) _ _ (first distances 1 1 (pairs_of s)) (first resistances 2 1 (pairs_of s)) h

@@ -5,31 +5,29 @@ use native.Mathlib.Omega.{arith}
 use lib.{Dec.{eqb, leb, eqb-suc-zero}, ListN.{length, get_or}}
 use borrow.Author.Tests.{le-leb}
 use Rattle.text.{specs.Text.{same}, proofs.Clash.{clash}}
-use Rattle.case.specs.{declared.{Case.{Case}, Judged.{Judged}}, Case.{values}}
+use Rattle.case.specs.{declared.{Case.{Case}}, Case.{values}}
 use Rattle.case.specs.Columns.{Form, columns, in_range, name_index, named, name_count_lem}
 use Rattle.case.specs.Check.{left_of, out_of_range, agree, disagreement, finding, case_finding, count_from, own_places, record_finding, judged_by}
 use Rattle.case.{specs.{Check.{record_judged, record_answer}, Parts.{range_at, InRanges}, Bounds.{Bounds}}, proofs.Agreement.{disagreement_is}}
 use Rattle.case.proofs.Bounds.{record_bounds}
 use Rattle.case.specs.declared.Finding.TheVariants as found
-use Rattle.case.specs.declared.Judged.TheVariants as judged
-use Rattle.interval.specs.declared.{Interval.{Interval}, Pair.{Pair}}
-use Rattle.interval.specs.declared.Pair.TheVariants as pair
+use Rattle.interval.specs.declared.{Interval.{Interval}}
 use Rattle.exact.specs.{Fraction.{Fraction}, Ends.{Ends}, Exact.{Exact}, Reported.{Scale, Reports}}
 use Rattle.formulas.specs.{Decrement.{Df}, Resistance.{resistance}, Width.{μΩ, billionths, factor_width, resistance_width}}
-use Rattle.tolerable.specs.Ends.{touch_ends, step_ends}
+use Rattle.tolerable.specs.Ends.{touch_and_step}
 use Rattle.row.{specs.Ends.{row_of}, proofs.Right.{tolerable_touch_reports, tolerable_step_reports}}
 use Rattle.numbers.{specs.Number.{Number}, proofs.Voltages.{case_numbers}}
-use Rattle.hocsimbur.specs.declared.{SizeAnswer.{SizeAnswer}, Tolerable.{Tolerable}, RowAnswer.{RowAnswer}}
 use Rattle.hocsimbur.specs.Asked.{pair_answer, factor_in_row, resistance_in_row, size_by_row, size_answer, tolerable_answer, row_answer}
 use Rattle.hocsimbur.specs.Asked.{FactorAnswered, SizeAnswered, TolerableAnswered, ResistanceAnswered, RowAnswered}
 use Rattle.hocsimbur.proofs.Answers.{factor_right, resistance_right, smallest_size}
-use Rattle.hocsimbur.specs.declared.SizeAnswer.TheVariants as sized
-use Rattle.hocsimbur.specs.declared.Tolerable.TheVariants as tolerable
-use Rattle.hocsimbur.specs.declared.RowAnswer.TheVariants as row
 use Rattle.claims.specs.Record as claim
 use Rattle.claims.specs.Rules.{SurfaceAgrees, RodsAgree}
 use Rattle.claims.specs.Record.{RecordRefused, RecordSound, RowOutcome, PairOutcome, TolerableOutcome, SizeOutcome}
 use Rattle.claims.proofs.RowNumbers as table
+use Rattle.std.specs.Prelude.{Result, Ok, Err}
+use Rattle.refusal.specs.{declared.Refused.{Refused}, Refused.{refuse}}
+use Rattle.row.specs.declared.Row.{Row}
+use Rattle.tolerable.specs.declared.TouchAndStep.{TouchAndStep}
 
 -- ---- the leftmost value out of its range, where the columns are j, j + 1, ..
 
@@ -107,9 +105,9 @@ agrees_place c (inr t) = inr (t.0, t.2)
 
 -- ---- the judgement of a record
 
-pub data Checked (c : Case) : Judged → Type 0 where
-  refused : {n l k : ℕ} → RecordRefused c n l k → Checked c (judged.Refused n l k)
-  sound : claim.AllInside c → SurfaceAgrees c → RodsAgree c → Checked c judged.Sound
+pub data Checked (c : Case) : Result (Unit {0}) Refused → Type 0 where
+  refused : {n l k : ℕ} → RecordRefused c n l k → Checked c (refuse n l k)
+  sound : claim.AllInside c → SurfaceAgrees c → RodsAgree c → Checked c (Ok tt)
 
 module _ (c : Case) where
   agreeing : claim.AllInside c → Checked c (judged_by (disagreement columns own_places (values c)))
@@ -140,51 +138,51 @@ module _ (c : Case) where
 
 -- ---- the questions
 
-pub record_sound : {c : Case} → record_judged c ≡ judged.Sound → claim.AllInside c → SurfaceAgrees c → RodsAgree c → RecordSound c
+pub record_sound : {c : Case} → record_judged c ≡ Ok tt → claim.AllInside c → SurfaceAgrees c → RodsAgree c → RecordSound c
 record_sound e i s t = record { inside = i; surface = s; rods = t; bounds = record_bounds e }
 
 -- an answer by the checks of the record: what follows of a refusal, and of a sound record
-pub by_checks : {A : Type 0} (P : A → Type 0) (refusal : ℕ → ℕ → ℕ → A) (told : A) (c : Case)
-    → ((n l k : ℕ) → RecordRefused c n l k → P (refusal n l k)) → (RecordSound c → P told) → P (record_answer refusal told (record_judged c))
+pub by_checks : {A : Type 0} (P : Result A Refused → Type 0) (told : Result A Refused) (c : Case)
+    → ((n l k : ℕ) → RecordRefused c n l k → P (refuse n l k)) → (RecordSound c → P told) → P (record_answer told (record_judged c))
 unfolding record_answer
-by_checks P refusal told c broken answered = go (record_judged c) refl (checked c)
+by_checks P told c broken answered = go (record_judged c) refl (checked c)
   where
-    go : (j : Judged) → record_judged c ≡ j → Checked c j → P (record_answer refusal told j)
-    go (judged.Refused n l k) e (refused h) = broken n l k h
-    go judged.Sound e (sound i s t) = answered (record_sound e i s t)
+    go : (j : Result (Unit {0}) Refused) → record_judged c ≡ j → Checked c j → P (record_answer told j)
+    go (Err why) e (refused h) = broken _ _ _ h
+    go (Ok u) e (sound i s t) = answered (record_sound e i s t)
 
-pub row_outcome : {c : Case} {r : RowAnswer} → RowAnswered c r → RowOutcome c r
+pub row_outcome : {c : Case} {r : Result Row Refused} → RowAnswered c r → RowOutcome c r
 unfolding row_answer
 row_outcome {c} a =
     rw a.answer
-    (by_checks (RowOutcome c) row.Refused (row.Is (row_of c)) c (λ n l k h. claim.refused h)
+    (by_checks (RowOutcome c) (Ok (row_of c)) c (λ n l k h. claim.refused h)
     (λ s. claim.row s (table.row_alone s.bounds)))
 
 -- a question for two ends, whose named ends report the value of every case within its bounds
-pair_outcome : {x : Exact} {u : Scale} {width : Ends → Fraction} (ends : Case → Interval) {c : Case} {r : Pair}
+pair_outcome : {x : Exact} {u : Scale} {width : Ends → Fraction} (ends : Case → Interval) {c : Case} {r : Result Interval Refused}
     → (Bounds c → Number x) → (Bounds c → Reports x u width (ends c)) → r ≡ pair_answer ends c → PairOutcome c x u width r
 unfolding pair_answer
 pair_outcome {x} {u} {width} ends {c} number right e =
     rw e
-    (by_checks (PairOutcome c x u width) pair.Refused (pair.Ends (ends c)) c (λ n l k h. claim.refused h)
+    (by_checks (PairOutcome c x u width) (Ok (ends c)) c (λ n l k h. claim.refused h)
     (λ s. claim.ends s (number s.bounds) (right s.bounds)))
 
-pub factor_outcome : {c : Case} {r : Pair} → FactorAnswered c r → PairOutcome c (Df c) billionths factor_width r
+pub factor_outcome : {c : Case} {r : Result Interval Refused} → FactorAnswered c r → PairOutcome c (Df c) billionths factor_width r
 factor_outcome a = pair_outcome factor_in_row (λ b. (case_numbers b).factor) factor_right a.answer
 
-pub resistance_outcome : {c : Case} {r : Pair} → ResistanceAnswered c r → PairOutcome c (resistance c) μΩ resistance_width r
+pub resistance_outcome : {c : Case} {r : Result Interval Refused} → ResistanceAnswered c r → PairOutcome c (resistance c) μΩ resistance_width r
 resistance_outcome a = pair_outcome resistance_in_row (λ b. (case_numbers b).resistance) resistance_right a.answer
 
-pub tolerable_outcome : {c : Case} {r : Tolerable} → TolerableAnswered c r → TolerableOutcome c r
-unfolding tolerable_answer
+pub tolerable_outcome : {c : Case} {r : Result TouchAndStep Refused} → TolerableAnswered c r → TolerableOutcome c r
+unfolding tolerable_answer touch_and_step
 tolerable_outcome {c} a =
     rw a.answer
-    (by_checks (TolerableOutcome c) tolerable.Refused (tolerable.Ends (touch_ends c) (step_ends c)) c (λ n l k h. claim.refused h)
+    (by_checks (TolerableOutcome c) (Ok (touch_and_step c)) c (λ n l k h. claim.refused h)
     (λ s. claim.ends s (case_numbers s.bounds) (tolerable_touch_reports s.bounds) (tolerable_step_reports s.bounds)))
 
-pub size_outcome : {c : Case} {r : SizeAnswer} → SizeAnswered c r → SizeOutcome c r
+pub size_outcome : {c : Case} {r : Result ℕ Refused} → SizeAnswered c r → SizeOutcome c r
 unfolding size_answer
 size_outcome {c} a =
     rw a.answer
-    (by_checks (SizeOutcome c) sized.Refused (sized.Is (size_by_row c)) c (λ n l k h. claim.refused h)
+    (by_checks (SizeOutcome c) (Ok (size_by_row c)) c (λ n l k h. claim.refused h)
     (λ s. claim.size (factor_in_row c) s (factor_right s.bounds) (smallest_size s.bounds)))

@@ -7,12 +7,10 @@ use borrow.Author.Tests.{ltb-true, ltb-false, eqb-true, eqb-false, eq-eqb, ne_eq
 use Rattle.text.proofs.Clash.{clash}
 use Rattle.case.{specs.{declared.Case.{Case}, Columns.{columns}, Bounds.{Bounds}, Fault.{with_fault}}, proofs.BoundsSound.{bounds_sound}}
 use Rattle.case.specs.Counted.{refused_or}
-use Rattle.case.specs.declared.Counted.{Counted, TheVariants.{Count, Refused}}
 use Rattle.row.specs.Ends.{row_of}
 use Rattle.judgement.specs.Sheet.{judgement}
 use Rattle.sheet.specs.Answer.{cases}
 use Rattle.headroom.proofs.Bracket.{fault_bounds}
-use Rattle.hocsimbur.specs.declared.RowAnswer.TheVariants as answered
 use Rattle.hocsimbur.proofs.Answers.{row_told, row_sound, bounds_answered}
 use Rattle.release.specs.declared.licence.Wrong.{Wrong, TheVariants.{At, Nothing}}
 use Rattle.release.specs.Licence.{entries_of, bad_count, among, wrong_station, wrong_seasons, wrong_area, first_wrong}
@@ -32,6 +30,8 @@ use Rattle.claims.specs.Releases.{SafeThroughout}
 use Rattle.claims.specs.Releases.{FaultReported, EntryTold, ReleaseOutcome}
 use Rattle.claims.specs.Releases as claim
 use Rattle.claims.proofs.{Betweens.{between_yes, between_no}, Sheets.{cases_count, bounds_at}}
+use Rattle.std.specs.Prelude.{Result, Ok, Err}
+use Rattle.refusal.specs.{declared.Refused.{Refused}, Refused.{refuse}}
 
 -- ---- tests
 
@@ -209,7 +209,7 @@ module _ {s : List ℕ} {n : ℕ} (b : BreaksNone s n) {station : ℕ} where
     to_ends : SafeThroughout s station f → meaning.SafeThroughout s station f
     to_ends h j l =
         let told = row_told (with_fault f (case_at s j)) refl (bounds_sound (fault_bounds (line_bounds j l) f i)) refl in
-        let w = h j (answered.Is (row_of (with_fault f (case_at s j)))) l told in
+        let w = h j (Ok (row_of (with_fault f (case_at s j)))) l told in
         let same : w.row ≡ row_of (with_fault f (case_at s j)) = cc in
         rw same at w.verdict
 
@@ -222,7 +222,7 @@ module _ {s : List ℕ} {n : ℕ} (b : BreaksNone s n) {station : ℕ} where
       }
 
 module _ {s licence : List ℕ} {before after : List ℤ} where
-  told : {n m : ℕ} → BreaksNone s n → ReleaseAnswered s licence before after (Count m) → (k : ℕ) → k < m → EntryTold s licence after k
+  told : {n m : ℕ} → BreaksNone s n → ReleaseAnswered s licence before after (Ok m) → (k : ℕ) → k < m → EntryTold s licence after k
   told b a k l =
       record {
         numbers = entry_numbers a k l;
@@ -235,54 +235,54 @@ module _ {s licence : List ℕ} {before after : List ℤ} where
 
   -- ---- the answer
 
-  kept : {r : Counted} {number line column : ℕ} → r ≡ Refused number line column → ReleaseAnswered s licence before after r
+  kept : {r : Result ℕ Refused} {number line column : ℕ} → r ≡ refuse number line column → ReleaseAnswered s licence before after r
       → after ≡ before
   unfolding TableAfter
   kept e h = rw e at h.table_is
 
-  filled : {m : ℕ} → ReleaseAnswered s licence before after (Count m) → Filled (release_of (entries_of licence) (cases s)) before after
+  filled : {m : ℕ} → ReleaseAnswered s licence before after (Ok m) → Filled (release_of (entries_of licence) (cases s)) before after
   unfolding TableAfter
   filled a = a.table_is
 
-  roomed : {n m : ℕ} {r : Counted} → BreaksNone s n → InEntries licence m → ((i : ℕ) → i < m → EntrySound licence i)
+  roomed : {n m : ℕ} {r : Result ℕ Refused} → BreaksNone s n → InEntries licence m → ((i : ℕ) → i < m → EntrySound licence i)
       → ReleaseAnswered s licence before after r → r ≡ room_answer (length before) m → ReleaseOutcome s licence before after r
   unfolding room_answer
   roomed {n} {m} {r} b p q h e = go (ltb (length before) (entry_length * m)) refl e
     where
-      go : (t : Bool) → ltb (length before) (entry_length * m) ≡ t → r ≡ cond t (Refused 23 0 0) (Count m)
+      go : (t : Bool) → ltb (length before) (entry_length * m) ≡ t → r ≡ cond t (refuse 23 0 0) (Ok m)
           → ReleaseOutcome s licence before after r
       go true l e = rw e (claim.table b p q (ltb-true _ _ l) (kept e h))
       go false l e =
-          let a : ReleaseAnswered s licence before after (Count m) = (rw e at h) in
+          let a : ReleaseAnswered s licence before after (Ok m) = (rw e at h) in
           let f = filled a in
           let c : length (release_of (entries_of licence) (cases s)) ≡ m = omega (arith, release_count licence (cases s), p.three_each) in
           rw e (claim.entries b p q (ltb-false _ _ l) (told b a) (rw c at f.rest) f.size)
 
-  paired : {n : ℕ} {r : Counted} → BreaksNone s n → InEntries licence (length licence / 3) → ReleaseAnswered s licence before after r
+  paired : {n : ℕ} {r : Result ℕ Refused} → BreaksNone s n → InEntries licence (length licence / 3) → ReleaseAnswered s licence before after r
       → (w : Wrong) → Searched licence (length licence / 3) w → r ≡ after_entries (room_answer (length before) (length (entries_of licence))) w
       → ReleaseOutcome s licence before after r
   unfolding after_entries
   paired b p h _ (found l w q) e = rw e (claim.entry b p l w q (kept e h))
   paired b p h _ (none q) e = roomed b p q h (rw (entry_count licence) at e)
 
-  numbered : {n : ℕ} {r : Counted} → BreaksNone s n → ReleaseAnswered s licence before after r → r ≡ licence_answer licence (length before)
+  numbered : {n : ℕ} {r : Result ℕ Refused} → BreaksNone s n → ReleaseAnswered s licence before after r → r ≡ licence_answer licence (length before)
       → ReleaseOutcome s licence before after r
   unfolding licence_answer
   numbered {n} {r} b h e = go (bad_count (length licence)) refl e
     where
       go : (t : Bool) → bad_count (length licence) ≡ t
           → r
-          ≡ cond t (Refused 21 0 0) (after_entries (room_answer (length before) (length (entries_of licence)))
+          ≡ cond t (refuse 21 0 0) (after_entries (room_answer (length before) (length (entries_of licence)))
           (first_wrong [] 1 (entries_of licence)))
           → ReleaseOutcome s licence before after r
       go true q e = rw e (claim.count b (not_in_entries licence q) (kept e h))
       go false q e = paired b (in_entries licence q) h _ (searched licence) e
 
-  pub release : {r : Counted} → ReleaseAnswered s licence before after r → ReleaseOutcome s licence before after r
+  pub release : {r : Result ℕ Refused} → ReleaseAnswered s licence before after r → ReleaseOutcome s licence before after r
   unfolding release_answer refused_or
   release {r} h = go (judgement columns s) refl h.answer_is
     where
-      go : (j : Counted) → judgement columns s ≡ j → r ≡ refused_or j (licence_answer licence (length before))
+      go : (j : Result ℕ Refused) → judgement columns s ≡ j → r ≡ refused_or j (licence_answer licence (length before))
           → ReleaseOutcome s licence before after r
-      go (Refused number line column) q e = rw e (claim.rule q (kept e h))
-      go (Count n) q e = numbered q h e
+      go (Err why) q e = rw e (claim.rule q (kept e h))
+      go (Ok n) q e = numbered q h e

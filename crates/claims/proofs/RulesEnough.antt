@@ -5,7 +5,7 @@ use native.Mathlib.{Decide.{ℕ_discrete}, Omega.{arith}}
 use lib.{Dec.{eqb}, ListN.{length, get_or}}
 use borrow.Author.Tests.{eqb-true}
 use Rattle.text.{specs.{Text.{fields_of}, Value.{is_value, value_of}}, proofs.Clash.{clash}}
-use Rattle.case.specs.{declared.{Case.{Case}, Judged.TheVariants.{Sound}}, Case.{values}, Columns.{columns, name_count_lem, in_range}}
+use Rattle.case.specs.{declared.{Case.{Case}}, Case.{values}, Columns.{columns, name_count_lem, in_range}}
 use Rattle.case.specs.Check.{out_of_range, disagreement, finding, case_finding, count_from, own_places, record_finding, judged_by, record_judged}
 use Rattle.case.specs.declared.Form.TheVariants.{Present}
 use Rattle.case.{specs.{Parts.{range_at, form_of}, Bounds.{Bare, Layered, Rodless, Rodded, Bounds}}, proofs.Tests.{passed}}
@@ -20,6 +20,7 @@ use Rattle.claims.specs.Order.{WrongText, WrongCount, none, many, OutOfRange, La
 use Rattle.claims.specs.Order.{FirstBroken, Reached, line, value}
 use Rattle.claims.proofs.{OwnLines.{columns_in, values_at, values_count, value_at, case_is}, OnePlace.{one_number}}
 use Rattle.claims.proofs.FirstBroken.{known, first_broken, refused_by, accepted_by}
+use Rattle.std.specs.Prelude.{Ok}
 
 -- ---- every value of a case within its bounds is in its range
 
@@ -28,12 +29,12 @@ unfolding count_from
 own_some first zero h = tt
 own_some first (suc n) h = (h, own_some (suc first) n (omega arith))
 
-none_outside : (c : Case) → record_judged c ≡ Sound → out_of_range columns own_places (values c) ≡ 0
+none_outside : (c : Case) → record_judged c ≡ Ok tt → out_of_range columns own_places (values c) ≡ 0
 unfolding record_judged record_finding case_finding finding judged_by
 none_outside c e = go (eqb (out_of_range columns own_places (values c)) 0) refl e
   where
     go : (b : Bool) → eqb (out_of_range columns own_places (values c)) 0 ≡ b
-        → judged_by (cond b (disagreement columns own_places (values c)) (found.OutOfRange (out_of_range columns own_places (values c)))) ≡ Sound
+        → judged_by (cond b (disagreement columns own_places (values c)) (found.OutOfRange (out_of_range columns own_places (values c)))) ≡ Ok tt
         → out_of_range columns own_places (values c) ≡ 0
     go true q h = eqb-true _ 0 q
     go false q h = clash cc

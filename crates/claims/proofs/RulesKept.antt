@@ -6,7 +6,6 @@ use lib.ListN.{length, get_or}
 use borrow.Author.Tests.{eq-eqb}
 use Rattle.text.specs.Text.{same}
 use Rattle.case.specs.{Columns.{columns, name_count_lem, name_index, named}, Bounds.{Bounds}}
-use Rattle.case.specs.declared.Counted.TheVariants.{Count}
 use Rattle.header.proofs.NamesStand.{names_stand, stands_once, name_known_at}
 use Rattle.line.specs.Line.{line_case}
 use Rattle.line_finding.specs.Findings.{same_key}
@@ -17,6 +16,7 @@ use Rattle.judgement.proofs.Accepted as judged
 use Rattle.sheet.{specs.Examples.{sample_judged, sample_cases}, proofs.Accepted.{sound_bounds}}
 use Rattle.claims.specs.{Words.{BreaksNone, case_at}, Rules.{fields_at, OwnLine, SameKey, RulesKept, SampleSheet}}
 use Rattle.claims.proofs.OwnLines.{columns_in, values_at, right_fields, case_is, own_line}
+use Rattle.std.specs.Prelude.{Ok}
 
 -- ---- keys
 
@@ -62,7 +62,7 @@ rules_kept {s} {n} e =
     keys_once : Accepted columns s n → (i j : ℕ) → i < j → j < n → SameKey (case_at s j) (case_at s i) → ⊥
     keys_once a i j h l =
         let m : j < length (value_lines s) = omega (arith, a.count) in
-        let f = sound_at columns (columns_in columns s) [] 2 (Count n) (value_lines s) a.judged j m in
+        let f = sound_at columns (columns_in columns s) [] 2 (Ok n) (value_lines s) a.judged j m in
         let q = line.sound_says columns (columns_in columns s) _ (fields_at s j) f in
         other_key s j i m (omega arith) ((none_before columns (columns_in columns s) (values_at s j) [] (value_lines s) j m q.1).1 i h)
 

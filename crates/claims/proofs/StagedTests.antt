@@ -5,11 +5,13 @@ use native.Mathlib.Omega.{arith}
 use lib.{Dec.{T, eqb, ltb}, IntN.{ℤ, pos, negsuc, neg_ℤ, nat_abs}, ListN.{length, get_or}, Signed.{lt_z, lt_z_yes, lt_z_no, clash_ℤ}}
 use borrow.Author.Tests.{eqb-true, eqb-false, ltb-true, ltb-false}
 use Rattle.text.proofs.Clash.{clash}
-use Rattle.staged.specs.declared.SplitAnswer.{SplitAnswer, TheVariants.{Grid, Refused}}
 use Rattle.staged.specs.Check.{fewest_numbers, most_numbers, largest_part, bad_count, outside, any_outside, none_injected}
-use Rattle.staged.{specs.Answer.{injected_square, grid_answer, answer}, proofs.Reporting.{reported}}
+use Rattle.staged.{specs.Answer.{injected_square, grid_split, answer}, proofs.Reporting.{reported}}
 use Rattle.claims.specs.Measured.{WrongParts, PartInside, AllParts, NoneInjected, Staged, SplitOutcome, count, part, none, grid}
 use Rattle.claims.proofs.Betweens.{and_yes}
+use Rattle.std.specs.Prelude.{Result, Ok}
+use Rattle.refusal.specs.{declared.Refused.{Refused}, Refused.{refuse}}
+use Rattle.staged.specs.declared.GridShare.{GridShare}
 
 -- ---- the count
 
@@ -95,10 +97,10 @@ injected_some s h n =
 
 -- ---- the claim
 
-staged : (s : List ℤ) {a b : ℤ} {n : ℕ} → answer s ≡ Grid a b n → Staged s a b n
+staged : (s : List ℤ) {g : GridShare} → answer s ≡ Ok g → Staged s g.in_phase g.quadrature g.per_mille
 unfolding injected_square
-staged s e =
-    let r = reported s e in
+staged s {g} e =
+    let r = reported {a = g.in_phase} {b = g.quadrature} {n = g.per_mille} s e in
     record {
       in_phase_whole = r.in_phase_whole;
       quadrature_whole = r.quadrature_whole;
@@ -106,13 +108,13 @@ staged s e =
       smallest = r.smaller_below;
     }
 
-pub split_outcome : {s : List ℤ} {r : SplitAnswer} → r ≡ answer s → SplitOutcome s r
-unfolding answer grid_answer
+pub split_outcome : {s : List ℤ} {r : Result GridShare Refused} → r ≡ answer s → SplitOutcome s r
+unfolding answer
 split_outcome {s} {r} q = rw q (go (bad_count (length s)) refl (any_outside s) refl (none_injected s) refl refl)
   where
     go : (a : Bool) → bad_count (length s) ≡ a → (b : Bool) → any_outside s ≡ b → (d : Bool) → none_injected s ≡ d
-        → answer s ≡ cond a (Refused 17 0 0) (cond b (Refused 18 0 0) (cond d (Refused 19 0 0) (grid_answer s)))
-        → SplitOutcome s (cond a (Refused 17 0 0) (cond b (Refused 18 0 0) (cond d (Refused 19 0 0) (grid_answer s))))
+        → answer s ≡ cond a (refuse 17 0 0) (cond b (refuse 18 0 0) (cond d (refuse 19 0 0) (Ok (grid_split s))))
+        → SplitOutcome s (cond a (refuse 17 0 0) (cond b (refuse 18 0 0) (cond d (refuse 19 0 0) (Ok (grid_split s)))))
     go true e b f d g k = count (count_wrong (length s) e)
     go false e true f d g k = let p = one_outside s f in part p.0 (count_right (length s) e) p.1 p.2
     go false e false f true g k = none (count_right (length s) e) (all_inside s f) (injected_none s g)

@@ -4,18 +4,19 @@ use mathlib.Core.{Path.{◌≡◌}, List.{List, [], ◌∷◌, map}}
 use Rattle.std.specs.Prelude.{length, take, drop}
 use Rattle.whole.specs.Every.{Every}
 use Rattle.case.specs.{declared.Form.{Form, TheVariants.{Present, Former}}, Parts.{form_of}}
-use Rattle.case.specs.declared.Counted.{Counted, TheVariants.{Count, Refused}}
 use Rattle.judgement.specs.Sheet.{names, judgement}
 use Rattle.carried_values.specs.Values.{other}
 use Rattle.conversion.specs.Answer.{carried_text}
 use Rattle.claims.specs.Rules.{Under}
+use Rattle.std.specs.Prelude.{Result, Ok}
+use Rattle.refusal.specs.{declared.Refused.{Refused}, Refused.{refuse}}
 
 -- a sheet passes all checks of a form with so many value lines, or is refused by them
 abbrev pub AcceptedIn : Form → List ℕ → ℕ → Type 0
-AcceptedIn form s lines = judgement (form_of form) s ≡ Count lines
+AcceptedIn form s lines = judgement (form_of form) s ≡ Ok lines
 
 abbrev pub RefusedIn : Form → List ℕ → ℕ → ℕ → ℕ → Type 0
-RefusedIn form s number line column = judgement (form_of form) s ≡ Refused number line column
+RefusedIn form s number line column = judgement (form_of form) s ≡ refuse number line column
 
 -- value line i of the text has under one name the number that value line i of the sheet has under another
 pub record Taken (s : List ℕ) (from : String) (text : List ℕ) (to : String) (i : ℕ) : Type 0 where
@@ -111,18 +112,18 @@ pub record Written (text before after : List ℕ) (count : ℕ) : Type 0 where
 
 -- ---- §8.2, §8.3: every answer, each with its condition; the conditions exclude one another (Answers.antt)
 
-pub data CarryOutcome (form : Form) (s before after : List ℕ) : Counted → Type 0 where
+pub data CarryOutcome (form : Form) (s before after : List ℕ) : Result ℕ Refused → Type 0 where
   -- "The source sheet passes all checks of its own form first, save 8."
   rule : {number line column : ℕ} → RefusedIn (other form) s number line column → after ≡ before
-      → CarryOutcome form s before after (Refused number line column)
+      → CarryOutcome form s before after (refuse number line column)
   -- "On the way back a line is then refused, with its line and column 0"
   held : {number i : ℕ} → FirstHeld form s i → Held s i number → after ≡ before
-      → CarryOutcome form s before after (Refused number (i + 2) 0)
+      → CarryOutcome form s before after (refuse number (i + 2) 0)
   -- "and after all lines 8, 0, 0 either way when the output buffer is too short, any refusal leaving it untouched"
   short : {lines : ℕ} → Goes form s lines → length before < length (carried_text form s) → after ≡ before
-      → CarryOutcome form s before after (Refused 8 0 0)
+      → CarryOutcome form s before after (refuse 8 0 0)
   carried : {lines count : ℕ} → Goes form s lines → NewSheet form s (carried_text form s) lines
-      → Written (carried_text form s) before after count → CarryOutcome form s before after (Count count)
+      → Written (carried_text form s) before after count → CarryOutcome form s before after (Ok count)
 
 -- §8.3: "there and back restores every value": of each name of its form each line has the number that it had
 pub record Restored (form : Form) (s text : List ℕ) (lines : ℕ) : Type 0 where
@@ -132,6 +133,6 @@ pub record Restored (form : Form) (s text : List ℕ) (lines : ℕ) : Type 0 whe
   pub others : (i : ℕ) → i < lines → Every (λ name. Taken s name text name i) other_names
 
 -- the answer of the way back, asked of the bytes `text` that the way there has written for the sheet s
-pub data BackOutcome (form : Form) (s text before after : List ℕ) : Counted → Type 0 where
-  restored : {lines count : ℕ} → Restored (other form) s (take count after) lines → BackOutcome form s text before after (Count count)
-  short : length before < length (carried_text (other form) text) → BackOutcome form s text before after (Refused 8 0 0)
+pub data BackOutcome (form : Form) (s text before after : List ℕ) : Result ℕ Refused → Type 0 where
+  restored : {lines count : ℕ} → Restored (other form) s (take count after) lines → BackOutcome form s text before after (Ok count)
+  short : length before < length (carried_text (other form) text) → BackOutcome form s text before after (refuse 8 0 0)

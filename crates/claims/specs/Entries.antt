@@ -5,29 +5,26 @@ use mathlib.Core.{Path.{◌≡◌}, Logic.{◌↔◌}, List.{List, [], ◌∷◌
 use lib.{IntN.{ℤ, pos, neg_ℤ}, ListN.{length, drop}, Signed.{◌≤ℤ◌}}
 use Rattle.exact.specs.Exact.{exactly, ◌·x◌, AtOrBelow}
 use Rattle.readings.specs.declared.Report.{Report}
-use Rattle.readings.specs.declared.Sounding.TheVariants as sounding
-use Rattle.staged.specs.declared.SplitAnswer.TheVariants as split
 use Rattle.tables.specs.Parts.{part_at}
 use Rattle.case.specs.{declared.{Case.{Case}, Form.{Form}}, Columns.{columns}}
-use Rattle.case.specs.declared.Counted.TheVariants as counted
 use Rattle.header.specs.Names.{WrongName, Leftmost, None}
 use Rattle.judgement.specs.{Sheet.{names, value_lines}, Wrong.{WrongValues}}
 use Rattle.formulas.specs.{Mesh.{mesh}, Step.{step}, Tolerable.{tolerable_touch, tolerable_step}}
 use Rattle.decision.specs.declared.Verdict.TheVariants.{Safe}
 use Rattle.row.specs.{declared.Row.{Row}, Row.{numbers}}
 use Rattle.working.specs.{declared.Quantities.{Quantities}, Numbers.{working_numbers}}
-use Rattle.working.specs.declared.Worked.TheVariants as worked
-use Rattle.margin.specs.declared.Compared.TheVariants as compared
 use Rattle.margin.specs.{Margin.{margins_of}, Meaning.{share}}
-use Rattle.yards.specs.declared.FewestLines.TheVariants as yards
-use Rattle.headroom.specs.declared.Room.TheVariants as room
-use Rattle.stations.specs.declared.Summed.TheVariants as summed
 use Rattle.c_reply.specs.Reply.{soil_numbers}
-use Rattle.hocsimbur.specs.{declared.RowAnswer.{RowAnswer}, Asked.{RowAnswered, AnsweredWith}}
-use Rattle.hocsimbur.specs.declared.RowAnswer.TheVariants as answered
+use Rattle.hocsimbur.specs.{Asked.{RowAnswered, AnsweredWith}}
 use Rattle.claims.specs.{Words.{BreaksNone, Breaks, TooShort, case_at}, Measured.{SoilOutcome, SplitOutcome}, Yards.{FewestOutcome}}
 use Rattle.claims.specs.{Workings.{WorkingOutcome}, Later.{HeadroomOutcome}, Summary.{SummaryOutcome}, Releases.{ReleaseOutcome}}
 use Rattle.claims.specs.{Rules.{fields_at, OwnLine}, Order.{WrongText}, Carried.{CarryOutcome}}
+use Rattle.std.specs.Prelude.{Result, Ok}
+use Rattle.refusal.specs.{declared.Refused.{Refused}, Refused.{refuse}}
+use Rattle.std.specs.Prelude.{Some, None as Nothing}
+use Rattle.stations.specs.declared.Counts.{Counts}
+use Rattle.staged.specs.declared.GridShare.{GridShare}
+use Rattle.yards.specs.declared.FewestLines.TheVariants as fewest_lines
 
 -- ---- §11.1: one convention
 
@@ -46,18 +43,18 @@ pub data InC (Counted : ℕ → Type 0) (Refused : ℕ → ℕ → ℕ → Type 
 
 abbrev pub SummaryInC : List ℕ → List ℤ → List ℤ → List ℤ → List ℤ → List ℕ → List ℕ → ℤ → Type 0
 SummaryInC s rowsBefore rows before after =
-    InC (λ m. (n : ℕ) × SummaryOutcome s rowsBefore rows before after (summed.Summary n m))
-    (λ number line column. SummaryOutcome s rowsBefore rows before after (summed.Refused number line column))
+    InC (λ m. (found : Counts) × SummaryOutcome s rowsBefore rows before after (Ok found) × (m ≡ found.stations))
+    (λ number line column. SummaryOutcome s rowsBefore rows before after (refuse number line column))
 
 abbrev pub ReleaseInC : List ℕ → List ℕ → List ℤ → List ℤ → List ℕ → List ℕ → ℤ → Type 0
 ReleaseInC s licence before after =
-    InC (λ m. ReleaseOutcome s licence before after (counted.Count m))
-    (λ number line column. ReleaseOutcome s licence before after (counted.Refused number line column))
+    InC (λ m. ReleaseOutcome s licence before after (Ok m))
+    (λ number line column. ReleaseOutcome s licence before after (refuse number line column))
 
 abbrev pub CarryInC : Form → List ℕ → List ℕ → List ℕ → List ℕ → List ℕ → ℤ → Type 0
 CarryInC form s before after =
-    InC (λ n. CarryOutcome form s before after (counted.Count n))
-    (λ number line column. CarryOutcome form s before after (counted.Refused number line column))
+    InC (λ n. CarryOutcome form s before after (Ok n))
+    (λ number line column. CarryOutcome form s before after (refuse number line column))
 
 -- ---- §11.3: a report as numbers in an array
 
@@ -77,17 +74,17 @@ ReportInC Numbers Own before after = InC (Reported Numbers before after) (Report
 
 -- 7, and the ends of least, greatest and mean and the soil column
 pub data SoilNumbers (list : List ℕ) : ℕ → List ℤ → Type 0 where
-  soil : {report : Report} → SoilOutcome list (sounding.Soil report) → SoilNumbers list 7 (soil_numbers report)
+  soil : {report : Report} → SoilOutcome list (Ok report) → SoilNumbers list 7 (soil_numbers report)
 
 abbrev pub SoilInC : List ℕ → List ℤ → List ℤ → List ℕ → List ℕ → ℤ → Type 0
-SoilInC list = ReportInC (SoilNumbers list) (λ number line column. SoilOutcome list (sounding.Refused number line column))
+SoilInC list = ReportInC (SoilNumbers list) (λ number line column. SoilOutcome list (refuse number line column))
 
 -- 3, and the grid's two parts and the split
 pub data SplitNumbers (s : List ℤ) : ℕ → List ℤ → Type 0 where
-  grid : {a b : ℤ} {k : ℕ} → SplitOutcome s (split.Grid a b k) → SplitNumbers s 3 (a ∷ b ∷ pos k ∷ [])
+  grid : {g : GridShare} → SplitOutcome s (Ok g) → SplitNumbers s 3 (g.in_phase ∷ g.quadrature ∷ pos g.per_mille ∷ [])
 
 abbrev pub SplitInC : List ℤ → List ℤ → List ℤ → List ℕ → List ℕ → ℤ → Type 0
-SplitInC s = ReportInC (SplitNumbers s) (λ number line column. SplitOutcome s (split.Refused number line column))
+SplitInC s = ReportInC (SplitNumbers s) (λ number line column. SplitOutcome s (refuse number line column))
 
 -- ---- §6.7, §11.3: fewest lines: the sheet's checks 1, 2, 4 and 3, in this order, then those of the search, which does not read the whole
 -- case
@@ -106,9 +103,9 @@ pub record OneLineRead (s : List ℕ) (c : Case) : Type 0 where
 
 -- 1 with lines, rods and how many yards were tried, or 0 with 0, 0 and how many
 pub data FewestNumbers (s : List ℕ) (side : ℕ) : ℕ → List ℤ → Type 0 where
-  found : {c : Case} {lines rods tried : ℕ} → OneLineRead s c → FewestOutcome c side (yards.Found lines rods tried)
+  found : {c : Case} {lines rods tried : ℕ} → OneLineRead s c → FewestOutcome c side (Ok (fewest_lines.Found lines rods tried))
       → FewestNumbers s side 1 (pos lines ∷ pos rods ∷ pos tried ∷ [])
-  none : {c : Case} {tried : ℕ} → OneLineRead s c → FewestOutcome c side (yards.None tried)
+  none : {c : Case} {tried : ℕ} → OneLineRead s c → FewestOutcome c side (Ok (fewest_lines.None tried))
       → FewestNumbers s side 0 (pos 0 ∷ pos 0 ∷ pos tried ∷ [])
 
 -- the first of them that the sheet breaks; else 5 and 6 of what the search reads, 15 or 16
@@ -118,7 +115,7 @@ pub data FewestRefused (s : List ℕ) (side : ℕ) : ℕ → ℕ → ℕ → Typ
   count : {line : ℕ} → ¬ WrongText s → None (WrongName columns (names s)) → NotOneLine s line → FewestRefused s side 4 line 0
   value : {column : ℕ} → ¬ WrongText s → None (WrongName columns (names s)) → length (value_lines s) ≡ 1
       → Leftmost (WrongValues 22 (fields_at s 0)) column → FewestRefused s side 3 2 column
-  search : {c : Case} {number line column : ℕ} → OneLineRead s c → FewestOutcome c side (yards.Refused number line column)
+  search : {c : Case} {number line column : ℕ} → OneLineRead s c → FewestOutcome c side (refuse number line column)
       → FewestRefused s side number line column
 
 abbrev pub FewestInC : List ℕ → ℕ → List ℤ → List ℤ → List ℕ → List ℕ → ℤ → Type 0
@@ -144,14 +141,14 @@ LinesInC width Line s before after = InC (EveryLine width Line s before after) (
 
 -- the margins of the case's row, true of the exact values; the case is answered safe exactly where neither is above 0
 pub data MarginNumbers (c : Case) : List ℤ → Type 0 where
-  margins : {m k : ℤ} → ((r : Row) → RowAnswered c (answered.Is r) → margins_of (numbers r) ≡ compared.Margins m k)
+  margins : {m k : ℤ} → ((r : Row) → RowAnswered c (Ok r) → margins_of (numbers r) ≡ Some (m, k))
       → AtOrBelow (mesh c) (exactly (share m) ·x tolerable_touch c) → AtOrBelow (step c) (exactly (share k) ·x tolerable_step c)
-      → ((a : RowAnswer) → RowAnswered c a → AnsweredWith Safe a ↔ (m ≤ℤ pos 0) × (k ≤ℤ pos 0)) → MarginNumbers c (m ∷ k ∷ [])
+      → ((a : Result Row Refused) → RowAnswered c a → AnsweredWith Safe a ↔ (m ≤ℤ pos 0) × (k ≤ℤ pos 0)) → MarginNumbers c (m ∷ k ∷ [])
 
 pub data WorkingNumbers (c : Case) : List ℤ → Type 0 where
-  working : {w : Quantities} → WorkingOutcome c (worked.Is w) → WorkingNumbers c (working_numbers w)
+  working : {w : Quantities} → WorkingOutcome c (Ok w) → WorkingNumbers c (working_numbers w)
 
 -- the greatest fault current at which the case, all else equal, is answered safe, or 0 where none is
 pub data HeadroomNumber (c : Case) : List ℤ → Type 0 where
-  up_to : {F : ℕ} → HeadroomOutcome c (room.UpTo F) → HeadroomNumber c (pos F ∷ [])
-  none : HeadroomOutcome c room.None → HeadroomNumber c (pos 0 ∷ [])
+  up_to : {F : ℕ} → HeadroomOutcome c (Ok (Some F)) → HeadroomNumber c (pos F ∷ [])
+  none : HeadroomOutcome c (Ok Nothing) → HeadroomNumber c (pos 0 ∷ [])

@@ -1,25 +1,26 @@
 -- What is asked of plain numbers: the logarithm (§6.3), readings (§9.1), a staged test (§9.2), the margins of a row (§6.5). For each
 -- question every answer that it can give, with its condition; the conditions exclude one another (Answers.antt), so each answer is given
 -- exactly on its own.
-use Rattle.std.specs.Prelude.{ℕ, suc, ◌+◌, ◌*◌, ◌/◌, ◌%◌, ◌^◌, ◌≤◌, ◌<◌}
+use Rattle.std.specs.Prelude.{Some, ℕ, suc, ◌+◌, ◌*◌, ◌/◌, ◌%◌, ◌^◌, ◌≤◌, ◌<◌}
 use mathlib.Core.{Path.{◌≡◌}, Logic.{◌⊎◌, ◌↔◌}, List.{List, Memᴰ}}
 use lib.{IntN.{ℤ, pos, neg_ℤ, nat_abs, ◌+ℤ◌}, ListN.{length, get_or}, Signed.{◌≤ℤ◌, ◌<ℤ◌}}
-use Rattle.interval.specs.declared.{Interval.{Interval}, Pair.{Pair}}
-use Rattle.interval.specs.declared.Pair.TheVariants as pair
+use Rattle.interval.specs.declared.{Interval.{Interval}}
 use Rattle.exact.specs.{Fraction.{Fraction, whole, decimal, ◌÷f◌}, Ends.{Ends}, Exact.{Exact, exactly, ◌·x◌, AtOrBelow}, Logarithm.{ln_of}}
 use Rattle.exact.specs.Reported.{ten, Reports}
 use Rattle.case.specs.{declared.Case.{Case}, Bounds.{Between}}
 use Rattle.formulas.specs.{Tolerable.{tolerable_touch, tolerable_step}, Mesh.{mesh}, Step.{step}}
-use Rattle.readings.specs.{declared.{Report.{Report}, Sounding.{Sounding}}, Reading.{Reading, pairs_of}, Resistivity.{apparent}}
+use Rattle.readings.specs.{declared.{Report.{Report}}, Reading.{Reading, pairs_of}, Resistivity.{apparent}}
 use Rattle.readings.specs.Report.{μΩm, width}
-use Rattle.readings.specs.declared.Sounding.TheVariants as sounding
 use Rattle.readings.specs.Resistivity as Resistivity
 use Rattle.numbers.specs.{Number.{Number}, Formulas.{ReadingNumbers}}
-use Rattle.staged.specs.{declared.SplitAnswer.{SplitAnswer}, Current.{in_phase, quadrature, injected, branches, total, square_of}}
-use Rattle.staged.specs.declared.SplitAnswer.TheVariants as split
-use Rattle.margin.specs.{declared.Compared.{Compared}, Meaning.{IsMargin, share}}
-use Rattle.margin.specs.declared.Compared.TheVariants as compared
+use Rattle.staged.specs.{Current.{in_phase, quadrature, injected, branches, total, square_of}}
+use Rattle.margin.specs.{Meaning.{IsMargin, share}}
 use Rattle.claims.specs.Words.{verdict_at}
+use Rattle.std.specs.Prelude.{Result, Ok}
+use Rattle.refusal.specs.{declared.Refused.{Refused}, Refused.{refuse}}
+use Rattle.staged.specs.declared.GridShare.{GridShare}
+use Rattle.std.specs.Prelude.{Option, None}
+use Rattle.refusal.specs.{declared.Refused.{Refused}}
 
 -- ---- §6.3: the logarithm
 
@@ -31,13 +32,13 @@ NumberInside n = Between 1 n (10 ^ 15)
 abbrev pub two_hundred : Ends → Fraction
 two_hundred ends = decimal 200 9
 
-pub data LogarithmOutcome (p q : ℕ) : Pair → Type 0 where
+pub data LogarithmOutcome (p q : ℕ) : Result Interval Refused → Type 0 where
   -- "one outside is refused with 5, line 0, column 1 (upper number) or 2 (lower)"
-  upper : ¬ NumberInside p → LogarithmOutcome p q (pair.Refused 5 0 1)
-  lower : NumberInside p → ¬ NumberInside q → LogarithmOutcome p q (pair.Refused 5 0 2)
+  upper : ¬ NumberInside p → LogarithmOutcome p q (refuse 5 0 1)
+  lower : NumberInside p → ¬ NumberInside q → LogarithmOutcome p q (refuse 5 0 2)
   -- "answered as a pair in signed billionths that holds the exact value"
   ends : {i : Interval} → NumberInside p → NumberInside q → Number (ln_of (whole p ÷f whole q))
-      → Reports (ln_of (whole p ÷f whole q)) (ten 9) two_hundred i → LogarithmOutcome p q (pair.Ends i)
+      → Reports (ln_of (whole p ÷f whole q)) (ten 9) two_hundred i → LogarithmOutcome p q (Ok i)
 
 -- ---- §9.1: soil from four-pin readings
 
@@ -89,16 +90,16 @@ module _ (numbers : List ℕ) where
     pub no_less : (m : ℕ) → m < report.soil → pos (1000000 * m) <ℤ report.mean.upper
 
   -- "Refusals, in this order over the whole input"
-  pub data SoilOutcome : Sounding → Type 0 where
+  pub data SoilOutcome : Result Report Refused → Type 0 where
     -- "12, 0, 0 when the count of numbers is 0, odd or above 128"
-    count : WrongCount (length numbers) → SoilOutcome (sounding.Refused 12 0 0)
+    count : WrongCount (length numbers) → SoilOutcome (refuse 12 0 0)
     -- "13 when a distance is out of range; 14 when a resistance is; the last two with the first such pair's place from 1 as line, and
     -- column 1 or 2"
-    distance : {i : ℕ} → ¬ WrongCount (length numbers) → FirstPair DistanceInside i → SoilOutcome (sounding.Refused 13 (suc i) 1)
+    distance : {i : ℕ} → ¬ WrongCount (length numbers) → FirstPair DistanceInside i → SoilOutcome (refuse 13 (suc i) 1)
     resistance : {i : ℕ} → ¬ WrongCount (length numbers) → AllPairs DistanceInside → FirstPair ResistanceInside i
-        → SoilOutcome (sounding.Refused 14 (suc i) 2)
+        → SoilOutcome (refuse 14 (suc i) 2)
     soil : {report : Report} → ¬ WrongCount (length numbers) → AllPairs DistanceInside → AllPairs ResistanceInside → SoilReport report
-        → SoilOutcome (sounding.Soil report)
+        → SoilOutcome (Ok report)
 
 -- ---- §9.2: split from a staged test
 
@@ -130,14 +131,14 @@ module _ (s : List ℤ) where
         → m * m * square_of (injected (in_phase s)) (injected (quadrature s)) < 1000000 * square_of inPhasePart quadraturePart
 
   -- "Refusals, in order over the whole input, with line and column 0"
-  pub data SplitOutcome : SplitAnswer → Type 0 where
+  pub data SplitOutcome : Result GridShare Refused → Type 0 where
     -- "17 when the count of numbers is odd, below 4 or above 34"
-    count : WrongParts (length s) → SplitOutcome (split.Refused 17 0 0)
+    count : WrongParts (length s) → SplitOutcome (refuse 17 0 0)
     -- "18 when a part is outside −1,000,000..1,000,000"
-    part : (i : ℕ) → ¬ WrongParts (length s) → i < length s → ¬ PartInside (get_or s i (pos 0)) → SplitOutcome (split.Refused 18 0 0)
+    part : (i : ℕ) → ¬ WrongParts (length s) → i < length s → ¬ PartInside (get_or s i (pos 0)) → SplitOutcome (refuse 18 0 0)
     -- "19 when both injected parts are 0"
-    none : ¬ WrongParts (length s) → AllParts → NoneInjected → SplitOutcome (split.Refused 19 0 0)
-    grid : {a b : ℤ} {n : ℕ} → ¬ WrongParts (length s) → AllParts → ¬ NoneInjected → Staged a b n → SplitOutcome (split.Grid a b n)
+    none : ¬ WrongParts (length s) → AllParts → NoneInjected → SplitOutcome (refuse 19 0 0)
+    grid : {g : GridShare} → ¬ WrongParts (length s) → AllParts → ¬ NoneInjected → Staged g.in_phase g.quadrature g.per_mille → SplitOutcome (Ok g)
 
 -- ---- §6.5: the margins of a row's numbers
 
@@ -154,14 +155,14 @@ module _ (row : List ℤ) where
   RowComparable = (length row ≡ 20) × (Comparable (at 13) (at 8) × Comparable (at 15) (at 10))
 
   -- each margin is the smallest whole number of tenths of a percent by which the voltage is not above the tolerable one
-  pub data MarginsOutcome : Compared → Type 0 where
+  pub data MarginsOutcome : Option (ℤ × ℤ) → Type 0 where
     margins : {m k : ℤ} → RowComparable → IsMargin (nat_abs (at 13)) (nat_abs (at 8)) m → IsMargin (nat_abs (at 15)) (nat_abs (at 10)) k
-        → MarginsOutcome (compared.Margins m k)
-    none : ¬ RowComparable → MarginsOutcome compared.None
+        → MarginsOutcome (Some (m, k))
+    none : ¬ RowComparable → MarginsOutcome None
 
 -- the margins of row i of a table, for a value line with the case c: true of the exact values, and the verdict is safe exactly where
 -- neither is above 0
-pub data RowMargins (c : Case) (table : List ℤ) (i : ℕ) : Compared → Type 0 where
+pub data RowMargins (c : Case) (table : List ℤ) (i : ℕ) : Option (ℤ × ℤ) → Type 0 where
   margins : {m k : ℤ} → AtOrBelow (mesh c) (exactly (share m) ·x tolerable_touch c)
       → AtOrBelow (step c) (exactly (share k) ·x tolerable_step c)
-      → (verdict_at table i ≡ pos 1) ↔ (m ≤ℤ pos 0) × (k ≤ℤ pos 0) → RowMargins c table i (compared.Margins m k)
+      → (verdict_at table i ≡ pos 1) ↔ (m ≤ℤ pos 0) × (k ≤ℤ pos 0) → RowMargins c table i (Some (m, k))

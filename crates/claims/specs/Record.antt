@@ -3,18 +3,17 @@
 use Rattle.std.specs.Prelude.{ℕ, suc, ◌<◌}
 use mathlib.Core.{Path.{◌≡◌}, Bool.{Bool, true, false}}
 use lib.{IntN.{nat_abs}, ListN.{get_or}}
-use Rattle.interval.specs.declared.{Interval.{Interval}, Pair.{Pair}}
-use Rattle.interval.specs.declared.Pair.TheVariants as pair
+use Rattle.interval.specs.declared.{Interval.{Interval}}
 use Rattle.exact.specs.{Fraction.{Fraction}, Ends.{Ends}, Exact.{Exact}, Reported.{Scale, Reports}}
 use Rattle.case.specs.{declared.Case.{Case}, Case.{values}, Columns.{columns, in_range}, Parts.{range_at, InRanges}, Bounds.{Bounds}}
 use Rattle.formulas.specs.{Decrement.{Df}, Tolerable.{tolerable_touch, tolerable_step}, Width.{m_v, billionths, factor_width, tolerable_width}}
 use Rattle.numbers.specs.{Number.{Number}, Formulas.{CaseNumbers}}
 use Rattle.row.specs.{declared.Row.{Row}, Row.{numbers}}
-use Rattle.hocsimbur.specs.declared.{RowAnswer.{RowAnswer, TheVariants.{Is, Refused}}, SizeAnswer.{SizeAnswer}}
-use Rattle.hocsimbur.specs.{declared.Tolerable.{Tolerable}, Asked.{SmallestSize}}
-use Rattle.hocsimbur.specs.declared.SizeAnswer.TheVariants as sized
-use Rattle.hocsimbur.specs.declared.Tolerable.TheVariants as tolerable
+use Rattle.hocsimbur.specs.{Asked.{SmallestSize}}
 use Rattle.claims.specs.{Rules.{SurfaceAgrees, RodsAgree}, Demands.{OwnRow}}
+use Rattle.std.specs.Prelude.{Result, Ok}
+use Rattle.refusal.specs.{declared.Refused.{Refused}, Refused.{refuse}}
+use Rattle.tolerable.specs.declared.TouchAndStep.{TouchAndStep}
 
 -- the value of the name with index i, from 0, in the table of names is in its range
 abbrev pub inside_at : Case → ℕ → Bool
@@ -49,27 +48,27 @@ pub record RecordSound (c : Case) : Type 0 where
 
 -- §6.1: "One case may also be asked as a record of 18 numbers; the answer is its row or a refusal 5 or 6, whose line is 0 and whose column
 -- is the place in the table of names above."; the row has all of demand 3
-pub data RowOutcome (c : Case) : RowAnswer → Type 0 where
-  refused : {number line column : ℕ} → RecordRefused c number line column → RowOutcome c (Refused number line column)
-  row : {r : Row} → RecordSound c → OwnRow c (numbers r) 0 → RowOutcome c (Is r)
+pub data RowOutcome (c : Case) : Result Row Refused → Type 0 where
+  refused : {number line column : ℕ} → RecordRefused c number line column → RowOutcome c (refuse number line column)
+  row : {r : Row} → RecordSound c → OwnRow c (numbers r) 0 → RowOutcome c (Ok r)
 
 -- §6.2: "Decrement factor (in thousandths), conductor size, tolerable touch, tolerable step and resistance may each be asked alone, from a
 -- record, with the same checks."
 
 -- two ends for an exact value, which is one number: the factor, or the resistance
-pub data PairOutcome (c : Case) (x : Exact) (unit : Scale) (width : Ends → Fraction) : Pair → Type 0 where
-  refused : {number line column : ℕ} → RecordRefused c number line column → PairOutcome c x unit width (pair.Refused number line column)
-  ends : {i : Interval} → RecordSound c → Number x → Reports x unit width i → PairOutcome c x unit width (pair.Ends i)
+pub data PairOutcome (c : Case) (x : Exact) (unit : Scale) (width : Ends → Fraction) : Result Interval Refused → Type 0 where
+  refused : {number line column : ℕ} → RecordRefused c number line column → PairOutcome c x unit width (refuse number line column)
+  ends : {i : Interval} → RecordSound c → Number x → Reports x unit width i → PairOutcome c x unit width (Ok i)
 
 -- §6.2: "The two separate questions are merged into one that gives both pairs of ends from one root."
-pub data TolerableOutcome (c : Case) : Tolerable → Type 0 where
-  refused : {number line column : ℕ} → RecordRefused c number line column → TolerableOutcome c (tolerable.Refused number line column)
-  ends : {touch step : Interval} → RecordSound c → CaseNumbers c → Reports (tolerable_touch c) m_v tolerable_width touch
-      → Reports (tolerable_step c) m_v tolerable_width step → TolerableOutcome c (tolerable.Ends touch step)
+pub data TolerableOutcome (c : Case) : Result TouchAndStep Refused → Type 0 where
+  refused : {number line column : ℕ} → RecordRefused c number line column → TolerableOutcome c (refuse number line column)
+  ends : {limits : TouchAndStep} → RecordSound c → CaseNumbers c → Reports (tolerable_touch c) m_v tolerable_width limits.touch
+      → Reports (tolerable_step c) m_v tolerable_width limits.step → TolerableOutcome c (Ok limits)
 
 -- §4.9: "Conductor size is the smallest whole kcmil not below the product with the factor's upper end": for a pair of ends that reports the
 -- factor
-pub data SizeOutcome (c : Case) : SizeAnswer → Type 0 where
-  refused : {number line column : ℕ} → RecordRefused c number line column → SizeOutcome c (sized.Refused number line column)
+pub data SizeOutcome (c : Case) : Result ℕ Refused → Type 0 where
+  refused : {number line column : ℕ} → RecordRefused c number line column → SizeOutcome c (refuse number line column)
   size : {kcmil : ℕ} (factor : Interval) → RecordSound c → Reports (Df c) billionths factor_width factor
-      → SmallestSize c (nat_abs factor.upper) kcmil → SizeOutcome c (sized.Is kcmil)
+      → SmallestSize c (nat_abs factor.upper) kcmil → SizeOutcome c (Ok kcmil)

@@ -4,16 +4,16 @@ use mathlib.Core.{Path.{◌≡◌}, Bool.{true}, List.{List}, Logic.{◌⊎◌, 
 use lib.{IntN.{ℤ, pos, nat_abs}, ListN.{length, drop}}
 use Rattle.tables.specs.Parts.{part_at}
 use Rattle.case.specs.{Bounds.{Between}, Fault.{with_fault}}
-use Rattle.case.specs.declared.Counted.{Counted, TheVariants.{Count, Refused}}
 use Rattle.decision.specs.declared.Verdict.TheVariants.{Safe}
 use Rattle.row.specs.declared.Row.{Row}
 use Rattle.sheet.specs.Answer.{cases}
 use Rattle.tally.specs.Lines.{licensed}
 use Rattle.release.specs.Entry.{station_numbers}
 use Rattle.release.specs.Meaning.{answer_at, licensed_station, licensed_seasons, licensed_area, LineOf, SeasonLine, OneYard, NothingFound}
-use Rattle.hocsimbur.specs.{declared.RowAnswer.{RowAnswer}, Asked.{RowAnswered, AnsweredWith}}
-use Rattle.hocsimbur.specs.declared.RowAnswer.TheVariants as answered
+use Rattle.hocsimbur.specs.{Asked.{RowAnswered, AnsweredWith}}
 use Rattle.claims.specs.{Words.{BreaksNone, Breaks, case_at, TrulySafe}, Later.{FaultInside}}
+use Rattle.std.specs.Prelude.{Result, Ok}
+use Rattle.refusal.specs.{declared.Refused.{Refused}, Refused.{refuse}}
 
 -- ---- the licence: entries of a station, its seasons and "the conductor's own cross-section in whole kcmil"
 
@@ -54,14 +54,14 @@ pub record ReleasedStation (s : List ℕ) (station seasons area : ℕ) : Type 0 
   pub one_yard : (i j : ℕ) → LineOf s station i → LineOf s station j → OneYard (case_at s i) (case_at s j)
   pub tolerable : (j : ℕ) → LineOf s station j → TrulySafe (case_at s j)
   -- by the conductor's own cross-section, where the licence has one
-  pub own_wire : 1 ≤ area → (j : ℕ) {r : Row} → LineOf s station j → RowAnswered (case_at s j) (answered.Is r) → nat_abs r.size ≤ area
+  pub own_wire : 1 ≤ area → (j : ℕ) {r : Row} → LineOf s station j → RowAnswered (case_at s j) (Ok r) → nat_abs r.size ≤ area
   -- else "solid and round, worked from the diameter"
-  pub round_wire : area ≡ 0 → (j : ℕ) {r : Row} → LineOf s station j → RowAnswered (case_at s j) (answered.Is r)
+  pub round_wire : area ≡ 0 → (j : ℕ) {r : Row} → LineOf s station j → RowAnswered (case_at s j) (Ok r)
       → 64516 * nat_abs r.size ≤ 1000 * ((case_at s j).dia * (case_at s j).dia)
 
 -- with this fault current in every line of the station, every line is answered safe
 abbrev pub SafeThroughout : List ℕ → ℕ → ℕ → Type 0
-SafeThroughout s station f = (j : ℕ) (a : RowAnswer) → LineOf s station j → RowAnswered (with_fault f (case_at s j)) a → AnsweredWith Safe a
+SafeThroughout s station f = (j : ℕ) (a : Result Row Refused) → LineOf s station j → RowAnswered (with_fault f (case_at s j)) a → AnsweredWith Safe a
 
 -- "the fault current reported is exact as in (1)": with F, and with 0
 pub record FaultReported (s : List ℕ) (station F : ℕ) : Type 0 where
@@ -86,20 +86,20 @@ pub record EntryTold (s licence : List ℕ) (after : List ℤ) (k : ℕ) : Type 
 -- ---- the answer
 
 -- every answer, each with its condition; the conditions exclude one another (Answers.antt)
-pub data ReleaseOutcome (s licence : List ℕ) (before after : List ℤ) : Counted → Type 0 where
+pub data ReleaseOutcome (s licence : List ℕ) (before after : List ℤ) : Result ℕ Refused → Type 0 where
   -- "Refusals: the sheet's own 1 to 7"; "any refusal leaves the table"
   rule : {number line column : ℕ} → Breaks s number line column → after ≡ before
-      → ReleaseOutcome s licence before after (Refused number line column)
+      → ReleaseOutcome s licence before after (refuse number line column)
   -- "then over the whole licence 21, 0, 0"
   count : {n : ℕ} → BreaksNone s n → ((m : ℕ) → ¬ InEntries licence m) → after ≡ before
-      → ReleaseOutcome s licence before after (Refused 21 0 0)
+      → ReleaseOutcome s licence before after (refuse 21 0 0)
   -- "22 with the first such" entry's "place from 1 as line"
   entry : {n m k column : ℕ} → BreaksNone s n → InEntries licence m → k < m → EntryWrong licence k column
-      → ((i : ℕ) → i < k → EntrySound licence i) → after ≡ before → ReleaseOutcome s licence before after (Refused 22 (k + 1) column)
+      → ((i : ℕ) → i < k → EntrySound licence i) → after ≡ before → ReleaseOutcome s licence before after (refuse 22 (k + 1) column)
   -- "last 23, 0, 0 when the table is shorter than eight numbers" an entry
   table : {n m : ℕ} → BreaksNone s n → InEntries licence m → ((i : ℕ) → i < m → EntrySound licence i) → length before < 8 * m
-      → after ≡ before → ReleaseOutcome s licence before after (Refused 23 0 0)
+      → after ≡ before → ReleaseOutcome s licence before after (refuse 23 0 0)
   -- the answer is the count of entries; "numbers past the last keep what they held."
   entries : {n m : ℕ} → BreaksNone s n → InEntries licence m → ((i : ℕ) → i < m → EntrySound licence i) → 8 * m ≤ length before
       → ((k : ℕ) → k < m → EntryTold s licence after k) → drop (8 * m) after ≡ drop (8 * m) before → length after ≡ length before
-      → ReleaseOutcome s licence before after (Count m)
+      → ReleaseOutcome s licence before after (Ok m)

@@ -5,11 +5,12 @@ use mathlib.Core.{Path.{◌≡◌}, Logic.{◌⊎◌}, List.{List, [], ◌∷◌
 use lib.{IntN.{ℤ}, ListN.{length, get_or}}
 use Rattle.text.specs.{Text.{bytes, fields_of}, Value.{value_of}}
 use Rattle.case.specs.{declared.Case.{Case}, Case.{case_of}, Columns.{columns}, Bounds.{Bounds}}
-use Rattle.case.specs.declared.Counted.TheVariants as counted
 use Rattle.header.specs.{Parts.{name_at}, Names.{field_at, StandsAt, StandsOnce, KnownName}}
 use Rattle.judgement.specs.{Limits.{earlier}, Sheet.{names, value_lines, judgement_within}, Wrong.{RightValues}}
 use Rattle.sheet.specs.{declared.Answer.TheVariants.{Rows}, Table.{TableAfter}, Examples.{sample}}
 use Rattle.claims.specs.Words.{BreaksNone, case_at}
+use Rattle.std.specs.Prelude.{Ok}
+use Rattle.refusal.specs.{Refused.{refuse}}
 
 -- the fields of value line i
 abbrev pub fields_at : List ℕ → ℕ → List (List ℕ)
@@ -103,7 +104,7 @@ RodsAgree c = ((c.rods ≡ 0) × (c.rodlen ≡ 0) × (c.place ≡ 0)) ⊎ ((1 �
 -- ---- §1.5: the "programs sold earlier for the same columns"
 
 abbrev pub AcceptedEarlier : List ℕ → ℕ → Type 0
-AcceptedEarlier s n = judgement_within columns earlier s ≡ counted.Count n
+AcceptedEarlier s n = judgement_within columns earlier s ≡ Ok n
 
 -- n rows of theirs for a sheet, in a table that was `before`: each that of its own line, as today
 pub record AnsweredEarlier (s : List ℕ) (before after : List ℤ) (n : ℕ) : Type 0 where
@@ -111,7 +112,7 @@ pub record AnsweredEarlier (s : List ℕ) (before after : List ℤ) (n : ℕ) : 
   pub rows : TableAfter s before after (Rows n)
 
 abbrev pub RefusedEarlier : List ℕ → ℕ → ℕ → ℕ → Type 0
-RefusedEarlier s number line column = judgement_within columns earlier s ≡ counted.Refused number line column
+RefusedEarlier s number line column = judgement_within columns earlier s ≡ refuse number line column
 
 -- "A sheet above the old limit and otherwise right is refused by programs sold earlier for the same columns, with 1 or 4."
 pub record AboveEarlier (s : List ℕ) (n : ℕ) : Type 0 where

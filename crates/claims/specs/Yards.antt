@@ -3,9 +3,13 @@ use Rattle.std.specs.Prelude.{ℕ, suc, ◌+◌, ◌*◌, ◌-◌, ◌≤◌, �
 use mathlib.Core.{Path.{◌≡◌}, Logic.{◌⊎◌}}
 use Rattle.case.specs.{declared.Case.{Case}, Bounds.{Between}}
 use Rattle.decision.specs.declared.Verdict.TheVariants.{Safe}
-use Rattle.yards.specs.declared.FewestLines.{FewestLines, TheVariants.{Found, None, Refused}}
-use Rattle.hocsimbur.specs.{declared.RowAnswer.{RowAnswer}, Asked.{RowAnswered, AnsweredWith}}
+use Rattle.hocsimbur.specs.{Asked.{RowAnswered, AnsweredWith}}
 use Rattle.claims.specs.{Words.{TrulySafe}, Rules.{RodsAgree}, Record.{RecordRefused, RecordSound}}
+use Rattle.std.specs.Prelude.{Result, Ok}
+use Rattle.refusal.specs.{declared.Refused.{Refused}, Refused.{refuse}}
+use Rattle.row.specs.declared.Row.{Row}
+use Rattle.yards.specs.declared.FewestLines.{FewestLines}
+use Rattle.yards.specs.declared.FewestLines.TheVariants.{Found, None}
 
 -- a case with other counts, spacing, rods, rod length and place, all else equal
 abbrev pub with_yard : (across along space rods rodlen place : ℕ) → Case → Case
@@ -68,11 +72,11 @@ pub data Fitting (side : ℕ) : (first n many : ℕ) → Type 0 where
 
 -- "a yard answered safe", by the question for its row, and safe for its exact voltages
 pub record SafeYard (y : Case) : Type 0 where
-  pub answered : {r : RowAnswer} → RowAnswered y r → AnsweredWith Safe r
+  pub answered : {r : Result Row Refused} → RowAnswered y r → AnsweredWith Safe r
   pub truly : TrulySafe y
 
 abbrev pub NotSafe : Case → Type 0
-NotSafe y = (r : RowAnswer) → RowAnswered y r → ¬ AnsweredWith Safe r
+NotSafe y = (r : Result Row Refused) → RowAnswered y r → ¬ AnsweredWith Safe r
 
 -- "stop at the first yard answered safe. The answer gives that yard's line and rod counts."
 pub record FoundYard (c : Case) (side lines rods tried : ℕ) : Type 0 where
@@ -120,14 +124,14 @@ pub record Askable (c : Case) : Type 0 where
   pub sound : RecordSound other
 
 -- every answer, each with its condition
-pub data FewestOutcome (c : Case) (side : ℕ) : FewestLines → Type 0 where
+pub data FewestOutcome (c : Case) (side : ℕ) : Result FewestLines Refused → Type 0 where
   -- "its other values follow document 01's checks for one case, which come first"
   checks : {number line column : ℕ} (y : Case) → StandsIn c y → RecordRefused y number line column
-      → FewestOutcome c side (Refused number line column)
+      → FewestOutcome c side (refuse number line column)
   -- "15 when the side is out of range": "a square side in mm (2,500..720,000)"
-  side_outside : Askable c → ¬ Between 2500 side 720000 → FewestOutcome c side (Refused 15 0 0)
+  side_outside : Askable c → ¬ Between 2500 side 720000 → FewestOutcome c side (refuse 15 0 0)
   -- "16 when the rod length is 0"
-  no_rod : Askable c → Between 2500 side 720000 → c.rodlen ≡ 0 → FewestOutcome c side (Refused 16 0 0)
+  no_rod : Askable c → Between 2500 side 720000 → c.rodlen ≡ 0 → FewestOutcome c side (refuse 16 0 0)
   found : {lines rods tried : ℕ} → Askable c → Between 2500 side 720000 → 1 ≤ c.rodlen → FoundYard c side lines rods tried
-      → FewestOutcome c side (Found lines rods tried)
-  none : {tried : ℕ} → Askable c → Between 2500 side 720000 → 1 ≤ c.rodlen → NoYard c side tried → FewestOutcome c side (None tried)
+      → FewestOutcome c side (Ok (Found lines rods tried))
+  none : {tried : ℕ} → Askable c → Between 2500 side 720000 → 1 ≤ c.rodlen → NoYard c side tried → FewestOutcome c side (Ok (None tried))

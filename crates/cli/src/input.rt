@@ -1,16 +1,13 @@
 // Standard input, read to its end.
 ghost use Rattle.cli.specs.Counts.{IsPrefixLen};
 
-use std::io::Read;
+use std::io::{self, Read};
 
 // One read, at the start of buf: how many bytes it put there, and none at the end of the input or where it fails.
 fn read_some(input: &mut impl Read, buf: &mut [u8]) -> usize
     ensures { IsPrefixLen result buf.new }
 {
-    match input.read(buf) {
-        Ok(n) => n,
-        Err(_) => 0,
-    }
+    input.read(buf).unwrap_or(0)
 }
 
 // Reads until buf is full or the input ends, and answers how many bytes are at the start of buf.
@@ -28,28 +25,13 @@ fn fill(input: &mut impl Read, buf: &mut [u8]) -> usize
     done
 }
 
-// One read that keeps nothing; false at the end of the input.
-fn discard_some(input: &mut impl Read) -> bool {
-    let mut space = [0u8; 4096];
-    read_some(input, &mut space) > 0
-}
-
-// Reads to the end, so that the writer is not cut off. The turns are counted because nothing says
-// that an input ends; no run uses them up.
-fn discard(input: &mut impl Read) {
-    for _ in 0..u64::MAX {
-        if !discard_some(input) {
-            break;
-        }
-    }
-}
-
 // Reads all of standard input, keeps as much as fits in buf, and answers how many bytes it kept.
 pub fn read(rt: &impl Input, buf: &mut [u8]) -> usize
     ensures { IsPrefixLen result buf.new }
 {
     let mut input = rt.reader();
     let n = fill(&mut input, buf);
-    discard(&mut input);
+    // The rest is read too, so that the writer is not cut off.
+    let _ = io::copy(&mut input, &mut io::sink());
     n
 }

@@ -21,10 +21,9 @@ fn name_of(program: Program) -> &'static str {
 
 // The reason alone: what an error of the system is printed as ends in its number, as ` (os error 28)`.
 fn reason_of(printed: &str) -> &str {
-    match printed.split_once(" (os error ") {
-        Some((reason, _)) => reason,
-        None => printed,
-    }
+    printed
+        .split_once(" (os error ")
+        .map_or(printed, |(reason, _)| reason)
 }
 
 // Says on standard error that a program's output could not be written, and why.
@@ -40,7 +39,7 @@ fn tell(rt: &impl Eprint, program: Program, error: Error) {
 
 // A reader that has gone away wants no more: that is no failure.
 fn is_closed(error: &Error) -> bool {
-    matches!(error.kind(), ErrorKind::BrokenPipe)
+    error.kind() == ErrorKind::BrokenPipe
 }
 
 // Reports a write that failed, except at a closed pipe.

@@ -9,7 +9,8 @@ use Rattle.tables.specs.Parts.{parts_of}
 use Rattle.case.specs.declared.Form.{Form as CodeForm, TheVariants.{Present, Former}}
 use Rattle.case.specs.{Columns.{Form, columns, former_columns, name_count_lem, former_name_count_lem}, Parts.{no_column, form_of}}
 use Rattle.header.specs.Parts.{name_at}
-use Rattle.writing.specs.{Text.{more_fields, parted, ended, text_of, value_line}, Put.{Put, WrittenFirst}, declared.Written.{Written}}
+use Rattle.std.specs.Prelude.{Option}
+use Rattle.writing.specs.{Text.{more_fields, parted, ended, text_of, value_line}, Put.{Put, WrittenFirst}}
 use Rattle.writing.proofs.{Filling.{Filling, filling_start, text_room_lem, text_step, byte_room, byte_step, filling_end}, Sheet.{sheet_parts}}
 use Rattle.conversion.specs.Sheet.{names_line, sheet_of}
 
@@ -106,7 +107,7 @@ unfolding names_line sheet_of
 sheet_text_lem form vs = sheet_parts (map (λ c. c.name) (form_of form)) vs
 
 -- what was written is the sheet of the lines, where the line of names and the count of names have other names
-pub form_written : {k : ℕ} {line before after : List ℕ} {r : Written} (form : CodeForm) (n : ℕ) (values : List ℕ) → k ≡ length (form_of form)
+pub form_written : {k : ℕ} {line before after : List ℕ} {r : Option ℕ} (form : CodeForm) (n : ℕ) (values : List ℕ) → k ≡ length (form_of form)
     → line ≡ names_line (form_of form) → WrittenFirst (line ++ text_of (map value_line (parts_of k n values))) before after r
     → WrittenFirst (sheet_of (form_of form) (parts_of (length (form_of form)) n values)) before after r
 form_written {k} {line} {before} {after} {r} form n values e l w =

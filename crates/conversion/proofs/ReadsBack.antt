@@ -11,7 +11,6 @@ use Rattle.writing.proofs.Lengths.{sheet_most}
 use Rattle.case.specs.declared.Form.{Form as CodeForm, TheVariants.{Present, Former}}
 use Rattle.case.specs.{Columns.{columns, former_columns, name_count, name_index}, Check.{count_from}, Parts.{form_of}}
 use Rattle.case.proofs.{Findings.{form_most}, Values.{entries_from}}
-use Rattle.case.specs.declared.Counted.{Counted, TheVariants.{Count}}
 use Rattle.header.specs.Header.{no_columns, fresh, wrong_name, columns_from, columns_of}
 use Rattle.line.specs.Line.{wrong_form, line_values}
 use Rattle.line_finding.specs.Findings.{or_finding, repeats, line_finding}
@@ -23,6 +22,8 @@ use Rattle.carried_values.{specs.Values.{cases_in}, proofs.Soundness.{Sound, sou
 use Rattle.carried_values.proofs.SoundCases.{SoundCases, all_lines_lem}
 use Rattle.conversion.specs.Sheet.{sheet_of}
 use Rattle.conversion.proofs.NamesLine.{some_names}
+use Rattle.std.specs.Prelude.{Result, Ok}
+use Rattle.refusal.specs.{declared.Refused.{Refused}}
 
 -- ---- the line of names
 
@@ -86,7 +87,7 @@ module _ (form : CodeForm) (v : List ℕ) (s : Sound (form_of form) v) where
   unfolding line_finding or_finding
   line_finding_lem earlier r = rw (line_sound, line_is, values_sound (in_order form) s, r)
 
-lines_judged_lem : (form : CodeForm) (earlier vs : List (List ℕ)) (n : ℕ) (sound : Counted) → SoundCases (form_of form) earlier vs
+lines_judged_lem : (form : CodeForm) (earlier vs : List (List ℕ)) (n : ℕ) (sound : Result ℕ Refused) → SoundCases (form_of form) earlier vs
     → lines_judgement (form_of form) (in_order form) earlier n sound (map value_line vs) ≡ sound
 unfolding lines_judgement line_judgement
 lines_judged_lem form earlier [] n sound s = refl
@@ -154,7 +155,7 @@ module _ (form : CodeForm) (vs : List (List ℕ)) (s : SoundCases (form_of form)
   unfolding cases_in
   cases_back = rw (names_are, names_columns form, values_are) (lines_cases form [] vs s)
 
-  pub accepted_back : 1 ≤ length vs → length vs ≤ most_lines → judgement (form_of form) text ≡ Count (length vs)
+  pub accepted_back : 1 ≤ length vs → length vs ≤ most_lines → judgement (form_of form) text ≡ Ok (length vs)
   unfolding judgement judgement_within names_judgement values_judgement
   accepted_back some most =
       let n : length (map value_line vs) ≡ length vs = length-map vs value_line in
@@ -168,4 +169,4 @@ module _ (form : CodeForm) (vs : List (List ℕ)) (s : SoundCases (form_of form)
         ne_eqb (length vs) 0 (λ e. omega (arith, e)),
         le-ltb most_lines (length vs) most,
       )
-      (lines_judged_lem form [] vs 2 (Count (length vs)) s)
+      (lines_judged_lem form [] vs 2 (Ok (length vs)) s)

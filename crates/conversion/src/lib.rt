@@ -15,13 +15,14 @@ ghost use Rattle.conversion.specs.Sheet.{sheet_of};
 ghost use Rattle.conversion.specs.Answer.{Answered};
 
 use carried_values::{convert, first_change, other_form};
-use case::{Counted, Form, REFUSED_SHORT, name_count};
+use case::{Form, REFUSED_SHORT, name_count};
 use judgement::{VALUES, read};
 use names::{NAMES_BYTES, put_names};
-use writing::{Written, write_sheet};
+use refusal::Refused;
+use writing::write_sheet;
 
-// The sheet of n lines of values in a form, or nothing where the buffer is too short.
-fn write_form(form: Form, buffer: &mut [u8], values: &[u32], n: usize) -> Written
+// The sheet of n lines of values in a form; answers the count of its bytes, or none where the buffer is too short.
+fn write_form(form: Form, buffer: &mut [u8], values: &[u32], n: usize) -> Option<usize>
     requires n_in_bounds { length (form_of form) * n ≤ length values.now }
     requires n_le_most_lines { n ≤ most_lines }
     requires values_value { all_lines (length (form_of form)) (parts_of (length (form_of form)) n values.now) ≡ true }
@@ -35,35 +36,29 @@ fn write_form(form: Form, buffer: &mut [u8], values: &[u32], n: usize) -> Writte
 }
 
 // A sheet of the other form carried over to a form: the count of bytes written, or a refusal.
-fn carry_to(form: Form, s: &[u8], buffer: &mut [u8]) -> Counted
+fn carry_to(form: Form, s: &[u8], buffer: &mut [u8]) -> Result<usize, Refused>
     ensures { Answered form s.now buffer.old buffer.new result }
 {
     let mut values = [0u32; VALUES];
-    let judged = read(other_form(form), s, &mut values);
-    let Counted::Count(n) = judged else {
-        return judged;
-    };
-    let change = first_change(form, &values, n);
-    if let Counted::Refused(_, _, _) = change {
-        return change;
-    }
+    let n = read(other_form(form), s, &mut values)?;
+    first_change(form, &values, n)?;
     let mut carried = [0u32; VALUES];
     convert(form, &values, n, &mut carried);
     match write_form(form, buffer, &carried, n) {
-        Written::Short => Counted::Refused(REFUSED_SHORT, 0, 0),
-        Written::Count(k) => Counted::Count(k),
+        None => Err(Refused(REFUSED_SHORT, 0, 0)),
+        Some(k) => Ok(k),
     }
 }
 
 // A sheet of the former names becomes one of today's, whose bytes are counted.
-pub fn carry(s: &[u8], buffer: &mut [u8]) -> Counted
+pub fn carry(s: &[u8], buffer: &mut [u8]) -> Result<usize, Refused>
     ensures { Answered Present s.now buffer.old buffer.new result }
 {
     carry_to(Form::Present, s, buffer)
 }
 
 // A sheet of today's names becomes one of the former ones, whose bytes are counted.
-pub fn carry_back(s: &[u8], buffer: &mut [u8]) -> Counted
+pub fn carry_back(s: &[u8], buffer: &mut [u8]) -> Result<usize, Refused>
     ensures { Answered Former s.now buffer.old buffer.new result }
 {
     carry_to(Form::Former, s, buffer)

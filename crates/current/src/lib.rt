@@ -6,5 +6,5 @@ mod metal;
 mod size;
 
 pub use grid::ig;
-pub use metal::{Constant, Metal};
+pub use metal::Metal;
 pub use size::conductor_size;

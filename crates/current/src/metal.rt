@@ -6,13 +6,6 @@ ghost use Rattle.current.specs.Metal.{constant_of};
 #[derive(Clone, Copy)]
 pub struct Metal;
 
-// What the table has for a metal: Kf in hundredths, or nothing.
-#[derive(Clone, Copy)]
-pub enum Constant {
-    Kf(u32),
-    Unknown,
-}
-
 // Kf of each metal in hundredths.
 impl Metal {
     pub const SOFT_DRAWN_COPPER: u32 = 700;
@@ -38,22 +31,22 @@ impl Metal {
     pub const STAINLESS_304: u32 = 3005;
 
     // The Kf of the metal with this number.
-    pub fn kf(number: u32) -> Constant
+    pub fn kf(number: u32) -> Option<u32>
         ensures { result ≡ constant_of number }
     {
         match number {
-            1 => Constant::Kf(Metal::SOFT_DRAWN_COPPER),
-            2 => Constant::Kf(Metal::HARD_DRAWN_COPPER),
-            3 => Constant::Kf(Metal::HARD_DRAWN_COPPER_250),
-            4 => Constant::Kf(Metal::COPPER_CLAD_WIRE_40),
-            5 => Constant::Kf(Metal::COPPER_CLAD_WIRE_30),
-            6 => Constant::Kf(Metal::COPPER_CLAD_ROD),
-            7 => Constant::Kf(Metal::ALUMINUM_CLAD_WIRE),
-            8 => Constant::Kf(Metal::STEEL_1020),
-            9 => Constant::Kf(Metal::STAINLESS_CLAD_ROD),
-            10 => Constant::Kf(Metal::ZINC_COATED_ROD),
-            11 => Constant::Kf(Metal::STAINLESS_304),
-            _ => Constant::Unknown,
+            1 => Some(Metal::SOFT_DRAWN_COPPER),
+            2 => Some(Metal::HARD_DRAWN_COPPER),
+            3 => Some(Metal::HARD_DRAWN_COPPER_250),
+            4 => Some(Metal::COPPER_CLAD_WIRE_40),
+            5 => Some(Metal::COPPER_CLAD_WIRE_30),
+            6 => Some(Metal::COPPER_CLAD_ROD),
+            7 => Some(Metal::ALUMINUM_CLAD_WIRE),
+            8 => Some(Metal::STEEL_1020),
+            9 => Some(Metal::STAINLESS_CLAD_ROD),
+            10 => Some(Metal::ZINC_COATED_ROD),
+            11 => Some(Metal::STAINLESS_304),
+            _ => None,
         }
     }
 }

@@ -6,7 +6,7 @@ ghost use Rattle.decrement.specs.Ends.{df_ends};
 ghost use Rattle.current.specs.Ends.{upper_factor};
 ghost use Rattle.current.specs.Size.{carried_of, square_of, Parts, square_load, IsSmallest};
 
-use crate::metal::{Constant, Metal};
+use crate::metal::Metal;
 use case::Case;
 use interval::Interval;
 use interval::root::isqrt;
@@ -27,8 +27,7 @@ fn load(c: Case, factor: Interval) -> u64
     ensures { result ≡ duty c (upper_factor c) }
 {
     let current = fault_current(c, factor);
-    let constant = Metal::kf(c.metal);
-    let Constant::Kf(kf) = constant else {
+    let Some(kf) = Metal::kf(c.metal) else {
         return 0;
     };
     current * (kf as u64)

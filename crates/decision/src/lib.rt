@@ -5,7 +5,6 @@ ghost use Rattle.std.specs.Prelude.{◌≡◌, pos};
 ghost use Rattle.decision.specs.Verdict.{safe as safe_ends, unsafe as unsafe_ends, verdict, verdict_number};
 
 use interval::Interval;
-use whole::{at_most, below};
 
 #[derive(Clone, Copy)]
 pub enum Verdict {
@@ -23,10 +22,7 @@ fn is_safe(
 ) -> bool
     ensures { result ≡ safe_ends tolerable_touch tolerable_step mesh step }
 {
-    if !at_most(mesh.upper, tolerable_touch.lower) {
-        return false;
-    }
-    at_most(step.upper, tolerable_step.lower)
+    mesh.upper <= tolerable_touch.lower && step.upper <= tolerable_step.lower
 }
 
 // Mesh or step voltage is above what is tolerable.
@@ -38,10 +34,7 @@ fn is_unsafe(
 ) -> bool
     ensures { result ≡ unsafe_ends tolerable_touch tolerable_step mesh step }
 {
-    if below(tolerable_touch.upper, mesh.lower) {
-        return true;
-    }
-    below(tolerable_step.upper, step.lower)
+    tolerable_touch.upper < mesh.lower || tolerable_step.upper < step.lower
 }
 
 // The verdict of tolerable touch, tolerable step, mesh and step voltage.

@@ -1,13 +1,15 @@
--- The loops: what holds after each turn.
-use Prim.Native.Nat.{ℕ, zero, suc, ◌+◌, ◌-◌, ◌*◌, ◌/◌, ◌^◌, ◌≤◌, ◌<◌}
-use mathlib.Core.Path.{◌≡◌, refl}
-use native.Mathlib.{Omega.{arith}, Nat.{pow-suc, pow-le-pow_right}, Numerals.{add-one}}
+-- The count of halvings, and what holds after each turn of a loop.
+use Prim.Native.Nat.{ℕ, zero, suc, max, ◌+◌, ◌-◌, ◌*◌, ◌/◌, ◌^◌, ◌≤◌, ◌<◌}
+use mathlib.Core.Path.{◌≡◌}
+use native.Mathlib.{Omega.{arith}, Nat.{pow-suc}}
 use native.Mathlib.Decide.{dec_le}
 use borrow.Author.Tests.{lt-ltb, le-ltb}
 use mathlib.Core.Bool.{cond}
-use lib.{Dec.{ltb}, Pow.{pow_pos}}
-use Rattle.exponential.specs.Ends.{billion, unit, most, levels, halvings_of, nested_of}
-use Rattle.exponential.proofs.Sizes.{halvings_least, halvings_more, halvings_few}
+use lib.{Dec.{ltb, lit≤}, Pow.{pow_pos}}
+use Rattle.exponential.specs.Ends.{billion, unit, levels, halvings_of, nested_of}
+use Rattle.std.specs.Int.{div_ceil, IsPowerOfTwo}
+use Rattle.exact.proofs.Powers.{exponent_lt_inv}
+use Rattle.exponential.proofs.Sizes.{halvings_least, halvings_more}
 
 -- a choice by a test
 pub by_test : {A : Type 0} (P : A → Type 0) (m n : ℕ) {x y : A} → (m < n → P x) → (n ≤ m → P y) → P (cond (ltb m n) x y)
@@ -17,29 +19,21 @@ by_test P m n {x} {y} h k = go (dec_le n m)
     go (yes p) = rw (le-ltb m n p) (k p)
     go (no p) = let l : m < n = omega arith in rw (lt-ltb m n l) (h l)
 
-pub record Halving (q times parts : ℕ) : Type 0 where
-  pub is : parts ≡ 2 ^ times
-  pub least : times ≤ halvings_of q
-
-pub halving_start : (q : ℕ) → Halving q 0 1
-halving_start q = record { is = refl; least = omega arith }
-
-module _ {q times parts : ℕ} (h : Halving q times parts) where
-  pub halving_again : parts * billion < 2 * q → Halving q (times + 1) (2 * parts)
-  halving_again l =
-      record { is = rw (add-one, pow-suc) (omega (arith, h.is)); least = rw add-one (halvings_more q times (rw h.is at l)) }
-
-  pub halving_pos : 1 ≤ parts
-  halving_pos = rw h.is (pow_pos times)
-
-  pub halving_size : q ≤ most → (times ≤ 14) × (parts ≤ 16384)
-  halving_size l =
-      let t : times ≤ 14 = omega (arith, h.least, halvings_few l) in
-      let p : 2 ^ times ≤ 2 ^ 14 = pow-le-pow_right (omega arith) t in
-      (t, omega (arith, h.is))
-
-  pub halving_end : 2 * q ≤ parts * billion → halvings_of q ≡ times
-  halving_end l = omega (arith, halvings_least q times (rw h.is at l), h.least)
+-- the power of two that is not below 2q in whole numbers, nor twice the one below it: its exponent counts the halvings
+pub halvings_found : (q n p j : ℕ) → n ≡ div_ceil (2 * q) billion → IsPowerOfTwo p → n ≤ p → p / 2 < max 1 n → 2 ^ j ≤ p → p < 2 * 2 ^ j
+    → j ≡ halvings_of q
+halvings_found q n p j up (k, is) above near low high =
+    let a : 2 ^ j < 2 ^ suc k = rw pow-suc (omega arith) in
+    let b : 2 ^ k < 2 ^ suc j = rw pow-suc (omega arith) in
+    let e : j ≡ k = omega (arith, exponent_lt_inv 2 (lit≤ tt) a, exponent_lt_inv 2 (lit≤ tt) b) in
+    omega (arith, e, halvings_least q k (omega arith), least k (rw is at near))
+  where
+    least : (k : ℕ) → 2 ^ k / 2 < max 1 n → k ≤ halvings_of q
+    least zero h = omega arith
+    least (suc m) h =
+        let t : 2 ^ m < max 1 n = omega (arith, rw pow-suc at h) in
+        let l : 2 ^ m * billion < 2 * q = omega (arith, pow_pos m, up) in
+        omega (arith, halvings_more q m l)
 
 -- ---- the terms, from the last to the first
 

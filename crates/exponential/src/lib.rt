@@ -15,18 +15,12 @@ const UNIT: u64 = 4000000000;
 // 22.
 const LARGE: u64 = 22000000000;
 
-// The least j for which q / 2^j is at most 1/2.
+// The least j for which q / 2^j is at most 1/2: 2^j is the least power of two that is not below 2q, in whole numbers.
 fn halve(q: u64) -> u64
     requires { q ≤ most }
     ensures { result ≡ halvings_of q }
 {
-    let mut times: u64 = 0;
-    let mut parts: u64 = 1;
-    while parts * BILLION < 2 * q {
-        parts = 2 * parts;
-        times += 1;
-    }
-    times
+    (2 * q).div_ceil(BILLION).next_power_of_two().ilog2() as u64
 }
 
 // Twelve terms of e^y, from the last to the first, rounded up.
@@ -35,10 +29,8 @@ fn series(y: u64) -> u64
     ensures { result ≡ series_of 1 y }
 {
     let mut sum = UNIT;
-    let mut i: u64 = 11;
-    while i > 0 {
+    for i in (1..=11).rev() {
         sum = UNIT + (y * sum / (UNIT * i) + 1);
-        i -= 1;
     }
     sum + 1
 }
@@ -49,10 +41,8 @@ fn squared(v: u64, m: u64) -> u64
     ensures { result ≡ squared_of 0 v m }
 {
     let mut power = v;
-    let mut i: u64 = 0;
-    while i < m {
+    for _i in 0..m {
         power = power * power / UNIT;
-        i += 1;
     }
     power
 }
@@ -61,7 +51,7 @@ fn squared(v: u64, m: u64) -> u64
 fn error(j: u64) -> u64
     ensures { result ≡ error_of j }
 {
-    if j < 2 { (12 << j) - 2 } else { 46 }
+    (12 << j.min(2)) - 2
 }
 
 // The two ends from the lower one in quarters, and from how far above it the upper one can be.
@@ -69,13 +59,7 @@ fn pair(l: u64, g: u64) -> Interval
     requires { (l ≤ unit) × (g ≤ 1000000000000000) }
     ensures { result ≡ pair_of l g }
 {
-    let lower = l / 4;
-    let upper = (l + g) / 4 + 1;
-    if upper < BILLION {
-        Interval::natural(lower, upper)
-    } else {
-        Interval::natural(lower, BILLION)
-    }
+    Interval::natural(l / 4, ((l + g) / 4 + 1).min(BILLION))
 }
 
 // The ends of e^-q in billionths, for q from a to b billionths: e^-q falls as q grows. One over e^(b/2^j), squared j times, is the

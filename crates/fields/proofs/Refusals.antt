@@ -5,9 +5,10 @@ use native.Mathlib.{Numerals.{add-one}, Omega.{arith}}
 use lib.{ListN.{length, get_or, drop, length-append, drop_of_length-le}, Seq.{drop-cons}}
 use Rattle.text.specs.Text.{bytes}
 use Rattle.writing.{specs.Decimal.{decimal}, proofs.Signed.{decimal_at_most}}
-use Rattle.case.specs.declared.Counted.{Counted, TheVariants.{Count, Refused}}
 use Rattle.fields.specs.Refusal.{numbered, refused_text, unless_refused, refusal_bytes}
 use Rattle.fields.proofs.LineFields.{fields_end, end_first, end_more, end_none}
+use Rattle.std.specs.Prelude.{Result, Ok, Err}
+use Rattle.refusal.specs.{declared.Refused.{Refused}}
 
 -- the numbers from index i on, and the byte 10
 unfoldable pub numbers_from : List ℕ → ℕ → List ℕ
@@ -50,8 +51,8 @@ refused_most number line column = omega (arith, numbered_most (bytes "refused") 
 
 -- ---- an answer that may be a refusal
 
-pub answer_fits : (room : ℕ) (j : Counted) (t : List ℕ) → refusal_bytes ≤ room → ((n : ℕ) → j ≡ Count n → length t ≤ room)
+pub answer_fits : {A : Type 0} (room : ℕ) (j : Result A Refused) (t : List ℕ) → refusal_bytes ≤ room → ((x : A) → j ≡ Ok x → length t ≤ room)
     → length (unless_refused j t) ≤ room
 unfolding unless_refused
-answer_fits room (Count n) t enough h = h n refl
-answer_fits room (Refused number line column) t enough h = omega (arith, refused_most number line column)
+answer_fits room (Ok n) t enough h = h n refl
+answer_fits room (Err why) t enough h = omega (arith, refused_most why.0 why.1 why.2)

@@ -42,12 +42,10 @@ pub fn put_fields(buf: &mut [u8], at: usize, row: &[i64], word: usize) -> usize
     ensures { Put buf.old at (line_of word row.now) buf.new result }
 {
     let mut p = put_field(buf, at, word, 0, row[0]);
-    let mut i = 1;
-    while i < row.len() {
-        buf[p] = 44;
+    for i in 1..row.len() {
+        buf[p] = b',';
         p = put_field(buf, p + 1, word, i, row[i]);
-        i += 1;
     }
-    buf[p] = 10;
+    buf[p] = b'\n';
     p + 1
 }

@@ -12,7 +12,7 @@ fn put_next(buf: &mut [u8], at: usize, n: u64) -> usize
     requires { at + 1 + length (decimal n) ≤ length buf.old }
     ensures { Put buf.old at (44 ∷ decimal n) buf.new result }
 {
-    buf[at] = 44;
+    buf[at] = b',';
     put_wide(buf, at + 1, n)
 }
 
@@ -22,12 +22,10 @@ pub fn put_numbered<'a>(buf: &mut [u8], word: &'a [u8], numbers: &'a [u64]) -> u
     ensures { Put buf.old 0 (numbered word.now numbers.now) buf.new result }
 {
     let mut p = put_bytes(buf, 0, word);
-    let mut i = 0;
-    while i < numbers.len() {
-        p = put_next(buf, p, numbers[i]);
-        i += 1;
+    for n in numbers {
+        p = put_next(buf, p, *n);
     }
-    buf[p] = 10;
+    buf[p] = b'\n';
     p + 1
 }
 

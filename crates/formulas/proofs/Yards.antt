@@ -11,7 +11,7 @@ use Rattle.exact.{specs.{Reported.{Scale, ten, over, reported, Reports}, Depth.{
 use Rattle.exact.proofs.{Holding.{holds_wider, holds_exactly, holds_quotient}, Roots.{holds_root}, Consistency.{consistent_exactly}}
 use Rattle.exact.proofs.Quantity.{Quantity, quantity_root}
 use Rattle.text.specs.Text.{same}
-use Rattle.case.specs.{declared.{Case.{Case}, Judged.TheVariants.{Sound}}, Columns.{columns, in_range, name_index, named}}
+use Rattle.case.specs.{declared.{Case.{Case}}, Columns.{columns, in_range, name_index, named}}
 use Rattle.case.specs.Check.{left_of, out_of_range, agree, disagreement, finding, case_finding, count_from, own_places, record_finding, judged_by}
 use Rattle.case.{specs.{Check.{record_judged}, Bounds.{Bounds}}, proofs.{Bounds.{record_bounds}, Tests.{◌then◌}}}
 use Rattle.formulas.specs.{Lengths.{ρ, D, h, d}, Current.{IG}, Size.{constants, Kf, smallest, duty, enough, size}}
@@ -30,6 +30,7 @@ use Rattle.formulas.proofs.SampleYard.{touch_sample, tolerable_step_sample, mesh
 use Rattle.formulas.proofs.SampleYard.{tolerable_step_wet, mesh_wet, step_wet}
 use Rattle.formulas.proofs.RectangleYard.{n_rectangle, mesh_rectangle, step_rectangle, resistance_rectangle, mesh_rodless}
 use Rattle.formulas.proofs.RectangleYard.{step_rodless, resistance_rodless}
+use Rattle.std.specs.Prelude.{Ok}
 
 -- ---- a tolerable voltage, where the root of the time is a fraction
 
@@ -98,7 +99,7 @@ module _ (fault metal : ℕ) where
 -- ---- the claim
 
 -- a yard within its ranges
-bounds : (c : Case) → record_judged c ≡ Sound → Bounds c
+bounds : (c : Case) → record_judged c ≡ Ok tt → Bounds c
 bounds c h = record_bounds h
 
 -- the yard of a factor or a current

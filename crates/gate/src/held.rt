@@ -14,45 +14,31 @@ fn byte_at(i: usize) -> u8 {
 }
 
 pub fn hold(table: &mut [i64]) {
-    let mut i: usize = 0;
-    while i < table.len() {
-        let z = number_at(i);
-        table[i] = z;
-        i += 1;
+    for (i, z) in table.iter_mut().enumerate() {
+        *z = number_at(i);
     }
 }
 
 pub fn hold_bytes(buffer: &mut [u8]) {
-    let mut i: usize = 0;
-    while i < buffer.len() {
-        let b = byte_at(i);
-        buffer[i] = b;
-        i += 1;
+    for (i, b) in buffer.iter_mut().enumerate() {
+        *b = byte_at(i);
     }
 }
 
 // How many numbers of a table are as they were.
 pub fn numbers_kept(table: &[i64]) -> usize {
-    let mut n: usize = 0;
-    let mut i: usize = 0;
-    while i < table.len() {
-        if table[i] == number_at(i) {
-            n += 1;
-        }
-        i += 1;
-    }
-    n
+    table
+        .iter()
+        .enumerate()
+        .filter(|(i, z)| **z == number_at(*i))
+        .count()
 }
 
 // How many bytes of a buffer are as they were.
 pub fn bytes_kept(buffer: &[u8]) -> usize {
-    let mut n: usize = 0;
-    let mut i: usize = 0;
-    while i < buffer.len() {
-        if buffer[i] == byte_at(i) {
-            n += 1;
-        }
-        i += 1;
-    }
-    n
+    buffer
+        .iter()
+        .enumerate()
+        .filter(|(i, b)| **b == byte_at(*i))
+        .count()
 }

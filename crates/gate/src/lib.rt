@@ -9,7 +9,7 @@ mod print;
 mod space;
 
 pub use held::{bytes_kept, hold, hold_bytes, numbers_kept};
-pub use lists::{narrow, natural, read, word};
+pub use lists::{natural, read, word};
 pub use parts::first_part;
-pub use print::{bytes, number, numbers, refused, signed, too_long, unknown};
+pub use print::{bytes, number, numbers, refused, too_long, unknown};
 pub use space::{SPACE, empty_space};

@@ -1,45 +1,16 @@
 // A number in decimal digits, for the programs that read numbers from standard input.
 
-// A number, or bytes that are not one.
-#[derive(Clone, Copy)]
-pub enum Digits {
-    Wrong,
-    Value(u64),
-}
-
-// The number with one digit more after n, which a u64 may not hold.
-fn with_digit(n: u64, b: u8) -> Digits {
-    if b < 48 {
-        return Digits::Wrong;
-    }
-    if 57 < b {
-        return Digits::Wrong;
-    }
-    if u64::MAX / 10 < n {
-        return Digits::Wrong;
-    }
-    let tens = n * 10;
-    let d = (b - 48) as u64;
-    if u64::MAX - tens < d {
-        return Digits::Wrong;
-    }
-    Digits::Value(tens + d)
-}
-
-// The number that some bytes are.
-pub fn numeral(s: &[u8]) -> Digits {
-    if s.len() == 0 {
-        return Digits::Wrong;
+// The number that some digits are; None where a byte is no digit, where there is none or where 64 bits do not hold it.
+pub fn numeral(s: &[u8]) -> Option<u64> {
+    if s.is_empty() {
+        return None;
     }
     let mut n: u64 = 0;
-    let mut i: usize = 0;
-    while i < s.len() {
-        let f = with_digit(n, s[i]);
-        let Digits::Value(m) = f else {
-            return Digits::Wrong;
-        };
-        n = m;
-        i += 1;
+    for b in s {
+        if !b.is_ascii_digit() {
+            return None;
+        }
+        n = n.checked_mul(10)?.checked_add(u64::from(*b - b'0'))?;
     }
-    Digits::Value(n)
+    Some(n)
 }

@@ -1,20 +1,17 @@
 // The parts of a text, each ended by a byte.
-ghost use Rattle.gate.specs.Parts.{Parted};
+ghost use Rattle.std.specs.Prelude.{◌≡◌, ◌+◌, drop, take};
+ghost use Rattle.text.specs.Text.{index_of};
 
-use text::{find, skip};
+use text::find;
 
-// Where the first part ends, and where the next one starts.
-#[derive(Clone, Copy)]
-pub struct Part {
-    pub end: usize,
-    pub next: usize,
-}
-
-// The first part of s, which ends before the byte b or with s.
-pub fn first_part(s: &[u8], b: u8) -> Part
-    ensures { Parted s.now result.end result.next }
+// The first part of s, which ends before the byte b or with s, and what is after that byte.
+pub fn first_part(s: &[u8], b: u8) -> (&[u8], &[u8])
+    ensures part { result.0.now ≡ take (index_of b s.now) s.now }
+    ensures rest { result.1.now ≡ drop (index_of b s.now + 1) s.now }
 {
-    let e = find(s, b);
-    let n = skip(e, s.len());
-    Part { end: e, next: n }
+    let (part, rest) = s.split_at(find(s, b));
+    match rest {
+        [_, after @ ..] => (part, after),
+        [] => (part, rest),
+    }
 }

@@ -4,14 +4,15 @@ use mathlib.Core.{Path.{◌≡◌, refl}, Bool.{Bool, true, false, cond, ◌&&�
 use native.Mathlib.{Numerals.{add-one}, Omega.{arith}}
 use lib.{ListN.{length, get_or, set}, Dec.{eqb, ltb, leb}}
 use borrow.Author.Tests.{eqb-true, leb-false}
+use Rattle.std.specs.Prelude.{Some}
 use Rattle.case.specs.{Columns.{Form, name_index}, Bounds.{Placed}}
-use Rattle.header.specs.{declared.names.Found.TheVariants.{At}, Header.{no_columns, fresh, wrong_name, columns_from, columns_of}}
+use Rattle.header.specs.Header.{no_columns, fresh, wrong_name, columns_from, columns_of}
 use Rattle.header.specs.Parts.{found_name}
 use Rattle.header.proofs.HeaderReading.{HeaderAt, header_start, header_step, header_placed}
 
 -- a fresh name was found, and stands no further left
 record Fresh (form : Form) (at t : List ℕ) (r : ℕ) : Type 0 where
-  found : found_name form t ≡ At (name_index form t)
+  found : found_name form t ≡ Some (name_index form t)
   first : get_or at (name_index form t) 0 ≡ 0
   then : r ≡ 0
 

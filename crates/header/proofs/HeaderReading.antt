@@ -4,19 +4,20 @@ use mathlib.Core.{Path.{◌≡◌, refl, sym, ap, ◌∙◌}, Bool.{Bool, true, 
 use native.Mathlib.{Numerals.{add-one}, Decide.{ℕ_discrete}, Omega.{arith}}
 use lib.{ListN.{length, get_or, set, replicate, length-set, length-replicate}, Seq.{get_or-set_same, get_or-set_other}, Dec.{ltb}}
 use borrow.Author.Tests.{eq-eqb, ne_eqb, le-leb, lt-leb, ltb-true}
-use Rattle.text.specs.{Text.{fields_of}, declared.Columns.{Columns, TheVariants.{Right, Wrong}}}
+use Rattle.std.specs.Prelude.{Option, Some, None, Result, Ok, Err}
+use Rattle.text.specs.Text.{fields_of}
 use Rattle.text.proofs.{Clash.{clash}, LeftmostWrong.{WrongAt, none_wrong, one_wrong, right_columns, wrong_column_lem}}
 use Rattle.case.specs.{Columns.{Form, name_index}, Bounds.{Placed}, Order.{Ordered}}
 use Rattle.header.specs.Header.{no_columns, fresh, wrong_name, names_found, columns_from, columns_of}
-use Rattle.header.specs.{declared.names.Found.{Found, TheVariants.{At, Nothing}}, Parts.{Header, found_name}}
+use Rattle.header.specs.Parts.{Header, found_name}
 use Rattle.header.proofs.FreeNames.{free, free_zeros, free_set, free_none, set_under}
 
 -- what the search for a name says of its index
-known : (b : Bool) (i k : ℕ) → cond b (At i) Nothing ≡ At k → (b ≡ true) × (i ≡ k)
+known : (b : Bool) (i k : ℕ) → cond b (Some i) None ≡ Some k → (b ≡ true) × (i ≡ k)
 known true i k e = (refl, cc)
 known false i k e = clash cc
 
-unknown : (b : Bool) (i : ℕ) → cond b (At i) Nothing ≡ Nothing → b ≡ false
+unknown : (b : Bool) (i : ℕ) → cond b (Some i) None ≡ None → b ≡ false
 unknown true i e = clash cc
 unknown false i e = refl
 
@@ -52,11 +53,11 @@ header_start form all =
 -- a turn: the next field is t, whose search finds f
 module _ {form : Form} {all : List (List ℕ)} {at : List ℕ} {fs : List (List ℕ)} {t : List ℕ} {ts : List (List ℕ)} {c : ℕ}
     (a : HeaderAt form all at fs c) (next : fs ≡ t ∷ ts) where
-  pub header_unknown : found_name form t ≡ Nothing → wrong_name form 1 (no_columns form) all ≡ c
+  pub header_unknown : found_name form t ≡ None → wrong_name form 1 (no_columns form) all ≡ c
   unfolding wrong_name fresh found_name
   header_unknown e = a.wrong_left ∙ rw (next, unknown (ltb (name_index form t) (length form)) (name_index form t) e)
 
-  module _ {k : ℕ} (found : found_name form t ≡ At k) where
+  module _ {k : ℕ} (found : found_name form t ≡ Some k) where
     index_is : (ltb (name_index form t) (length form) ≡ true) × (name_index form t ≡ k)
     unfolding found_name
     index_is = known (ltb (name_index form t) (length form)) (name_index form t) _ found
@@ -89,9 +90,9 @@ module _ {form : Form} {all : List (List ℕ)} {at : List ℕ} {fs : List (List 
   pub header_surplus : length form < c → wrong_name form 1 (no_columns form) all ≡ c
   header_surplus h = by_search (found_name form t) refl
     where
-      by_search : (f : Found) → found_name form t ≡ f → wrong_name form 1 (no_columns form) all ≡ c
-      by_search Nothing e = header_unknown e
-      by_search (At k) e = header_again e (λ z. omega (arith, header_room e z))
+      by_search : (f : Option ℕ) → found_name form t ≡ f → wrong_name form 1 (no_columns form) all ≡ c
+      by_search None e = header_unknown e
+      by_search (Some k) e = header_again e (λ z. omega (arith, header_room e z))
 
 -- no field is left
 module _ {form : Form} {all : List (List ℕ)} {at : List ℕ} {c : ℕ} (a : HeaderAt form all at [] c) where
@@ -195,7 +196,7 @@ turn_start form line order e = record { header = header_start form (fields_of li
 
 module _ {form : Form} {line at order : List ℕ} {c : ℕ} where
   pub header_refused : {fs : List (List ℕ)} → HeaderAt form (fields_of line) at fs c → OrderAt form at order c
-      → wrong_name form 1 (no_columns form) (fields_of line) ≡ c → Header form line (Wrong c) at order
+      → wrong_name form 1 (no_columns form) (fields_of line) ≡ c → Header form line (Err c) at order
   unfolding names_found
   header_refused a o e =
       record {
@@ -207,7 +208,7 @@ module _ {form : Form} {line at order : List ℕ} {c : ℕ} where
         order_all = o.count;
       }
 
-  pub header_end : HeaderAt form (fields_of line) at [] c → OrderAt form at order c → length form < c → Header form line Right at order
+  pub header_end : HeaderAt form (fields_of line) at [] c → OrderAt form at order c → length form < c → Header form line (Ok tt) at order
   unfolding names_found
   header_end a o h =
       record {
@@ -221,11 +222,11 @@ module _ {form : Form} {line at order : List ℕ} {c : ℕ} where
 
 -- ---- what the answer says of the names
 
-module _ {form : Form} {line at order : List ℕ} {found : Columns} (h : Header form line found at order) where
-  pub names_right : found ≡ Right → wrong_name form 1 (no_columns form) (fields_of line) ≡ 0
+module _ {form : Form} {line at order : List ℕ} {found : Result Unit ℕ} (h : Header form line found at order) where
+  pub names_right : found ≡ Ok tt → wrong_name form 1 (no_columns form) (fields_of line) ≡ 0
   unfolding names_found
   names_right e = right_columns _ (sym h.found_is ∙ e)
 
-  pub names_wrong : {c : ℕ} → found ≡ Wrong c → WrongAt (wrong_name form 1 (no_columns form) (fields_of line)) c
+  pub names_wrong : {c : ℕ} → found ≡ Err c → WrongAt (wrong_name form 1 (no_columns form) (fields_of line)) c
   unfolding names_found
   names_wrong e = wrong_column_lem _ (sym h.found_is ∙ e)

@@ -1,8 +1,7 @@
-pub mod NameTable
-pub mod Naming
 pub mod FreeNames
 pub mod HeaderReading
 pub mod HeaderAccepted
 pub mod NameIndices
+pub mod NameTable
 pub mod NamesRead
 pub mod NamesStand

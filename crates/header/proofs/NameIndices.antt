@@ -1,14 +1,17 @@
 -- Names and their indices in a form: a text whose index is within the form is that name, byte for byte.
-use Prim.Native.Nat.{ℕ, zero, suc, ◌+◌, ◌<◌}
+use Prim.Native.Nat.{ℕ, zero, suc, ◌+◌, ◌<◌, ◌≤◌}
 use mathlib.Core.{Path.{◌≡◌, refl, ◌∙◌}, Bool.{Bool, true, false, cond, ◌&&◌}, List.{List, [], ◌∷◌}}
-use native.Mathlib.Omega.{arith}
-use lib.{ListN.{length}, Dec.{T, eqb, eqb→eq}}
+use native.Mathlib.{Nat.{zero-add}, Omega.{arith}}
+use lib.{ListN.{length, get_or}, Dec.{T, eqb, eqb→eq}}
 use mir.Facts.{and_yes}
 use borrow.Author.Tests.{eq-eqb, eqb-true, lt-ltb}
-use Rattle.text.{specs.Text.{same}, proofs.Clash.{clash}}
+use Rattle.text.{specs.Text.{same}, proofs.{Clash.{clash}, Comparing.{same_is}}}
+use Rattle.std.specs.Prelude.{Option, Some, position}
+use Rattle.std.specs.{Cmp.Lexicographic.{pointwise}, List.{range_with_len}}
+use Rattle.std.proofs.lemmas.List.{FromFn.{length-range_with_len, get_or-range_with_len}, Sums.{position_or_len_is}}
 use Rattle.case.specs.{Columns.{Form, columns, former_columns, name_index}, declared.Form.{Form as CodeForm}}
 use Rattle.case.specs.{declared.Form.TheVariants.{Present, Former}, Parts.{form_of}}
-use Rattle.header.specs.{declared.names.Found.TheVariants.{At}, Parts.{name_at, found_name}}
+use Rattle.header.specs.Parts.{name_at, found_name}
 
 same_equal : (s t : List ℕ) → same s t ≡ true → s ≡ t
 unfolding same
@@ -48,6 +51,50 @@ name_known (c ∷ form) (suc k) h = go (same (name_at form k) c.name) (name_know
     go true l = omega arith
     go false l = omega arith
 
+-- no name before that index is the text
+name_before : (form : Form) (t : List ℕ) (k : ℕ) → k < name_index form t → same t (name_at form k) ≡ false
+unfolding name_index name_at
+name_before [] t k h = absurd (omega arith)
+name_before (c ∷ form) t k h = go (same t c.name) refl k (name_before form t) h
+  where
+    go : (b : Bool) → same t c.name ≡ b → (k : ℕ) → ((j : ℕ) → j < name_index form t → same t (name_at form j) ≡ false)
+        → k < cond b zero (suc (name_index form t)) → same t (name_at (c ∷ form) k) ≡ false
+    go true e k r l = absurd (omega arith)
+    go false e zero r l = e
+    go false e (suc k) r l = r k (omega arith)
+
+index_most : (form : Form) (t : List ℕ) → name_index form t ≤ length form
+unfolding name_index
+index_most [] t = omega arith
+index_most (c ∷ form) t = go (same t c.name) (index_most form t)
+  where
+    go : (b : Bool) → name_index form t ≤ length form → cond b zero (suc (name_index form t)) ≤ suc (length form)
+    go true l = omega arith
+    go false l = omega arith
+
+-- the first index whose name is the text
+pub name_searched : (form : Form) (t : List ℕ) {n : ℕ} {o : Option ℕ} → n ≡ length form
+    → o ≡ position (λ k. pointwise eqb t (name_at form k)) (range_with_len 0 n) → o ≡ found_name form t
+unfolding found_name
+name_searched form t {n} e p =
+    p ∙ rw (position_or_len_is (λ k. pointwise eqb t (name_at form k)) (range_with_len 0 n) (name_index form t) 0 within before here, long, e)
+  where
+    long : length (range_with_len 0 n) ≡ n
+    long = length-range_with_len 0 n
+
+    within : name_index form t ≤ length (range_with_len 0 n)
+    within = omega (arith, long, e, index_most form t)
+
+    before : (k : ℕ) → k < name_index form t → pointwise eqb t (name_at form (get_or (range_with_len 0 n) k 0)) ≡ false
+    before k h =
+        rw (get_or-range_with_len 0 n k 0 (omega (arith, e, index_most form t)), zero-add) (same_is t (name_at form k) ∙ name_before form t k h)
+
+    here : name_index form t < length (range_with_len 0 n) → pointwise eqb t (name_at form (get_or (range_with_len 0 n) (name_index form t) 0)) ≡ true
+    here h =
+        let l : name_index form t < length form = omega (arith, long, e) in
+        rw (get_or-range_with_len 0 n (name_index form t) 0 (omega (arith, e)), zero-add, ← index_name form t l)
+        (same_is t t ∙ same_self t)
+
 -- from place k on each name of a form has its place as index
 own_from : Form → Form → ℕ → Bool
 own_from form [] k = true
@@ -69,6 +116,6 @@ own_index Former k h = own_at former_columns former_columns 0 k tt h ∙ omega a
 
 -- so a text that is the name with an index is found there, whatever was tried before
 pub name_found : (form : CodeForm) (t : List ℕ) {k : ℕ} → k < length (form_of form) → same t (name_at (form_of form) k) ≡ true
-    → At k ≡ found_name (form_of form) t
+    → Some k ≡ found_name (form_of form) t
 unfolding found_name
 name_found form t {k} h e = rw (same_equal t _ e, own_index form k h, lt-ltb k (length (form_of form)) h)

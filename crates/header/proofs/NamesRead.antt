@@ -5,8 +5,9 @@ use mathlib.Core.{Path.{◌≡◌, refl, sym, ap, ◌∙◌}, Bool.{Bool, true, 
 use native.Mathlib.{Decide.{ℕ_discrete}, Omega.{arith}}
 use lib.{ListN.{length, get_or, set, drop}, Seq.{get_or-set_same, get_or-set_other, get_or-drop, drop-drop}, Dec.{eqb, ltb}}
 use borrow.Author.Tests.{eqb-true, eqb-false, ltb-true, ltb-false}
+use Rattle.std.specs.Prelude.{Some}
 use Rattle.case.specs.Columns.{Form, name_index}
-use Rattle.header.specs.{declared.names.Found.TheVariants.{At}, Header.{no_columns, fresh}, Parts.{found_name}, Names.{field_at}}
+use Rattle.header.specs.{Header.{no_columns, fresh}, Parts.{found_name}, Names.{field_at}}
 use Rattle.header.proofs.HeaderReading.{HeaderAt, header_start, header_step}
 
 pub record NamedAt (form : Form) (all : List (List ℕ)) (at : List ℕ) (fs : List (List ℕ)) (c : ℕ) : Type 0 where
@@ -34,7 +35,7 @@ module _ {form : Form} {all : List (List ℕ)} {at t : List ℕ} {fs : List (Lis
       let z : c - 1 + 0 ≡ c - 1 = omega arith in
       sym (rw z at (get_or-drop (c - 1) all 0 [])) ∙ ap (λ (l : List (List ℕ)). get_or l 0 []) a.rest
 
-  pub named_step : found_name form t ≡ At (name_index form t) → name_index form t < length form → get_or at (name_index form t) 0 ≡ 0
+  pub named_step : found_name form t ≡ Some (name_index form t) → name_index form t < length form → get_or at (name_index form t) 0 ≡ 0
       → NamedAt form all (set at (name_index form t) c) fs (c + 1)
   named_step found within free =
       record {
@@ -67,7 +68,7 @@ module _ {form : Form} {all : List (List ℕ)} {at t : List ℕ} {fs : List (Lis
 
 -- what becomes of the next field, by whether it is known and has no column yet
 pub data Next (form : Form) (at t : List ℕ) (r c : ℕ) : ℕ → Type 0 where
-  new : found_name form t ≡ At (name_index form t) → name_index form t < length form → get_or at (name_index form t) 0 ≡ 0 → Next form at t r c r
+  new : found_name form t ≡ Some (name_index form t) → name_index form t < length form → get_or at (name_index form t) 0 ≡ 0 → Next form at t r c r
   strange : length form ≤ name_index form t → Next form at t r c c
   known : name_index form t < length form → (get_or at (name_index form t) 0 ≡ 0 → ⊥) → Next form at t r c c
 

@@ -1,8 +1,8 @@
 -- The line of names of a form. §2.1, §1.2: "The 18 names stand once each, in any order"; today they are 22, in the former form 18 (§8.1).
-use Rattle.std.specs.Prelude.{ℕ, suc}
+use Rattle.std.specs.Prelude.{ℕ, suc, Result}
 use mathlib.Core.{Bool.{Bool, cond, ◌&&◌}, List.{List, [], ◌∷◌}}
 use lib.{ListN.{length, get_or, set, replicate}, Dec.{leb, ltb, eqb}}
-use Rattle.text.specs.{declared.Columns.{Columns}, Columns.{columns_by}}
+use Rattle.text.specs.Columns.{columns_by}
 use Rattle.case.specs.Columns.{Form, name_index}
 
 -- Below, `at` lists for each name of the form the column, from 1, in which it stands, and 0 while it has not been seen.
@@ -21,7 +21,7 @@ module _ (form : Form) where
   wrong_name c at (name ∷ names) = cond (fresh at name) (wrong_name (suc c) (set at (name_index form name) c) names) c
 
   -- what is said of the columns of a line of names
-  unfoldable pub names_found : List (List ℕ) → Columns
+  unfoldable pub names_found : List (List ℕ) → Result Unit ℕ
   names_found names = columns_by (wrong_name 1 no_columns names)
 
   -- the columns of the names

@@ -8,45 +8,37 @@ ghost use Rattle.case.specs.Parts.{form_of};
 ghost use Rattle.header.specs.Header.{no_columns};
 ghost use Rattle.header.specs.Parts.{Header};
 
-use case::{Form, name_count, place};
-use names::{Found, name_of};
-pub use names::{Name, all_names};
-use text::{Columns, find};
+use case::{Form, name_count};
+pub use names::name;
+use names::name_of;
+use text::find;
 
-// Puts for each name the column, from 1, where it stands, and for each column the index of its name; answers whether all columns are
-// right, or which is the leftmost wrong one. A column past the names is wrong whatever it holds: every name has its column by then.
-pub fn read_header(form: Form, line: &[u8], at: &mut [usize], order: &mut [usize]) -> Columns
+// Puts for each name the column, from 1, where it stands, and for each column the index of its name; the error is the leftmost wrong
+// column. A column past the names is wrong whatever it holds: every name has its column by then.
+pub fn read_header(
+    form: Form,
+    line: &[u8],
+    at: &mut [usize],
+    order: &mut [usize],
+) -> Result<(), usize>
     requires at_value { at.old ≡ no_columns (form_of form) }
     requires order_len { length order.old ≡ length (form_of form) }
     ensures { Header (form_of form) line.now result at.new order.new }
 {
-    let names = all_names();
     let n = name_count(form);
     let mut rest = line;
-    let mut c: usize = 1;
-    loop {
-        if n < c {
-            return Columns::Wrong(c);
-        }
-        let e = find(rest, 44);
-        let expected = names[place(form, c - 1)];
-        let found = name_of(form, expected, c - 1, &rest[..e]);
-        let Found::At(k) = found else {
-            return Columns::Wrong(c);
-        };
+    for i in 0..n {
+        let e = find(rest, b',');
+        let k = name_of(form, i, &rest[..e]).ok_or(i + 1)?;
         if at[k] != 0 {
-            return Columns::Wrong(c);
+            return Err(i + 1);
         }
-        at[k] = c;
-        order[c - 1] = k;
-        c += 1;
+        at[k] = i + 1;
+        order[i] = k;
         if rest.len() <= e {
-            break;
+            return if i + 1 < n { Err(i + 2) } else { Ok(()) };
         }
         rest = &rest[e + 1..];
     }
-    if c <= n {
-        return Columns::Wrong(c);
-    }
-    Columns::Right
+    Err(n + 1)
 }

@@ -2,12 +2,12 @@
 use Prim.Native.Nat.{ℕ, zero, suc, ◌+◌, ◌≤◌, ◌<◌}
 use mathlib.Core.{Path.{◌≡◌, refl, sym, ◌∙◌}, Bool.{true, false}}
 use native.Mathlib.Omega.{arith}
-use Rattle.case.specs.{declared.{Case.{Case}, Judged.TheVariants.{Sound}}, Bounds.{Bounds}, Fault.{with_fault}}
+use Rattle.std.specs.Prelude.{Some, Ok}
+use Rattle.case.specs.{declared.Case.{Case}, Bounds.{Bounds}, Fault.{with_fault}}
 use Rattle.case.proofs.Eased.{eased_bounds}
 use Rattle.row.{specs.LessFault.{LessFault}, proofs.{Right.{row_verdict}, StaysSafe.{safe_stays}}}
 use Rattle.yards.{specs.Yards.{is_safe}, proofs.{Found.{means_safe_lem}, Answers.{answered_yard, not_safe_lem}}}
-use Rattle.headroom.specs.declared.Room.TheVariants.{UpTo}
-use Rattle.headroom.specs.Headroom.{InRange, SafeWith, AnsweredWithin, Headroom, RightFault, room_of, RightRoom, checked}
+use Rattle.headroom.specs.Headroom.{InRange, SafeWith, AnsweredWithin, Headroom, RightFault, room_of, RightRoom}
 
 -- a fault current above 0
 some_fault : {c : Case} (F : ℕ) → 1 ≤ F → Headroom c F → RightFault c F
@@ -16,20 +16,15 @@ some_fault zero l h = absurd (omega arith)
 some_fault (suc k) l h = h
 
 -- the answer of the number
-pub room_some : (F : ℕ) → 1 ≤ F → UpTo F ≡ room_of F
+pub room_some : (F : ℕ) → 1 ≤ F → Some F ≡ room_of F
 unfolding room_of
 room_some zero l = absurd (omega arith)
 room_some (suc k) l = refl
 
-pub right_room : (c : Case) (F : ℕ) → RightFault c F → RightRoom c (room_of F)
+pub right_room : (c : Case) (F : ℕ) → RightFault c F → RightRoom c (Ok (room_of F))
 unfolding RightFault RightRoom room_of
 right_room c zero r = r
 right_room c (suc k) r = r
-
-pub room_checked : (F : ℕ) → checked (room_of F) ≡ Sound
-unfolding checked room_of
-room_checked zero = refl
-room_checked (suc k) = refl
 
 -- every fault current in range up to `safe` is safe, and none from `over` on
 pub record Bracket (c : Case) (safe over : ℕ) : Type 0 where

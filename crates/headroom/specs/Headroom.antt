@@ -1,12 +1,11 @@
 -- The headroom of a case. §6.6: "after the checks of one case (5, 6), the greatest fault current in 100..80000 at which the case, all else
 -- equal, is answered safe, or none".
-use Rattle.std.specs.Prelude.{ℕ, zero, suc, ◌≤◌, ◌≡◌}
-use Rattle.case.specs.{declared.{Case.{Case}, Judged.{Judged}}, Check.{record_judged}, Bounds.{Between}, Fault.{with_fault}}
-use Rattle.case.specs.declared.Judged.TheVariants as judged
+use Rattle.std.specs.Prelude.{ℕ, zero, suc, ◌≤◌, ◌≡◌, Option, Some, None, Result, Ok, Err}
+use Rattle.refusal.specs.declared.Refused.{Refused}
+use Rattle.case.specs.{declared.Case.{Case}, Check.{record_judged}, Bounds.{Between}, Fault.{with_fault}}
 use Rattle.decision.specs.declared.Verdict.TheVariants.{Safe}
 use Rattle.row.specs.Ends.{row_of}
 use Rattle.yards.specs.Fewest.{AnsweredYard}
-use Rattle.headroom.specs.declared.Room.{Room, TheVariants.{UpTo, None, Refused}}
 
 abbrev pub InRange : ℕ → Type 0
 InRange f = Between 100 f 80000
@@ -36,24 +35,23 @@ unfoldable pub RightFault : Case → ℕ → Type 0
 RightFault c zero = NoHeadroom c
 RightFault c (suc k) = Headroom c (suc k)
 
-unfoldable pub room_of : ℕ → Room
+unfoldable pub room_of : ℕ → Option ℕ
 room_of zero = None
-room_of (suc k) = UpTo (suc k)
+room_of (suc k) = Some (suc k)
 
 -- nothing is required of a refusal here
-unfoldable pub RightRoom : Case → Room → Type 0
-RightRoom c (UpTo F) = Headroom c F
-RightRoom c None = NoHeadroom c
-RightRoom c (Refused number line column) = Unit {0}
+unfoldable pub RightRoom : Case → Result (Option ℕ) Refused → Type 0
+RightRoom c (Ok (Some F)) = Headroom c F
+RightRoom c (Ok None) = NoHeadroom c
+RightRoom c (Err why) = Unit {0}
 
 -- what an answer says that the checks of one case have found
-unfoldable pub checked : Room → Judged
-checked (UpTo F) = judged.Sound
-checked None = judged.Sound
-checked (Refused number line column) = judged.Refused number line column
+unfoldable pub checked : Result (Option ℕ) Refused → Result (Unit {0}) Refused
+checked (Ok F) = Ok tt
+checked (Err why) = Err why
 
 -- the answer after the checks, and what holds of it. Two wrong programs: one that refuses a disagreement with 5 breaks `checks`; one that
 -- answers the first fault current that is not safe breaks `right`.
-pub record HeadroomAnswered (c : Case) (r : Room) : Type 0 where
+pub record HeadroomAnswered (c : Case) (r : Result (Option ℕ) Refused) : Type 0 where
   pub checks : record_judged c ≡ checked r
   pub right : RightRoom c r

@@ -6,11 +6,12 @@ use native.Mathlib.Omega.{arith}
 use Rattle.case.specs.{declared.Case.{Case}, Bounds.{Between, Bounds}}
 use Rattle.decision.specs.declared.Verdict.TheVariants.{Safe}
 use Rattle.row.{specs.{declared.Row.{Row}, LessFault.{LessFault}}, proofs.StaysSafe.{less_stays, less_no_worse}}
-use Rattle.hocsimbur.specs.{declared.RowAnswer.{RowAnswer}, Asked.{RowAnswered, AnsweredWith}}
-use Rattle.hocsimbur.specs.declared.RowAnswer.TheVariants as row
+use Rattle.hocsimbur.specs.{Asked.{RowAnswered, AnsweredWith}}
 use Rattle.hocsimbur.proofs.{Answers.{row_says}, NoWorse.{no_worse_row_safe}}
+use Rattle.std.specs.Prelude.{Result, Ok}
+use Rattle.refusal.specs.{declared.Refused.{Refused}}
 
-pub row_stays_safe : {c d : Case} {r : Row} {a : RowAnswer} → RowAnswered c (row.Is r) → r.verdict ≡ Safe → LessFault c d
+pub row_stays_safe : {c d : Case} {r : Row} {a : Result Row Refused} → RowAnswered c (Ok r) → r.verdict ≡ Safe → LessFault c d
     → Between 1 d.station 65535 → Between 1 d.season 4 → 100 ≤ d.fault → RowAnswered d a → AnsweredWith Safe a
 row_stays_safe {c} {d} h e l k s low a =
     let b : Bounds c = (row_says h e).0 in

@@ -8,20 +8,13 @@ ghost use Rattle.interval.specs.Wide.{Wide};
 ghost use Rattle.interval.specs.Operations.{natural, point, size, sum_of, difference_of, minus_of, times_of, corners_of, outward_of};
 ghost use Rattle.interval.specs.Operations.{scaled_of, hull_of, product_of, quotient_of};
 
-use whole::{ceil_div, floor_div, least, least_floor, most, most_ceil, wide};
+use whole::{ceil_div, floor_div, least_floor, most_ceil, wide};
 
 // The two ends of a quantity, in a unit that the quantity's definition names.
 #[derive(Clone, Copy)]
 pub struct Interval {
     pub lower: i64,
     pub upper: i64,
-}
-
-// The answer to a question for two ends: the ends, or a refusal with number, line and column.
-#[derive(Clone, Copy)]
-pub enum Pair {
-    Ends(Interval),
-    Refused(u32, usize, usize),
 }
 
 impl Interval {
@@ -70,8 +63,8 @@ impl Interval {
         ensures { result ≡ minus_of self }
     {
         Interval {
-            lower: 0 - self.upper,
-            upper: 0 - self.lower,
+            lower: -self.upper,
+            upper: -self.lower,
         }
     }
 
@@ -94,8 +87,8 @@ impl Interval {
         let a = z * self.lower;
         let b = z * self.upper;
         Interval {
-            lower: least(a, b),
-            upper: most(a, b),
+            lower: a.min(b),
+            upper: a.max(b),
         }
     }
 
@@ -104,8 +97,8 @@ impl Interval {
         ensures { result ≡ hull_of self other }
     {
         Interval {
-            lower: least(self.lower, other.lower),
-            upper: most(self.upper, other.upper),
+            lower: self.lower.min(other.lower),
+            upper: self.upper.max(other.upper),
         }
     }
 

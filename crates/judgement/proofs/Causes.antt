@@ -4,11 +4,12 @@ use mathlib.Core.{Path.{◌≡◌, refl}, Bool.{Bool, true, false, cond}, List.{
 use lib.{ListN.{length}, Dec.{ltb, eqb}}
 use borrow.Author.Tests.{eqb-true, eqb-false, ltb-true, ltb-false}
 use Rattle.case.specs.Columns.{Form}
-use Rattle.case.specs.declared.Counted.{Counted, TheVariants.{Count, Refused}}
 use Rattle.header.specs.Header.{no_columns, wrong_name, columns_of}
 use Rattle.judgement.specs.Limits.{Limits}
 use Rattle.judgement.specs.Refusal.{text_refused, name_refused, no_line_refused, many_lines_refused}
 use Rattle.judgement.specs.Sheet.{names, value_lines, bad_text, lines_judgement, values_judgement, names_judgement, judgement_within}
+use Rattle.std.specs.Prelude.{Result, Ok}
+use Rattle.refusal.specs.{declared.Refused.{Refused}, Refused.{refuse}}
 
 module _ (form : Form) (s : List ℕ) where
   -- the leftmost wrong column of the first line, or 0
@@ -16,17 +17,17 @@ module _ (form : Form) (s : List ℕ) where
   wrong_column = wrong_name form 1 (no_columns form) (names s)
 
   -- what the value lines are judged, line by line
-  abbrev pub lines_judged : Counted
-  lines_judged = lines_judgement form (columns_of form (names s)) [] 2 (Count (length (value_lines s))) (value_lines s)
+  abbrev pub lines_judged : Result ℕ Refused
+  lines_judged = lines_judgement form (columns_of form (names s)) [] 2 (Ok (length (value_lines s))) (value_lines s)
 
   -- "The order is 1, 2, 4; then line by line"
-  pub data Cause (limits : Limits) : Counted → Type 0 where
-    text : bad_text limits s ≡ true → Cause limits (Refused 1 0 0)
-    name : bad_text limits s ≡ false → (wrong_column ≡ 0 → ⊥) → Cause limits (Refused 2 1 wrong_column)
-    no_line : bad_text limits s ≡ false → wrong_column ≡ 0 → length (value_lines s) ≡ 0 → Cause limits (Refused 4 2 0)
+  pub data Cause (limits : Limits) : Result ℕ Refused → Type 0 where
+    text : bad_text limits s ≡ true → Cause limits (refuse 1 0 0)
+    name : bad_text limits s ≡ false → (wrong_column ≡ 0 → ⊥) → Cause limits (refuse 2 1 wrong_column)
+    no_line : bad_text limits s ≡ false → wrong_column ≡ 0 → length (value_lines s) ≡ 0 → Cause limits (refuse 4 2 0)
     many_lines : bad_text limits s ≡ false → wrong_column ≡ 0 → limits.lines < length (value_lines s)
-        → Cause limits (Refused 4 (limits.lines + 2) 0)
-    lines : {j : Counted} → bad_text limits s ≡ false → wrong_column ≡ 0 → (length (value_lines s) ≡ 0 → ⊥)
+        → Cause limits (refuse 4 (limits.lines + 2) 0)
+    lines : {j : Result ℕ Refused} → bad_text limits s ≡ false → wrong_column ≡ 0 → (length (value_lines s) ≡ 0 → ⊥)
         → length (value_lines s) ≤ limits.lines → lines_judged ≡ j → Cause limits j
 
   pub cause : (limits : Limits) → Cause limits (judgement_within form limits s)
@@ -38,8 +39,8 @@ module _ (form : Form) (s : List ℕ) where
       by_tests : (a : Bool) → bad_text limits s ≡ a → (b : Bool) → eqb wrong_column 0 ≡ b → (c : Bool) → eqb (length (value_lines s)) 0 ≡ c
           → (d : Bool) → ltb limits.lines (length (value_lines s)) ≡ d
           → Cause limits
-          (cond a (Refused 1 0 0)
-          (cond b (cond c (Refused 4 2 0) (cond d (Refused 4 (limits.lines + 2) 0) lines_judged)) (Refused 2 1 wrong_column)))
+          (cond a (refuse 1 0 0)
+          (cond b (cond c (refuse 4 2 0) (cond d (refuse 4 (limits.lines + 2) 0) lines_judged)) (refuse 2 1 wrong_column)))
       by_tests true p b q c r d t = text p
       by_tests false p false q c r d t = name p (eqb-false wrong_column 0 q)
       by_tests false p true q true r d t = no_line p (eqb-true wrong_column 0 q) (eqb-true _ 0 r)

@@ -6,12 +6,13 @@ use lib.{ListN.{length, get_or}, Dec.{eqb}}
 use borrow.Author.Tests.{eqb-true}
 use Rattle.text.{specs.Text.{fields_of}, proofs.Clash.{clash}}
 use Rattle.case.specs.Columns.{Form}
-use Rattle.case.specs.declared.Counted.{Counted, TheVariants.{Count}}
 use Rattle.line.specs.Line.{wrong_form, line_values}
 use Rattle.line_finding.specs.{declared.LineFinding.{LineFinding, TheVariants.{Sound, Form as WrongForm}}, Findings.{line_finding}}
 use Rattle.line_finding.proofs.LineChecked.{sound_case}
 use Rattle.judgement.specs.{Sheet.{lines_judgement}, Accepted.{SoundLine}}
 use Rattle.judgement.proofs.LineJudged.{sound_line}
+use Rattle.std.specs.Prelude.{Result, Ok}
+use Rattle.refusal.specs.{declared.Refused.{Refused}}
 
 sound_form : (b : Bool) (c : ℕ) (f : LineFinding) → cond b f (WrongForm c) ≡ Sound → (b ≡ true) × (f ≡ Sound)
 sound_form true c f e = (refl, e)
@@ -24,12 +25,12 @@ sound_checks form at line earlier e =
     let q = sound_form (eqb (wrong_form (length form) 1 (fields_of line)) 0) _ _ e in
     record { form_sound = eqb-true _ 0 q.0; values_sound = sound_case _ _ q.1 }
 
-pub record LinesSound (form : Form) (at : List ℕ) (ls : List (List ℕ)) (sound : Counted) (m : ℕ) : Type 0 where
+pub record LinesSound (form : Form) (at : List ℕ) (ls : List (List ℕ)) (sound : Result ℕ Refused) (m : ℕ) : Type 0 where
   pub each : (i : ℕ) → i < length ls → SoundLine form at (get_or ls i [])
-  pub then : sound ≡ Count m
+  pub then : sound ≡ Ok m
 
-pub lines_sound : (form : Form) (at : List ℕ) (earlier : List (List ℕ)) (n m : ℕ) (sound : Counted) (ls : List (List ℕ))
-    → lines_judgement form at earlier n sound ls ≡ Count m → LinesSound form at ls sound m
+pub lines_sound : (form : Form) (at : List ℕ) (earlier : List (List ℕ)) (n m : ℕ) (sound : Result ℕ Refused) (ls : List (List ℕ))
+    → lines_judgement form at earlier n sound ls ≡ Ok m → LinesSound form at ls sound m
 unfolding lines_judgement
 lines_sound form at earlier n m sound [] e = record { each = λ i h. absurd (omega arith); then = e }
 lines_sound form at earlier n m sound (l ∷ ls) e =

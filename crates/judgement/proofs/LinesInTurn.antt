@@ -1,11 +1,10 @@
 -- The value lines in turn: which line a refusal is of, and what the lines before it leave.
 use Prim.Native.Nat.{ℕ, zero, suc, ◌+◌, ◌<◌}
-use mathlib.Core.{Path.{◌≡◌, refl}, Bool.{Bool, true, false, ◌||◌}, Logic.{◌⊎◌, inl, inr}, List.{List, [], ◌∷◌}}
+use mathlib.Core.{Path.{◌≡◌, refl, sym, ap}, Bool.{Bool, true, false, ◌||◌}, Logic.{◌⊎◌, inl, inr}, List.{List, [], ◌∷◌}}
 use native.Mathlib.Omega.{arith}
 use lib.ListN.{length, get_or}
 use Rattle.text.{specs.Text.{fields_of}, proofs.Clash.{clash}}
 use Rattle.case.specs.Columns.{Form}
-use Rattle.case.specs.declared.Counted.{Counted, TheVariants.{Count, Refused}}
 use Rattle.line.specs.Line.{line_values}
 use Rattle.line_finding.specs.declared.LineFinding.{LineFinding}
 use Rattle.line_finding.specs.declared.LineFinding.TheVariants.{Sound, Form as WrongForm, OutOfRange, Disagreement, Repeated}
@@ -13,6 +12,9 @@ use Rattle.line_finding.specs.Findings.{same_key, repeats, line_finding}
 use Rattle.judgement.specs.Refusal.{line_judgement}
 use Rattle.judgement.specs.Sheet.{lines_judgement}
 use Rattle.judgement.proofs.LineJudged.{sound_line}
+use Rattle.std.specs.Prelude.{Result, Ok, Err}
+use Rattle.refusal.proofs.Same.{same_refused, same_place}
+use Rattle.refusal.specs.{declared.Refused.{Refused}, Refused.{refuse}}
 
 module _ (form : Form) (at : List ℕ) where
   -- the values of a line, and of line i
@@ -42,10 +44,10 @@ module _ (form : Form) (at : List ℕ) where
     pub within : index < length ls
     pub line : l ≡ index + n
     pub sound_before : (j : ℕ) → j < index → finding_at earlier ls j ≡ Sound
-    pub judged : line_judgement l (Count 0) (finding_at earlier ls index) ≡ Refused k l c
+    pub judged : line_judgement {A = Unit {0}} l (Ok tt) (finding_at earlier ls index) ≡ refuse k l c
 
   pub refused_at_lem : {k l c : ℕ} (m : ℕ) (earlier : List (List ℕ)) (n : ℕ) (ls : List (List ℕ))
-      → lines_judgement form at earlier n (Count m) ls ≡ Refused k l c → RefusedAt earlier n ls k l c
+      → lines_judgement form at earlier n (Ok m) ls ≡ refuse k l c → RefusedAt earlier n ls k l c
   unfolding lines_judgement line_judgement before
   refused_at_lem m earlier n [] e = clash cc
   refused_at_lem {k} {l} {c} m earlier n (x ∷ ls) e =
@@ -66,7 +68,7 @@ module _ (form : Form) (at : List ℕ) where
             judged = r.judged;
           }
 
-      here : (f : LineFinding) → found_of earlier x ≡ f → l ≡ n → line_judgement n (Count 0) f ≡ Refused k l c
+      here : (f : LineFinding) → found_of earlier x ≡ f → l ≡ n → line_judgement {A = Unit {0}} n (Ok tt) f ≡ refuse k l c
           → RefusedAt earlier n (x ∷ ls) k l c
       here f q p j =
           record {
@@ -78,18 +80,18 @@ module _ (form : Form) (at : List ℕ) where
           }
 
       go : (f : LineFinding) → found_of earlier x ≡ f
-          → line_judgement n (lines_judgement form at (values_of x ∷ earlier) (suc n) (Count m) ls) f ≡ Refused k l c
-          → (lines_judgement form at (values_of x ∷ earlier) (suc n) (Count m) ls ≡ Refused k l c
+          → line_judgement n (lines_judgement form at (values_of x ∷ earlier) (suc n) (Ok m) ls) f ≡ refuse k l c
+          → (lines_judgement form at (values_of x ∷ earlier) (suc n) (Ok m) ls ≡ refuse k l c
           → RefusedAt (values_of x ∷ earlier) (suc n) ls k l c) → RefusedAt earlier n (x ∷ ls) k l c
       go Sound q h then = later q (then h)
-      go (WrongForm column) q h then = here (WrongForm column) q (cc) h
-      go (OutOfRange column) q h then = here (OutOfRange column) q (cc) h
-      go (Disagreement column) q h then = here (Disagreement column) q (cc) h
-      go Repeated q h then = here Repeated q (cc) h
+      go (WrongForm column) q h then = here (WrongForm column) q (sym (same_place h).1) (ap Err (same_refused h))
+      go (OutOfRange column) q h then = here (OutOfRange column) q (sym (same_place h).1) (ap Err (same_refused h))
+      go (Disagreement column) q h then = here (Disagreement column) q (sym (same_place h).1) (ap Err (same_refused h))
+      go Repeated q h then = here Repeated q (sym (same_place h).1) (ap Err (same_refused h))
 
   -- where no line is refused, each is sound
-  pub sound_at : {m : ℕ} (earlier : List (List ℕ)) (n : ℕ) (sound : Counted) (ls : List (List ℕ))
-      → lines_judgement form at earlier n sound ls ≡ Count m → (i : ℕ) → i < length ls → finding_at earlier ls i ≡ Sound
+  pub sound_at : {m : ℕ} (earlier : List (List ℕ)) (n : ℕ) (sound : Result ℕ Refused) (ls : List (List ℕ))
+      → lines_judgement form at earlier n sound ls ≡ Ok m → (i : ℕ) → i < length ls → finding_at earlier ls i ≡ Sound
   unfolding lines_judgement before
   sound_at earlier n sound [] e i h = absurd (omega arith)
   sound_at earlier n sound (x ∷ ls) e zero h = (sound_line n _ (found_of earlier x) refl e).0

@@ -8,15 +8,16 @@ use Rattle.text.{specs.{Text.{index_of, lines_of, fields_of}, Parts.{Skipped}}, 
 use Rattle.text.proofs.LineTurns.{line_turn, line_shorter, next_of}
 use Rattle.tables.{specs.Parts.{part_at}, proofs.{Writing.{part_kept}, Parts.{part_entry}}}
 use Rattle.case.specs.Columns.{Form, named}
-use Rattle.case.specs.declared.Counted.{Counted, TheVariants.{Count, Refused}}
 use Rattle.line.specs.Line.{line_values}
 use Rattle.line_finding.specs.{declared.LineFinding.{LineFinding}, Findings.{line_finding}, Parts.{packed, keys_of}}
 use Rattle.line_finding.proofs.Keys.{Keyed, kept, finding_kept, keys_more}
 use Rattle.judgement.specs.Refusal.{line_judgement}
 use Rattle.judgement.specs.{Limits.{most_lines}, Sheet.{lines_judgement}, Read.{LineStored, LinesRead}}
 use Rattle.judgement.proofs.LineJudged.{refused_line, sound_line}
+use Rattle.std.specs.Prelude.{Result, Ok, Err}
+use Rattle.refusal.specs.{declared.Refused.{Refused}, Refused.{refuse}}
 
-pub record Passing (form : Form) (s at keys rest : List ℕ) (n : ℕ) (sound : Counted) (before store : List ℕ) : Type 0 where
+pub record Passing (form : Form) (s at keys rest : List ℕ) (n : ℕ) (sound : Result ℕ Refused) (before store : List ℕ) : Type 0 where
   pub earlier : List (List ℕ)
   pub kept_are : keys_of keys n ≡ map (kept form) earlier
   pub answer_left : lines_judgement form at [] 2 sound (lines_of s) ≡ lines_judgement form at earlier (n + 2) sound (lines_of rest)
@@ -27,7 +28,7 @@ pub record Passing (form : Form) (s at keys rest : List ℕ) (n : ℕ) (sound : 
   pub size : length store ≡ length before
   pub stored : (i : ℕ) → i < n → part_at (length form) store i ≡ line_values at (fields_of (get_or (lines_of s) i []))
 
-pub passing_start : (form : Form) (s at : List ℕ) (sound : Counted) (store : List ℕ) → length (lines_of s) ≤ most_lines
+pub passing_start : (form : Form) (s at : List ℕ) (sound : Result ℕ Refused) (store : List ℕ) → length (lines_of s) ≤ most_lines
     → Passing form s at (replicate most_lines 0) s 0 sound store store
 unfolding keys_of
 passing_start form s at sound store h =
@@ -43,7 +44,7 @@ passing_start form s at sound store h =
       stored = λ i l. absurd (omega arith);
     }
 
-module _ {form : Form} {s at keys rest : List ℕ} {n : ℕ} {sound : Counted} {before store : List ℕ}
+module _ {form : Form} {s at keys rest : List ℕ} {n : ℕ} {sound : Result ℕ Refused} {before store : List ℕ}
     (p : Passing form s at keys rest n sound before store) where
   -- there is a line left
   left : 0 < length rest → n < length (lines_of s)
@@ -80,14 +81,14 @@ pub stored_first : {form : Form} {at line before after : List ℕ} {earlier : Li
 stored_first {after = after} {n = n} {w} l e h = ap (λ (k : ℕ). get_or after k 0) (sym (add-zero (w * n))) ∙ stored_value 0 l e h
 
 -- a turn: the line before e is checked, with finding f; its values are part n of the store; a is its refusal
-module _ {form : Form} {s at keys rest : List ℕ} {n : ℕ} {sound a : Counted} {before store after : List ℕ} {f : LineFinding} (e : ℕ)
+module _ {form : Form} {s at keys rest : List ℕ} {n : ℕ} {sound : Result ℕ Refused} {a : Result (Unit {0}) Refused} {before store after : List ℕ} {f : LineFinding} (e : ℕ)
     (keyed : Keyed form)
     (p : Passing form s at keys rest n sound before store) (some : 0 < length rest) (ends : e ≡ index_of 10 rest)
-    (j : LineStored form at (keys_of keys n) (take e rest) n store after f) (answered : a ≡ line_judgement (n + 2) (Count 0) f) where
+    (j : LineStored form at (keys_of keys n) (take e rest) n store after f) (answered : a ≡ line_judgement {A = Unit {0}} (n + 2) (Ok tt) f) where
   found_is : f ≡ line_finding form at p.earlier (fields_of (take e rest))
   found_is = j.checks.found_is ∙ rw p.kept_are (finding_kept keyed at p.earlier (fields_of (take e rest)))
 
-  pub passing_refused : {k l c : ℕ} → a ≡ Refused k l c → LinesRead form at (lines_of s) sound before after (Refused k l c)
+  pub passing_refused : {why : Refused} → a ≡ Err why → LinesRead form at (lines_of s) sound before after (Err why)
   unfolding lines_judgement
   passing_refused h =
       record {
@@ -96,12 +97,12 @@ module _ {form : Form} {s at keys rest : List ℕ} {n : ℕ} {sound a : Counted}
         stored = λ m q. clash cc;
       }
 
-  pub passing_step : {m x y : ℕ} (r : ℕ) → a ≡ Count m → x ≡ get_or j.row 0 0 → y ≡ get_or j.row 1 0 → Skipped e (length rest) r
+  pub passing_step : {x y : ℕ} (r : ℕ) → a ≡ Ok tt → x ≡ get_or j.row 0 0 → y ≡ get_or j.row 1 0 → Skipped e (length rest) r
       → Passing form s at (set keys n (packed x y)) (take (length rest - r) (drop r rest)) (n + 1) sound before after
   unfolding lines_judgement line_judgement kept named
   passing_step {x = x} {y} r h g q k =
       let t = line_turn rest e r some ends k in
-      let z = (sound_line (n + 2) (Count 0) f answered h).0 in
+      let z = (sound_line (n + 2) (Ok tt) f answered h).0 in
       let i = passing_room p some in
       let o = next_of n (lines_of s) (take e rest) _ (p.lines ∙ t) in
       record {

@@ -4,16 +4,18 @@ use mathlib.Core.{Path.{◌≡◌, refl, ap, ◌∙◌}, Bool.{Bool, true, false
 use native.Mathlib.{Omega.{arith}, Nat.{le_trans, mul-le-mul_left}}
 use lib.{ListN.{length, get_or, take, drop}, Dec.{eqb, ltb}}
 use borrow.Author.Tests.{eq-eqb, ne_eqb, lt-ltb, le-ltb, eqb-true, eqb-false, ltb-true, ltb-false, not-true, not-false}
-use Rattle.text.specs.{Text.{index_of, lines_of, fields_of}, Parts.{Skipped}, declared.Columns.{Columns, TheVariants.{Right, Wrong}}}
+use Rattle.std.specs.Prelude.{Result, Ok, Err}
+use Rattle.text.specs.{Text.{index_of, lines_of, fields_of}, Parts.{Skipped}}
 use Rattle.text.proofs.{Clash.{clash}, Lines.{lines_next}}
 use Rattle.text.proofs.LineTurns.{line_turn}
 use Rattle.case.specs.Columns.{Form}
-use Rattle.case.specs.declared.Counted.{Counted, TheVariants.{Count, Refused}}
 use Rattle.judgement.specs.Limits.{Limits, today, most_bytes, most_lines}
 use Rattle.judgement.specs.Refusal.{text_refused, name_refused, no_line_refused, many_lines_refused}
 use Rattle.judgement.specs.Sheet.{names, value_lines, bad_text, values_judgement, names_judgement, judgement_within, judgement}
 use Rattle.judgement.specs.{Read.{Room, LinesRead, ValuesRead, Read}, Accepted.{RightText}}
 use Rattle.header.{specs.{Header.{columns_of}, Parts.{Header}}, proofs.HeaderReading.{names_right, names_wrong}}
+use Rattle.std.specs.Prelude.{Result, Ok}
+use Rattle.refusal.specs.{declared.Refused.{Refused}, Refused.{refuse}}
 
 -- ---- the text
 
@@ -62,18 +64,18 @@ text_some : (s : List ℕ) → bad_text today s ≡ false → 0 < length s
 text_some s e = omega (arith, (text_right today s e).some)
 
 -- a refusal stores nothing
-not_lines : {n k l c : ℕ} → Refused k l c ≡ Count n → ⊥
+not_lines : {n k l c : ℕ} → refuse k l c ≡ Ok n → ⊥
 not_lines e = clash cc
 
-read_refused : {form : Form} {s : List ℕ} {k l c : ℕ} (store : List ℕ) → Refused k l c ≡ judgement form s
-    → Read form s store store (Refused k l c)
+read_refused : {form : Form} {s : List ℕ} {k l c : ℕ} (store : List ℕ) → refuse k l c ≡ judgement form s
+    → Read form s store store (refuse k l c)
 read_refused store e = record { answer_is = e; size = refl; stored = λ n q. absurd (not_lines q) }
 
 lines_refused : {form : Form} {at : List ℕ} {ls : List (List ℕ)} {k l c : ℕ} (store : List ℕ)
-    → Refused k l c ≡ values_judgement form today at ls → ValuesRead form at ls store store (Refused k l c)
+    → refuse k l c ≡ values_judgement form today at ls → ValuesRead form at ls store store (refuse k l c)
 lines_refused store e = record { answer_is = e; size = refl; stored = λ n q. absurd (not_lines q) }
 
-pub read_text : (form : Form) (s store : List ℕ) → bad_text today s ≡ true → Read form s store store (Refused 1 0 0)
+pub read_text : (form : Form) (s store : List ℕ) → bad_text today s ≡ true → Read form s store store (refuse 1 0 0)
 unfolding judgement judgement_within text_refused
 read_text form s store b = read_refused store (rw b)
 
@@ -99,15 +101,15 @@ room_left s e {r} b ends k room =
     let l = ap length (line_turn s e r (text_some s b) ends k) in
     record { enough = λ h m. room.enough (omega (arith, l)) m }
 
-module _ {form : Form} (s : List ℕ) {at order : List ℕ} {found : Columns} (e : ℕ) (b : bad_text today s ≡ false)
+module _ {form : Form} (s : List ℕ) {at order : List ℕ} {found : Result Unit ℕ} (e : ℕ) (b : bad_text today s ≡ false)
     (ends : e ≡ index_of 10 s) (h : Header form (take e s) found at order) where
-  pub read_names : {c : ℕ} (store : List ℕ) → found ≡ Wrong c → Read form s store store (Refused 2 1 c)
+  pub read_names : {c : ℕ} (store : List ℕ) → found ≡ Err c → Read form s store store (refuse 2 1 c)
   unfolding judgement judgement_within names_judgement name_refused
   read_names {c} store z =
       let w = names_wrong h z in
       read_refused store (rw (b, names_are s e b ends, w.is, ne_eqb c 0 w.some))
 
-  pub read_values : {before after : List ℕ} {j : Counted} (r : ℕ) → found ≡ Right → Skipped e (length s) r
+  pub read_values : {before after : List ℕ} {j : Result ℕ Refused} (r : ℕ) → found ≡ Ok tt → Skipped e (length s) r
       → ValuesRead form at (lines_of (take (length s - r) (drop r s))) before after j → Read form s before after j
   unfolding judgement judgement_within names_judgement
   read_values r z k v =
@@ -122,15 +124,15 @@ module _ {form : Form} (s : List ℕ) {at order : List ℕ} {found : Columns} (e
 -- ---- the number of value lines
 
 module _ (form : Form) (at : List ℕ) (ls : List (List ℕ)) (n : ℕ) (count : n ≡ length ls) where
-  pub values_none : (store : List ℕ) → n ≡ 0 → ValuesRead form at ls store store (Refused 4 2 0)
+  pub values_none : (store : List ℕ) → n ≡ 0 → ValuesRead form at ls store store (refuse 4 2 0)
   unfolding values_judgement no_line_refused
   values_none store h = lines_refused store (rw (← count, eq-eqb n 0 h))
 
-  pub values_many : (store : List ℕ) → most_lines < n → ValuesRead form at ls store store (Refused 4 (most_lines + 2) 0)
+  pub values_many : (store : List ℕ) → most_lines < n → ValuesRead form at ls store store (refuse 4 (most_lines + 2) 0)
   unfolding values_judgement many_lines_refused
   values_many store h = lines_refused store (rw (← count, ne_eqb n 0 (λ e. omega (arith, e)), lt-ltb most_lines n h))
 
-  pub values_some : {before after : List ℕ} {j : Counted} → (n ≡ 0 → ⊥) → n ≤ most_lines → LinesRead form at ls (Count n) before after j
+  pub values_some : {before after : List ℕ} {j : Result ℕ Refused} → (n ≡ 0 → ⊥) → n ≤ most_lines → LinesRead form at ls (Ok n) before after j
       → ValuesRead form at ls before after j
   unfolding values_judgement
   values_some z h l =

@@ -5,10 +5,10 @@ use Rattle.std.specs.Prelude.{length, get_or}
 use Rattle.text.specs.Text.{fields_of}
 use Rattle.case.specs.declared.Finding.TheVariants as found
 use Rattle.case.specs.{Columns.{Form}, Check.{finding}, Bounds.{Placed}}
-use Rattle.case.specs.declared.Counted.TheVariants.{Count}
 use Rattle.header.specs.Header.{no_columns, wrong_name, columns_of}
 use Rattle.line.specs.Line.{wrong_form, line_values}
 use Rattle.judgement.specs.{Limits.{Limits, today}, Sheet.{names, value_lines, bad_text, lines_judgement}}
+use Rattle.std.specs.Prelude.{Ok}
 
 -- a text that is not "empty, over" the most bytes, "or last byte not 10"
 pub record RightText (limits : Limits) (s : List ℕ) : Type 0 where
@@ -32,7 +32,7 @@ pub record AcceptedWithin (form : Form) (limits : Limits) (s : List ℕ) (n : �
   pub some : 1 ≤ n
   pub most : n ≤ limits.lines
   pub lines : SoundLines form (columns_of form (names s)) (value_lines s)
-  pub judged : lines_judgement form (columns_of form (names s)) [] 2 (Count n) (value_lines s) ≡ Count n
+  pub judged : lines_judgement form (columns_of form (names s)) [] 2 (Ok n) (value_lines s) ≡ Ok n
 
 -- within today's limits
 abbrev pub Accepted : Form → List ℕ → ℕ → Type 0

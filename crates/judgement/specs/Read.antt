@@ -5,12 +5,13 @@ use Rattle.std.specs.Prelude.{length, get_or}
 use Rattle.text.specs.Text.{fields_of}
 use Rattle.tables.specs.Parts.{part_at, Written}
 use Rattle.case.specs.Columns.{Form}
-use Rattle.case.specs.declared.Counted.{Counted, TheVariants.{Count}}
 use Rattle.header.specs.Header.{columns_of}
 use Rattle.line.specs.Line.{line_values}
 use Rattle.line_finding.specs.{declared.LineFinding.{LineFinding}, Parts.{Checks}}
 use Rattle.judgement.specs.Limits.{today, most_lines}
 use Rattle.judgement.specs.Sheet.{names, value_lines, lines_judgement, values_judgement, judgement}
+use Rattle.std.specs.Prelude.{Result, Ok}
+use Rattle.refusal.specs.{declared.Refused.{Refused}}
 
 -- the values of some lines stand one after the other in a store, each line's in the order of the form
 abbrev pub Stored : Form → List ℕ → List (List ℕ) → List ℕ → Type 0
@@ -28,20 +29,20 @@ pub record LineStored (form : Form) (at : List ℕ) (earlier : List (List ℕ)) 
   pub written : Written (length form) n row before after
 
 -- value lines with the columns of their names, judged line by line
-pub record LinesRead (form : Form) (at : List ℕ) (lines : List (List ℕ)) (sound : Counted) (before after : List ℕ) (r : Counted) : Type
+pub record LinesRead (form : Form) (at : List ℕ) (lines : List (List ℕ)) (sound : Result ℕ Refused) (before after : List ℕ) (r : Result ℕ Refused) : Type
     0 where
   pub answer_is : r ≡ lines_judgement form at [] 2 sound lines
   pub size : length after ≡ length before
-  pub stored : (n : ℕ) → r ≡ Count n → Stored form at lines after
+  pub stored : (n : ℕ) → r ≡ Ok n → Stored form at lines after
 
 -- the same with the count of lines
-pub record ValuesRead (form : Form) (at : List ℕ) (lines : List (List ℕ)) (before after : List ℕ) (r : Counted) : Type 0 where
+pub record ValuesRead (form : Form) (at : List ℕ) (lines : List (List ℕ)) (before after : List ℕ) (r : Result ℕ Refused) : Type 0 where
   pub answer_is : r ≡ values_judgement form today at lines
   pub size : length after ≡ length before
-  pub stored : (n : ℕ) → r ≡ Count n → Stored form at lines after
+  pub stored : (n : ℕ) → r ≡ Ok n → Stored form at lines after
 
 -- a sheet
-pub record Read (form : Form) (s before after : List ℕ) (r : Counted) : Type 0 where
+pub record Read (form : Form) (s before after : List ℕ) (r : Result ℕ Refused) : Type 0 where
   pub answer_is : r ≡ judgement form s
   pub size : length after ≡ length before
-  pub stored : (n : ℕ) → r ≡ Count n → Stored form (columns_of form (names s)) (value_lines s) after
+  pub stored : (n : ℕ) → r ≡ Ok n → Stored form (columns_of form (names s)) (value_lines s) after

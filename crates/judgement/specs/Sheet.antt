@@ -5,12 +5,13 @@ use mathlib.Core.{Bool.{Bool, cond, not, ◌||◌}, List.{List, [], ◌∷◌}}
 use lib.{ListN.{length, get_or, drop}, Dec.{ltb, eqb}}
 use Rattle.text.specs.Text.{lines_of, fields_of}
 use Rattle.case.specs.Columns.{Form}
-use Rattle.case.specs.declared.Counted.{Counted, TheVariants.{Count}}
 use Rattle.header.specs.Header.{no_columns, wrong_name, columns_of}
 use Rattle.line.specs.Line.{line_values}
 use Rattle.line_finding.specs.Findings.{line_finding}
 use Rattle.judgement.specs.Limits.{Limits, today}
 use Rattle.judgement.specs.Refusal.{text_refused, name_refused, no_line_refused, many_lines_refused, line_judgement}
+use Rattle.std.specs.Prelude.{Result, Ok}
+use Rattle.refusal.specs.{declared.Refused.{Refused}}
 
 -- "Its first line holds names, and each later line holds values in that order."
 unfoldable pub names : List ℕ → List (List ℕ)
@@ -25,7 +26,7 @@ bad_text limits s = eqb (length s) 0 || ltb limits.bytes (length s) || not (eqb 
 
 module _ (form : Form) where
   -- line by line from line n on, after the values of earlier lines; `sound` is the judgement where nothing is wrong with any line
-  unfoldable pub lines_judgement : List ℕ → List (List ℕ) → ℕ → Counted → List (List ℕ) → Counted
+  unfoldable pub lines_judgement : List ℕ → List (List ℕ) → ℕ → Result ℕ Refused → List (List ℕ) → Result ℕ Refused
   lines_judgement at earlier n sound [] = sound
   lines_judgement at earlier n sound (line ∷ lines) =
       line_judgement n (lines_judgement at (line_values at (fields_of line) ∷ earlier) (suc n) sound lines)
@@ -33,21 +34,21 @@ module _ (form : Form) where
 
 module _ (form : Form) (limits : Limits) where
   -- 4, then the lines
-  unfoldable pub values_judgement : List ℕ → List (List ℕ) → Counted
+  unfoldable pub values_judgement : List ℕ → List (List ℕ) → Result ℕ Refused
   values_judgement at lines =
       cond (eqb (length lines) 0) no_line_refused
-      (cond (ltb limits.lines (length lines)) (many_lines_refused limits) (lines_judgement form at [] 2 (Count (length lines)) lines))
+      (cond (ltb limits.lines (length lines)) (many_lines_refused limits) (lines_judgement form at [] 2 (Ok (length lines)) lines))
 
   -- 2, then the values
-  unfoldable pub names_judgement : List ℕ → Counted
+  unfoldable pub names_judgement : List ℕ → Result ℕ Refused
   names_judgement s =
       cond (eqb (wrong_name form 1 (no_columns form) (names s)) 0) (values_judgement (columns_of form (names s)) (value_lines s))
       (name_refused (wrong_name form 1 (no_columns form) (names s)))
 
   -- 1, then the names
-  unfoldable pub judgement_within : List ℕ → Counted
+  unfoldable pub judgement_within : List ℕ → Result ℕ Refused
   judgement_within s = cond (bad_text limits s) text_refused (names_judgement s)
 
 -- within today's limits
-unfoldable pub judgement : Form → List ℕ → Counted
+unfoldable pub judgement : Form → List ℕ → Result ℕ Refused
 judgement form s = judgement_within form today s

@@ -13,10 +13,11 @@ ghost use Rattle.judgement.specs.Limits.{today, most_lines};
 ghost use Rattle.judgement.specs.Sheet.{bad_text};
 ghost use Rattle.judgement.specs.Read.{Room, ValuesRead, Read};
 
-use case::{Counted, FORMER_NAMES, Form, NAMES, REFUSED_LINES, REFUSED_NAME, REFUSED_TEXT};
+use case::{FORMER_NAMES, Form, NAMES, REFUSED_LINES, REFUSED_NAME, REFUSED_TEXT};
 use header::read_header;
 use pass::check_lines;
-use text::{Columns, count_lines, find, skip};
+use refusal::Refused;
+use text::{count_lines, find, skip};
 
 // The most value lines and bytes of a sheet.
 pub const LINES: usize = 256;
@@ -50,7 +51,7 @@ fn judge_values<'a>(
     at: &'a [usize],
     order: &'a [usize],
     values: &mut [u32],
-) -> Counted
+) -> Result<usize, Refused>
     requires placed { Placed (length (form_of form)) at.now }
     requires ordered { Ordered (length (form_of form)) at.now order.now }
     requires room { Room (form_of form) (lines_of s.now) values.old }
@@ -58,10 +59,10 @@ fn judge_values<'a>(
 {
     let n = count_lines(s);
     if n == 0 {
-        return Counted::Refused(REFUSED_LINES, 2, 0);
+        return Err(Refused(REFUSED_LINES, 2, 0));
     }
     if LINES < n {
-        return Counted::Refused(REFUSED_LINES, PAST_LINES, 0);
+        return Err(Refused(REFUSED_LINES, PAST_LINES, 0));
     }
     check_lines(form, s, at, order, n, values)
 }
@@ -73,19 +74,19 @@ fn read_by(
     at: &mut [usize],
     order: &mut [usize],
     values: &mut [u32],
-) -> Counted
+) -> Result<usize, Refused>
     requires at_value { at.old ≡ no_columns (form_of form) }
     requires order_len { length order.old ≡ length (form_of form) }
     requires room { Room (form_of form) (lines_of s.now) values.old }
     ensures { Read (form_of form) s.now values.old values.new result }
 {
     if bad_text(s) {
-        return Counted::Refused(REFUSED_TEXT, 0, 0);
+        return Err(Refused(REFUSED_TEXT, 0, 0));
     }
     let e = find(s, 10);
     match read_header(form, &s[..e], at, order) {
-        Columns::Wrong(column) => Counted::Refused(REFUSED_NAME, 1, column),
-        Columns::Right => {
+        Err(column) => Err(Refused(REFUSED_NAME, 1, column)),
+        Ok(()) => {
             let next = skip(e, s.len());
             judge_values(form, &s[next..], at, order, values)
         }
@@ -94,7 +95,7 @@ fn read_by(
 
 // The judgement of a sheet of a form, and its values in the store, line after line in the order of the names. The store has room for the
 // lines that the sheet has.
-pub fn read_within(form: Form, s: &[u8], values: &mut [u32]) -> Counted
+pub fn read_within(form: Form, s: &[u8], values: &mut [u32]) -> Result<usize, Refused>
     requires { Room (form_of form) (lines_of s.now) values.old }
     ensures { Read (form_of form) s.now values.old values.new result }
 {
@@ -113,7 +114,7 @@ pub fn read_within(form: Form, s: &[u8], values: &mut [u32]) -> Counted
 }
 
 // The same with a store for as many value lines as a sheet may have.
-pub fn read(form: Form, s: &[u8], values: &mut [u32]) -> Counted
+pub fn read(form: Form, s: &[u8], values: &mut [u32]) -> Result<usize, Refused>
     requires { length (form_of form) * most_lines ≤ length values.old }
     ensures { Read (form_of form) s.now values.old values.new result }
 {

@@ -11,20 +11,21 @@ ghost use Rattle.line_finding.specs.Parts.{keys_of, AtMost};
 ghost use Rattle.judgement.specs.Read.{LinesRead};
 
 use crate::LINES;
-use case::{Counted, Form, REFUSED_FORM, REFUSED_PARTS, REFUSED_RANGE, REFUSED_REPEATED};
-use line_finding::{LineFinding, check_line, greater, key};
+use case::{Form, REFUSED_FORM, REFUSED_PARTS, REFUSED_RANGE, REFUSED_REPEATED};
+use line_finding::{LineFinding, check_line, key};
+use refusal::Refused;
 use text::{find, skip};
 
-// The refusal of a line, or no lines where it is sound.
-fn refusal(line: usize, f: LineFinding) -> Counted
-    ensures { result ≡ line_judgement line (Counted.Count 0) f }
+// The refusal of a line, where it is not sound.
+fn refusal(line: usize, f: LineFinding) -> Result<(), Refused>
+    ensures { result ≡ line_judgement line (Ok tt) f }
 {
     match f {
-        LineFinding::Sound => Counted::Count(0),
-        LineFinding::Form(column) => Counted::Refused(REFUSED_FORM, line, column),
-        LineFinding::OutOfRange(column) => Counted::Refused(REFUSED_RANGE, line, column),
-        LineFinding::Disagreement(column) => Counted::Refused(REFUSED_PARTS, line, column),
-        LineFinding::Repeated => Counted::Refused(REFUSED_REPEATED, line, 0),
+        LineFinding::Sound => Ok(()),
+        LineFinding::Form(column) => Err(Refused(REFUSED_FORM, line, column)),
+        LineFinding::OutOfRange(column) => Err(Refused(REFUSED_RANGE, line, column)),
+        LineFinding::Disagreement(column) => Err(Refused(REFUSED_PARTS, line, column)),
+        LineFinding::Repeated => Err(Refused(REFUSED_REPEATED, line, 0)),
     }
 }
 
@@ -61,13 +62,13 @@ pub fn check_lines<'a>(
     order: &'a [usize],
     count: usize,
     values: &mut [u32],
-) -> Counted
+) -> Result<usize, Refused>
     requires placed { Placed (length (form_of form)) at.now }
     requires ordered { Ordered (length (form_of form)) at.now order.now }
     requires count_value { count ≡ length (lines_of s.now) }
     requires count_le_most_lines { count ≤ most_lines }
     requires count_in_bounds { length (form_of form) * count ≤ length values.old }
-    ensures { LinesRead (form_of form) at.now (lines_of s.now) (Counted.Count count) values.old
+    ensures { LinesRead (form_of form) at.now (lines_of s.now) (Ok count) values.old
         values.new result }
 {
     let width = at.len();
@@ -78,17 +79,14 @@ pub fn check_lines<'a>(
     while 0 < rest.len() {
         let e = find(rest, 10);
         let f = store_line(form, &rest[..e], at, order, &keys, n, most, values);
-        let j = refusal(n + 2, f);
-        if let Counted::Refused(number, line, column) = j {
-            return Counted::Refused(number, line, column);
-        }
+        refusal(n + 2, f)?;
         let a = width * n;
         let k = key(values[a], values[a + 1]);
         keys[n] = k;
-        most = greater(most, k);
+        most = most.max(k);
         n += 1;
         let next = skip(e, rest.len());
         rest = &rest[next..];
     }
-    Counted::Count(count)
+    Ok(count)
 }

@@ -3,7 +3,8 @@ use Prim.Native.Nat.{ℕ, zero, suc, ◌-◌, ◌<◌}
 use mathlib.Core.{Path.{◌≡◌, refl, sym, ap, ◌∙◌}, List.{List, [], ◌∷◌, map}}
 use native.Mathlib.Omega.{arith}
 use lib.{ListN.{length, get_or, length-map}, Seq.{ext_get_or}}
-use Rattle.text.specs.{Text.{fields_of}, Value.{value_of}, declared.Columns.{Columns, TheVariants.{Right}}}
+use Rattle.std.specs.Prelude.{Result, Ok}
+use Rattle.text.specs.{Text.{fields_of}, Value.{value_of}}
 use Rattle.case.specs.{Bounds.{Placed}, Order.{Ordered}}
 use Rattle.line.specs.{Line.{line_values}, Parts.{LineValues}}
 
@@ -12,8 +13,8 @@ map_at f [] k h = absurd (omega arith)
 map_at f (x ∷ l) zero h = refl
 map_at f (x ∷ l) (suc k) h = map_at f l k (omega arith)
 
-pub arranged : {n : ℕ} {at order line row : List ℕ} {found : Columns} → Placed n at → Ordered n at order → LineValues n order line found row
-    → found ≡ Right → row ≡ line_values at (fields_of line)
+pub arranged : {n : ℕ} {at order line row : List ℕ} {found : Result Unit ℕ} → Placed n at → Ordered n at order → LineValues n order line found row
+    → found ≡ Ok tt → row ≡ line_values at (fields_of line)
 unfolding line_values
 arranged {n} {at} {order} {line} {row} p o v z =
     ext_get_or 0 row (map value at) (v.count ∙ sym (length-map at value ∙ p.count)) (λ k h. same k (omega (arith, v.count)))

@@ -1,80 +1,56 @@
 // A value line: its values in the order of the names.
 #![tactic(auto)]
 
-ghost use Rattle.std.specs.Prelude.{◌≤◌, length, drop};
+ghost use Rattle.std.specs.Prelude.{◌≤◌, length};
 ghost use Rattle.case.specs.Order.{Distinct};
 ghost use Rattle.text.specs.Text.{fields_of};
 ghost use Rattle.line.specs.Parts.{LineValues, ValuesAt};
 
-use text::{Columns, FRONT, Field, first_field, front_value};
+use text::{FRONT, first_field, front_value};
 
-// The values at the front of a line: how many are put, and where the next field starts.
+// The values at the front of a line: how many are put, and what is left of the line.
 #[derive(Clone, Copy)]
-struct Front {
+struct Front<'a> {
     count: usize,
-    next: usize,
+    rest: &'a [u8],
 }
 
 // Puts the values at the front of a line, as far as each is read in one pass.
-fn front_values<'a>(line: &'a [u8], order: &'a [usize], row: &mut [u32]) -> Front
+fn front_values<'a>(line: &'a [u8], order: &[usize], row: &mut [u32]) -> Front<'a>
     requires { Distinct (length row.old) order.now }
-    ensures { (result.next ≤ length line.now) × ValuesAt (length row.old) order.now
-        (fields_of line.now) row.new (fields_of (drop result.next line.now)) result.count }
+    ensures shorter { length result.rest.now ≤ length line.now }
+    ensures put { ValuesAt (length row.old) order.now (fields_of line.now) row.new
+        (fields_of result.rest.now) result.count }
 {
-    let n = row.len();
-    let mut next: usize = 0;
-    let mut c: usize = 0;
-    while c < n {
-        if line.len() - next < FRONT {
-            break;
-        }
-        let e = next + FRONT;
-        let v = front_value(&line[next..e]);
-        if v.end == 0 {
-            break;
-        }
-        let k = order[c];
-        row[k] = v.value;
-        c += 1;
-        next += v.end + 1;
+    let mut rest = line;
+    for (count, k) in order.iter().enumerate() {
+        let Some(v) = rest.get(..FRONT).and_then(front_value) else {
+            return Front { count, rest };
+        };
+        row[*k] = v.value;
+        rest = &rest[v.end + 1..];
     }
     Front {
-        count: c,
-        next: next,
+        count: order.len(),
+        rest,
     }
 }
 
-// Puts the values of a line at the indices of their columns' names; answers whether all columns are right, or which is the leftmost
-// wrong one.
-pub fn read_values<'a>(line: &'a [u8], order: &'a [usize], row: &mut [u32]) -> Columns
+// Puts the values of a line at the indices of their columns' names; the error is the leftmost wrong column.
+pub fn read_values(line: &[u8], order: &[usize], row: &mut [u32]) -> Result<(), usize>
     requires { Distinct (length row.old) order.now }
     ensures { LineValues (length row.old) order.now line.now result row.new }
 {
     let n = row.len();
-    let front = front_values(line, order, row);
-    let next = front.next;
-    let mut rest = &line[next..];
-    let mut c = front.count;
-    loop {
-        if n <= c {
-            return Columns::Wrong(n + 1);
-        }
+    let Front { count, mut rest } = front_values(line, order, row);
+    for c in count..n {
         let first = first_field(rest);
-        let e = first.end;
-        let f = first.field;
-        let Field::Value(x) = f else {
-            return Columns::Wrong(c + 1);
-        };
-        let k = order[c];
-        row[k] = x;
-        c += 1;
-        if rest.len() <= e {
-            break;
+        let x = first.value.ok_or(c + 1)?;
+        row[order[c]] = x;
+        if rest.len() <= first.end {
+            return if c + 1 < n { Err(c + 2) } else { Ok(()) };
         }
-        rest = &rest[e + 1..];
+        rest = &rest[first.end + 1..];
     }
-    if c < n {
-        return Columns::Wrong(c + 1);
-    }
-    Columns::Right
+    Err(n + 1)
 }

@@ -1,9 +1,11 @@
 -- Stations and seasons of earlier lines, kept as one number each.
 use Prim.Native.Nat.{ℕ, zero, suc, ◌+◌, ◌*◌, ◌/◌, ◌%◌, ◌≤◌, ◌<◌}
-use mathlib.Core.{Path.{◌≡◌, refl, ◌∙◌}, Bool.{Bool, true, false, cond, ◌&&◌, ◌||◌, or_comm}, List.{List, [], ◌∷◌, map}}
+use mathlib.Core.{Path.{◌≡◌, refl, sym, ap, ◌∙◌}, Bool.{Bool, true, false, cond, ◌&&◌, ◌||◌, or_comm}, List.{List, [], ◌∷◌, map}}
 use native.Mathlib.{Numerals.{add-one}, Decide.{ℕ_discrete}, Omega.{arith}}
-use lib.{ListN.{length, get_or, set}, Seq.{get_or-set_same, get_or-set_other}, Dec.{T, eqb, leb, leb→le}}
+use lib.{ListN.{length, get_or, set, take}, Seq.{get_or-set_same, get_or-set_other}, Dec.{T, eqb, leb, leb→le}}
 use borrow.Author.Tests.{eq-eqb, ne_eqb, eqb-true}
+use Rattle.std.specs.{Prelude.{◌==◌}, List.{list_any}}
+use Rattle.std.proofs.lemmas.List.Folds.{list_any_more}
 use mir.Facts.{and_yes}
 use Rattle.text.{specs.Text.{bytes, same}, proofs.Clash.{clash}}
 use Rattle.case.specs.declared.Form.{Form as CodeForm, TheVariants.{Present, Former}}
@@ -31,22 +33,23 @@ module _ {form : Form} (keyed : Keyed form) (a b : ℕ) where
   unfolding named key_of
   key_season = rw keyed.second
 
--- the search: what is found among the first j keys
-pub record Seeking (key : ℕ) (keys : List ℕ) (n : ℕ) (found : Bool) (j : ℕ) : Type 0 where
-  pub within : j ≤ n
-  pub is : found ≡ seen_in key keys j
+turned : (a b : ℕ) → eqb a b ≡ eqb b a
+turned a b = go (ℕ_discrete a b)
+  where
+    go : Dec (a ≡ b) → eqb a b ≡ eqb b a
+    go (yes e) = rw e
+    go (no e) = rw (ne_eqb a b e, ne_eqb b a (λ p. e (sym p)))
 
-pub seeking_start : (key : ℕ) (keys : List ℕ) (n : ℕ) → Seeking key keys n false 0
+-- the library's search of the first n keys
+pub seen_any : (key : ℕ) (keys : List ℕ) (n : ℕ) → n ≤ length keys → list_any (λ k. k == key) (take n keys) ≡ seen_in key keys n
 unfolding seen_in
-seeking_start key keys n = record { within = omega arith; is = refl }
-
-pub seeking_step : {key : ℕ} {keys : List ℕ} {n : ℕ} {found : Bool} {j : ℕ} → Seeking key keys n found j → j < n
-    → Seeking key keys n (found || eqb key (get_or keys j 0)) (j + 1)
-unfolding seen_in
-seeking_step {found = found} a h = record { within = omega arith; is = or_comm found _ ∙ rw (add-one, a.is) }
-
-pub seeking_end : {key : ℕ} {keys : List ℕ} {n : ℕ} {found : Bool} {j : ℕ} → Seeking key keys n found j → n ≤ j → found ≡ seen_in key keys n
-seeking_end {n = n} {j = j} a h = let e : j ≡ n = omega (arith, a.within) in rw e at a.is
+seen_any key keys zero h = refl
+seen_any key keys (suc n) h =
+    let more = list_any_more (λ k. k == key) keys n 0 (omega arith) in
+    let one : take (n + 1) keys ≡ take (suc n) keys = ap (λ m. take m keys) (add-one n) in
+    sym (ap (list_any (λ k. k == key)) one) ∙ more ∙ or_comm (list_any (λ k. k == key) (take n keys)) (eqb (get_or keys n 0) key)
+    ∙ ap (λ b. b || list_any (λ k. k == key) (take n keys)) (turned (get_or keys n 0) key)
+    ∙ ap (λ b. eqb key (get_or keys n 0) || b) (seen_any key keys n (omega arith))
 
 -- a number above them all is none of them
 pub not_seen : {key most : ℕ} {keys : List ℕ} (n : ℕ) → AtMost keys n most → most < key → seen_in key keys n ≡ false

@@ -3,7 +3,8 @@ use Prim.Native.Nat.{ℕ}
 use mathlib.Core.{Path.{◌≡◌, refl, sym, ◌∙◌}, Bool.{cond}, List.{List}}
 use lib.ListN.{length, get_or}
 use borrow.Author.Tests.{ne_eqb}
-use Rattle.text.{specs.{Text.{fields_of}, declared.Columns.{Columns, TheVariants.{Right, Wrong}}}, proofs.Clash.{clash}}
+use Rattle.std.specs.Prelude.{Result, Ok, Err}
+use Rattle.text.{specs.Text.{fields_of}, proofs.Clash.{clash}}
 use Rattle.case.specs.{Columns.{Form}, declared.Finding.{Finding}, Check.{finding}}
 use Rattle.case.specs.declared.Finding.TheVariants as found
 use Rattle.line.{specs.{Line.{line_values}, Parts.{LineValues}}, proofs.ValuesReading.{form_right, form_wrong}}
@@ -24,15 +25,15 @@ sound_case found.Sound next e = refl
 sound_case (found.OutOfRange c) next e = clash cc
 sound_case (found.Disagreement c) next e = clash cc
 
-module _ {form : Form} {order line row : List ℕ} {columns : Columns} (at : List ℕ) (l : LineValues (length form) order line columns row) where
-  pub judged_form : {c : ℕ} (earlier : List (List ℕ)) → columns ≡ Wrong c → Checks form at earlier line (WrongForm c) row
+module _ {form : Form} {order line row : List ℕ} {columns : Result Unit ℕ} (at : List ℕ) (l : LineValues (length form) order line columns row) where
+  pub judged_form : {c : ℕ} (earlier : List (List ℕ)) → columns ≡ Err c → Checks form at earlier line (WrongForm c) row
   unfolding line_finding
   judged_form {c} earlier h =
       let w = form_wrong l h in
       record { found_is = rw (w.is, ne_eqb c 0 w.some); row_is = λ e. clash cc; count = l.count; keyable = λ e. clash cc }
 
   pub judged_values : {f : LineFinding} (keys : List ℕ) (n : ℕ) → Keyed form
-      → (finding form at row ≡ found.Sound → Keyable (get_or row 0 0) (get_or row 1 0)) → columns ≡ Right → row ≡ line_values at (fields_of line)
+      → (finding form at row ≡ found.Sound → Keyable (get_or row 0 0) (get_or row 1 0)) → columns ≡ Ok tt → row ≡ line_values at (fields_of line)
       → f ≡ or_finding (finding form at row) (cond (seen_in (packed (get_or row 0 0) (get_or row 1 0)) keys n) Repeated Sound)
       → Checks form at (keys_of keys n) line f row
   unfolding line_finding

@@ -11,7 +11,6 @@ ghost use Rattle.line_finding.specs.Parts.{Keyable, packed, keys_of, seen_in, At
 
 use case::{Finding, Form, check_values};
 use line::read_values;
-use text::Columns;
 
 // What the checks of a value line find, with the column at fault.
 #[derive(Clone, Copy)]
@@ -32,30 +31,13 @@ pub fn key(station: u32, season: u32) -> u32
 }
 
 // Whether a key is among the first n of a list, none of which is above `most`: where lines stand in the order of their stations none is
-// looked through. The search does not stop at the first, so that several are compared at once.
+// looked through.
 fn seen(keys: &[u32], n: usize, most: u32, key: u32) -> bool
     requires n_in_bounds { n ≤ length keys.now }
     requires at_most { AtMost keys.now n most }
     ensures { result ≡ seen_in key keys.now n }
 {
-    if most < key {
-        return false;
-    }
-    let mut found = false;
-    let mut j: usize = 0;
-    while j < n {
-        let here = key == keys[j];
-        found = found | here;
-        j += 1;
-    }
-    found
-}
-
-// The greater of two keys.
-pub fn greater(a: u32, b: u32) -> u32
-    ensures { (a ≤ result) × (b ≤ result) }
-{
-    if a <= b { b } else { a }
+    key <= most && keys[..n].contains(&key)
 }
 
 // Refusals 5, 6 and 7 of a line's values; the list holds the keys of the n lines before, none of which is above
@@ -109,7 +91,7 @@ pub fn check_line<'a>(
     ensures { Checks (form_of form) at.now (keys_of keys.now n) line.now result row.new }
 {
     match read_values(line, order, row) {
-        Columns::Wrong(column) => LineFinding::Form(column),
-        Columns::Right => values_finding(form, at, row, keys, n, most),
+        Err(column) => LineFinding::Form(column),
+        Ok(()) => values_finding(form, at, row, keys, n, most),
     }
 }

@@ -1,5 +1,5 @@
 -- p / q at least 1, its halvings m and the base b = q · 2^m, which doubling finds: b ≤ p < 2 b.
-use Prim.Native.Nat.{ℕ, zero, suc, ◌+◌, ◌-◌, ◌*◌, ◌/◌, ◌^◌, ◌≤◌, ◌<◌}
+use Prim.Native.Nat.{ℕ, zero, suc, ◌-◌, ◌*◌, ◌/◌, ◌^◌, ◌≤◌, ◌<◌}
 use mathlib.Core.Path.{◌≡◌, refl, ap, ◌∙◌}
 use native.Mathlib.{Omega.{arith}, Nat.{mul-le-mul_right, mul-pos, mul-lt-mul_of_pos_right, pow-suc}}
 use lib.Pow.{pow_pos, pow-add}
@@ -53,34 +53,26 @@ module _ {p q : ℕ} (hq : 1 ≤ q) (h : q ≤ p) where
   unfolding base_of
   base_pos = mul-pos hq (pow_pos (halvings_of p q))
 
--- ---- by the lengths m and n of q and p in bits
+-- ---- by the logarithms m and n of q and p to base 2
 
--- a length in bits: 2^m is above x and not above 2x
-pub record Length (x m : ℕ) : Type 0 where
-  pub above : x < 2 ^ m
-  pub below : 2 ^ m ≤ 2 * x
+-- 2^m is not above x, and 2^(m+1) is
+pub record Log (x m : ℕ) : Type 0 where
+  pub low : 2 ^ m ≤ x
+  pub high : x < 2 * 2 ^ m
 
-pub length_is : {x : ℕ} (m : ℕ) → 1 ≤ x → x < 2 ^ m → 2 ^ m ≤ 2 * x + 1 → Length x m
-length_is zero h a b = absurd (omega arith)
-length_is (suc m) h a b = record { above = a; below = omega (arith, b, pow-suc 2 m) }
-
-pub length_pos : {x m : ℕ} → 1 ≤ x → Length x m → 1 ≤ m
-length_pos {m = zero} h a = absurd (omega (arith, a.above))
-length_pos {m = suc m} h a = omega arith
-
-module _ {p q m n : ℕ} (hq : 1 ≤ q) (l : q ≤ p) (a : Length q m) (b : Length p n) where
-  pub length≤ : m ≤ n
-  length≤ =
-      let s : 2 ^ m < 2 ^ suc n = omega (arith, a.below, b.above, pow-suc 2 n) in
+module _ {p q m n : ℕ} (hq : 1 ≤ q) (l : q ≤ p) (a : Log q m) (b : Log p n) where
+  pub log≤ : m ≤ n
+  log≤ =
+      let s : 2 ^ m < 2 ^ suc n = omega (arith, a.low, b.high, pow-suc 2 n) in
       let k : m < suc n = exponent_lt_inv 2 (omega arith) s in
       omega arith
 
-  -- as long as p
-  pub raised : q * 2 ^ (n - m) < 2 ^ n × (p < 2 * (q * 2 ^ (n - m)))
+  -- doubled until its logarithm is that of p
+  pub raised : q * 2 ^ (n - m) < 2 * 2 ^ n × (p < 2 * (q * 2 ^ (n - m)))
   raised =
-      let e : 2 ^ n ≡ 2 ^ m * 2 ^ (n - m) = ap (λ t. 2 ^ t) (omega (arith, length≤)) ∙ pow-add 2 m (n - m) in (
-        omega (arith, e, mul-lt-mul_of_pos_right a.above (pow_pos (n - m))),
-        omega (arith, e, b.above, mul-le-mul_right (2 ^ (n - m)) a.below),
+      let e : 2 ^ n ≡ 2 ^ m * 2 ^ (n - m) = ap (λ t. 2 ^ t) (omega (arith, log≤)) ∙ pow-add 2 m (n - m) in (
+        omega (arith, e, mul-lt-mul_of_pos_right a.high (pow_pos (n - m))),
+        omega (arith, e, b.high, mul-le-mul_right (2 ^ (n - m)) a.low),
       )
 
   -- where that is not above p
@@ -97,5 +89,5 @@ module _ {p q m n : ℕ} (hq : 1 ≤ q) (l : q ≤ p) (a : Length q m) (b : Leng
       go zero e = absurd (omega (arith, k, l, ap (λ t. q * 2 ^ t) e))
       go (suc t) e =
           let d : q * 2 ^ (n - m) ≡ 2 * (q * 2 ^ t) = rw (e, pow-suc) (omega arith) in
-          let s = halvings_known hq l t (omega (arith, d, raised.0, b.below)) (omega (arith, d, k)) in
+          let s = halvings_known hq l t (omega (arith, d, raised.0, b.low)) (omega (arith, d, k)) in
           (omega arith, (omega (arith, s), rw (s, d) (omega arith)))

@@ -2,11 +2,12 @@
 use Rattle.std.specs.Prelude.{ℕ, ◌≡◌, refl}
 use lib.{Dec.{lit≤}, IntN.{pos, negsuc}}
 use Rattle.std.proofs.Math.Decide.{dec_le}
-use Rattle.interval.specs.{Operations.{natural, minus_of}, declared.Pair.TheVariants.{Refused}}
+use Rattle.interval.specs.{Operations.{natural, minus_of}}
 use Rattle.exact.specs.{Fraction.{◌≈f◌, whole, decimal, ◌·f◌, inv, ◌÷f◌, top, choose}, Root.{greatest_below}, Logarithm.{halvings}}
 use Rattle.logarithm.specs.Series.{square_of, power_of, term_of, terms_of}
 use Rattle.logarithm.specs.Ends.{halvings_of, base_of, argument_of, doublings, near_of, end_of, up_ends, down_ends, ln_ends}
 use Rattle.logarithm.specs.Asked.{width, inside, refused, answer_of}
+use Rattle.refusal.specs.{Refused.{refuse}}
 
 ends : ℕ
 unfolding whole ◌·f◌ inv ◌÷f◌ top choose dec_le greatest_below halvings natural square_of power_of term_of terms_of halvings_of base_of argument_of
@@ -29,11 +30,11 @@ unfolding ends
 ln_mesh = refl
 
 -- both outside: the upper number comes first
-both_outside : answer_of 0 1000000000000001 ≡ Refused 5 0 1
+both_outside : answer_of 0 1000000000000001 ≡ refuse 5 0 1
 unfolding inside refused answer_of
 both_outside = refl
 
-lower_outside : answer_of 1000000000000000 1000000000000001 ≡ Refused 5 0 2
+lower_outside : answer_of 1000000000000000 1000000000000001 ≡ refuse 5 0 2
 unfolding inside refused answer_of
 lower_outside = refl
 

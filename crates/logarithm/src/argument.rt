@@ -15,7 +15,7 @@ fn halve(p: u64, q: u64) -> Halved
     requires { Inside p × (Inside q × (q ≤ p)) }
     ensures { result ≡ record { times = halvings_of p q; base = base_of p q } }
 {
-    let times = (u64::leading_zeros(q) - u64::leading_zeros(p)) as u64;
+    let times = (p.ilog2() - q.ilog2()) as u64;
     let base = q << times;
     if base <= p {
         Halved { times, base }
@@ -34,12 +34,10 @@ fn quotient(n: u64, d: u64) -> u64
 {
     let mut z: u64 = 0;
     let mut rest = n;
-    let mut i: u64 = 0;
-    while i < 3 {
+    for _i in 0..3u32 {
         let next = rest * 2048;
         z = z * 2048 + next / d;
         rest = next % d;
-        i += 1;
     }
     z
 }

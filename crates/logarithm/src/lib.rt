@@ -5,7 +5,8 @@ ghost use Rattle.std.specs.Prelude.{◌≡◌, ◌≤◌};
 ghost use Rattle.logarithm.specs.Ends.{Inside, up_ends, ln_ends};
 ghost use Rattle.logarithm.specs.Asked.{inside, Answered};
 
-use interval::{Interval, Pair};
+use interval::Interval;
+use refusal::Refused;
 
 mod argument;
 mod terms;
@@ -44,18 +45,18 @@ pub fn ln_ends(p: u64, q: u64) -> Interval
 fn is_inside(n: u64) -> bool
     ensures { result ≡ inside n }
 {
-    1 <= n && n <= MOST
+    (1..=MOST).contains(&n)
 }
 
 // ln (p/q), or the refusal of a number that is not from 1 to 10^15.
-pub fn logarithm(p: u64, q: u64) -> Pair
+pub fn logarithm(p: u64, q: u64) -> Result<Interval, Refused>
     ensures { Answered p q result }
 {
     if !is_inside(p) {
-        return Pair::Refused(REFUSED_RANGE, 0, 1);
+        return Err(Refused(REFUSED_RANGE, 0, 1));
     }
     if !is_inside(q) {
-        return Pair::Refused(REFUSED_RANGE, 0, 2);
+        return Err(Refused(REFUSED_RANGE, 0, 2));
     }
-    Pair::Ends(ln_ends(p, q))
+    Ok(ln_ends(p, q))
 }

@@ -18,12 +18,10 @@ pub fn series(z: u64) -> u64
 {
     let square = z * z / UNIT;
     let mut power = z;
-    let mut sum: u64 = 0;
-    let mut i: u64 = 0;
-    while i < 9 {
+    let mut sum = 0;
+    for i in 0..9 {
         sum += 2 * power / (2 * i + 1);
         power = power * square / UNIT;
-        i += 1;
     }
     sum
 }

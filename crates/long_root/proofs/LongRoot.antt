@@ -1,15 +1,14 @@
 -- A root by decimal digits: its start, one digit more, and what keeps it within 64 bits.
-use Prim.Native.Nat.{ℕ, ◌+◌, ◌-◌, ◌*◌, ◌/◌, ◌^◌, ◌≤◌, ◌<◌}
-use mathlib.Core.Path.{◌≡◌}
-use native.Mathlib.{Omega.{arith}, Decide.{dec_le, dec_lt}}
-use native.Mathlib.Nat.{lt_of_le_of_lt, mul-le-mul, mul-le-mul_right, div-mul-le_self, lt-div-mul-add}
+use Prim.Native.Nat.{ℕ, ◌+◌, ◌-◌, ◌*◌, ◌/◌, ◌≤◌, ◌<◌}
+use native.Mathlib.{Omega.{arith}, Decide.{dec_le}}
+use native.Mathlib.Nat.{mul-le-mul, mul-le-mul_right, div-mul-le_self, lt-div-mul-add}
 use Rattle.interval.specs.Root.{IsRoot}
 use Rattle.long_root.specs.{declared.Root.{Root}, LongRoot.{Squares, radicand, Greatest, Room, Appended, Begun, DigitRoom, IsDigit}}
 
 -- ---- the start
 
 module _ {grid injected u : ℕ} (s : Squares grid injected) (r : IsRoot (grid / injected) u) where
-  pub begun_low : u * u * injected ≤ grid
+  begun_low : u * u * injected ≤ grid
   begun_low = omega (arith, mul-le-mul_right injected r.low, div-mul-le_self grid injected)
 
   begun_high : grid < (u + 1) * (u + 1) * injected
@@ -20,25 +19,6 @@ module _ {grid injected u : ℕ} (s : Squares grid injected) (r : IsRoot (grid /
   pub begun : Begun grid injected (record { whole = u; rest = grid - u * u * injected })
   unfolding radicand Greatest
   begun = record { greatest = omega (arith, begun_low, begun_high); of_grid = omega (arith, begun_low) }
-
--- ---- the search for a digit
-
-module _ {w r i : ℕ} (h : DigitRoom w r i) where
-  pub digit_more : (d : ℕ) → d < 10 → (20 * w + (d + 1)) * (d + 1) * i ≤ r → d + 1 < 10
-  digit_more d l k = go (dec_lt (d + 1) 10)
-    where
-      go : Dec (d + 1 < 10) → d + 1 < 10
-      go (yes m) = m
-      go (no m) =
-          let e : d + 1 ≡ 10 = omega arith in
-          let t : (20 * w + 10) * 10 * i ≤ r = rw e at k in
-          absurd (omega (arith, h.ten))
-
-  pub digit_fits : (d : ℕ) → d < 10 → (20 * w + (d + 1)) * (d + 1) * i < 2 ^ 63
-  digit_fits d l =
-      let a : 20 * w + (d + 1) ≤ 20 * w + 10 = omega arith in
-      let b : d + 1 ≤ 10 = omega arith in
-      lt_of_le_of_lt (mul-le-mul_right i (mul-le-mul a b)) h.fits
 
 -- ---- how large a root grows
 
@@ -77,10 +57,3 @@ module _ {injected : ℕ} {r : Root} (h : Room injected r) where
     pub appended : Appended injected r (record { whole = 10 * r.whole + d; rest = 100 * r.rest - (20 * r.whole + d) * d * injected })
     unfolding radicand Greatest
     appended = record { greatest = omega (arith, k.low, k.high); more = omega (arith, k.low) }
-
--- ---- up to two digits have room for one more
-
-pub room : {grid injected : ℕ} {r : Root} → Squares grid injected → Greatest injected r → (k : ℕ) → k ≤ 10000
-    → radicand injected r ≡ k * grid → Room injected r
-room s g k h e =
-    record { greatest = g; some = s.some; most = s.most; product = rw e (mul-le-mul (mul-le-mul h s.grid_most) s.most) }

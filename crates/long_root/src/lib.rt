@@ -31,11 +31,12 @@ fn digit(whole: u64, rest: u64, injected: u64) -> u64
     requires { DigitRoom whole rest injected }
     ensures { IsDigit whole rest injected result }
 {
-    let mut d: u64 = 0;
-    while (20 * whole + (d + 1)) * (d + 1) * injected <= rest {
-        d += 1;
+    for d in 1..10 {
+        if rest < (20 * whole + d) * d * injected {
+            return d - 1;
+        }
     }
-    d
+    9
 }
 
 // One digit more.

@@ -1,6 +1,7 @@
 -- The margins of a case's row are right.
 use mathlib.Core.Path.{◌≡◌, refl, ◌∙◌}
 use lib.{IntN.{ℤ, pos}, Signed.{◌≤ℤ◌}}
+use Rattle.std.specs.Prelude.{Some}
 use Rattle.whole.proofs.Choice.{pos≤, le_pos}
 use Rattle.case.specs.{declared.Case.{Case}, Bounds.{Bounds}}
 use Rattle.formulas.proofs.Consistent.{consistent_touch, consistent_tolerable_step, consistent_mesh, consistent_step}
@@ -11,8 +12,7 @@ use Rattle.step.specs.Ends.{step_voltage_ends}
 use Rattle.step.proofs.Enclosed as S
 use Rattle.mesh.{specs.Ends.{mesh_ends}, proofs.Enclosed.{mesh_encloses}}
 use Rattle.row.specs.{Row.{numbers}, Ends.{case_verdict, row_of}}
-use Rattle.margin.specs.{declared.Compared.TheVariants.{Margins}, Margin.{margin, four_margins, margins_of}}
-use Rattle.margin.specs.Meaning.{RightMargins, Right}
+use Rattle.margin.specs.{Margin.{margin, four_margins, margins_of}, Meaning.{RightMargins, Right}}
 use Rattle.margin.proofs.{Voltages.{Voltages}, Least.{at_most_zero, zero_at_most}, Share.{share_below}}
 use Rattle.margin.proofs.RowVoltages.{mesh_voltages, step_voltages, voltages_comparable}
 
@@ -42,7 +42,7 @@ module _ {c : Case} (b : Bounds c) where
   unfolding margins_of numbers row_of
   row_compared = refl
 
-  row_margins : margins_of (numbers (row_of c)) ≡ Margins mesh step
+  row_margins : margins_of (numbers (row_of c)) ≡ Some (mesh, step)
   unfolding four_margins mesh step margin_of
   row_margins =
       row_compared

@@ -1,8 +1,8 @@
 -- Margins (§6.5) computed by hand.
 use mathlib.Core.{Path.{◌≡◌, refl}, List.{List, [], ◌∷◌}}
-use Rattle.std.specs.Prelude.{ℤ, pos, negsuc}
+use Rattle.std.specs.Prelude.{ℤ, pos, negsuc, Some, None}
 use Rattle.whole.specs.Whole.{ceil_div}
-use Rattle.margin.specs.{declared.Compared.TheVariants.{Margins, None}, Margin.{margin, in_range, comparable, four_margins, margins_of}}
+use Rattle.margin.specs.Margin.{margin, in_range, comparable, four_margins, margins_of}
 
 -- the sample (§3.3), seasons 1 and 2: 22.3 percent above and 68.2 below; then at the limit, one mV above it, one below, nothing, twice as
 -- much
@@ -22,6 +22,6 @@ sample =
 -- its margins; none of numbers that are not twenty, of a tolerable voltage of 0, of a voltage below 0
 pub of_a_row : margins_of sample ∷ margins_of (pos 7 ∷ sample) ∷ four_margins (pos 1) (pos 0) (pos 1) (pos 1)
     ∷ four_margins (pos 1) (pos 1) (negsuc 0) (pos 1) ∷ []
-    ≡ Margins (pos 223) (negsuc 766) ∷ None ∷ None ∷ None ∷ []
+    ≡ Some (pos 223, negsuc 766) ∷ None ∷ None ∷ None ∷ []
 unfolding margins_of four_margins comparable in_range margin ceil_div
 of_a_row = refl

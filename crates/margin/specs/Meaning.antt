@@ -1,5 +1,5 @@
 -- §6.5: what the margins of a case's row say of the exact values and of the verdict.
-use Rattle.std.specs.Prelude.{ℕ, ◌+◌, ◌*◌, ◌≤◌, ◌<◌, ◌≡◌}
+use Rattle.std.specs.Prelude.{ℕ, ◌+◌, ◌*◌, ◌≤◌, ◌<◌, ◌≡◌, Option, Some, None}
 use Rattle.std.proofs.Common.{zero-lt-suc}
 use lib.{IntN.{ℤ, pos}, Signed.{◌≤ℤ◌}}
 use Rattle.whole.specs.Signed.{plus, minus}
@@ -10,7 +10,7 @@ use Rattle.formulas.specs.Mesh as Mesh
 use Rattle.formulas.specs.Step as Step
 use Rattle.decision.specs.declared.Verdict.TheVariants.{Safe}
 use Rattle.row.specs.Ends.{case_verdict}
-use Rattle.margin.specs.{declared.Compared.{Compared, TheVariants.{Margins, None}}, Margin.{whole}}
+use Rattle.margin.specs.Margin.{whole}
 
 -- the smallest whole number m with 1000·voltage ≤ (1000 + m)·tolerable
 pub record IsMargin (voltage tolerable : ℕ) (m : ℤ) : Type 0 where
@@ -29,6 +29,6 @@ pub record RightMargins (c : Case) (mesh step : ℤ) : Type 0 where
   pub both_safe : mesh ≤ℤ pos 0 → step ≤ℤ pos 0 → case_verdict c ≡ Safe
 
 -- a case's row has margins
-unfoldable pub Right : Case → Compared → Type 0
-Right c (Margins mesh step) = RightMargins c mesh step
+unfoldable pub Right : Case → Option (ℤ × ℤ) → Type 0
+Right c (Some (mesh, step)) = RightMargins c mesh step
 Right c None = ⊥

@@ -8,14 +8,6 @@ ghost use Rattle.margin.specs.Margin.{in_range, comparable as comparable_ends, m
 use row::{MESH_UPPER, ROW_LENGTH, STEP_UPPER, TOLERABLE_STEP_LOWER, TOLERABLE_TOUCH_LOWER};
 use whole::wide;
 
-// Mesh voltage above tolerable touch, then step voltage above tolerable step, in tenths of a percent of what is tolerable and below it as a
-// negative number; or None, which no row has.
-#[derive(Clone, Copy)]
-pub enum Compared {
-    Margins(i64, i64),
-    None,
-}
-
 // In mV; no row has so many.
 const MOST: i64 = 1000000000000000;
 
@@ -45,19 +37,20 @@ fn margin(voltage: i64, tolerable: i64) -> i64
 }
 
 // Mesh voltage against tolerable touch, step voltage against tolerable step.
-fn compare(mesh: i64, tolerable_touch: i64, step: i64, tolerable_step: i64) -> Compared
+fn compare(mesh: i64, tolerable_touch: i64, step: i64, tolerable_step: i64) -> Option<(i64, i64)>
     ensures { result ≡ four_margins mesh tolerable_touch step tolerable_step }
 {
     if comparable(mesh, tolerable_touch) {
         if comparable(step, tolerable_step) {
-            return Compared::Margins(margin(mesh, tolerable_touch), margin(step, tolerable_step));
+            return Some((margin(mesh, tolerable_touch), margin(step, tolerable_step)));
         }
     }
-    Compared::None
+    None
 }
 
-// The margins of a row of the table.
-pub fn margins(row: &[i64]) -> Compared
+// The margins of a row of the table: mesh voltage above tolerable touch, then step voltage above tolerable step, in tenths of a percent of
+// what is tolerable and below it as a negative number. No row has None.
+pub fn margins(row: &[i64]) -> Option<(i64, i64)>
     ensures { result ≡ margins_of row.now }
 {
     if row.len() == ROW_LENGTH {
@@ -68,5 +61,5 @@ pub fn margins(row: &[i64]) -> Compared
             row[TOLERABLE_STEP_LOWER],
         );
     }
-    Compared::None
+    None
 }

@@ -6,37 +6,38 @@ use mathlib.Core.{Bool.{cond}, List.{List, []}}
 use lib.{Dec.{eqb, ltb}, ListN.{length, get_or}}
 use Rattle.text.specs.Text.{fields_of}
 use Rattle.case.specs.{declared.Case.{Case}, Columns.{columns, name_count}}
-use Rattle.case.specs.declared.Counted.{Counted, TheVariants.{Count}}
 use Rattle.header.specs.Header.{no_columns, wrong_name, columns_of}
 use Rattle.line.specs.Line.{wrong_form, line_case}
 use Rattle.line_finding.specs.declared.LineFinding.TheVariants.{Sound, Form}
 use Rattle.judgement.specs.Limits.{Limits, today, most_bytes}
 use Rattle.judgement.specs.Refusal.{text_refused, name_refused, no_line_refused, many_lines_refused, line_judgement}
 use Rattle.judgement.specs.Sheet.{names, value_lines, bad_text}
+use Rattle.std.specs.Prelude.{Result, Ok}
+use Rattle.refusal.specs.{declared.Refused.{Refused}}
 
 -- today's bytes and one value line: a second is refused with 4 at line 3
 abbrev pub one_line : Limits
 one_line = record { bytes = most_bytes; lines = 1 }
 
 -- 3 of the value line, whose line is 2
-unfoldable pub fields_judged : ℕ → Counted
-fields_judged wrong = line_judgement 2 (Count 1) (cond (eqb wrong 0) Sound (Form wrong))
+unfoldable pub fields_judged : ℕ → Result (Unit {0}) Refused
+fields_judged wrong = line_judgement 2 (Ok tt) (cond (eqb wrong 0) Sound (Form wrong))
 
 -- 4, then the value line
-unfoldable pub values_judged : List (List ℕ) → Counted
+unfoldable pub values_judged : List (List ℕ) → Result (Unit {0}) Refused
 values_judged lines =
     cond (eqb (length lines) 0) no_line_refused
     (cond (ltb one_line.lines (length lines)) (many_lines_refused one_line)
     (fields_judged (wrong_form name_count 1 (fields_of (get_or lines 0 [])))))
 
 -- 2, then the value lines
-unfoldable pub names_judged : List ℕ → Counted
+unfoldable pub names_judged : List ℕ → Result (Unit {0}) Refused
 names_judged s =
     cond (eqb (wrong_name columns 1 (no_columns columns) (names s)) 0) (values_judged (value_lines s))
     (name_refused (wrong_name columns 1 (no_columns columns) (names s)))
 
 -- 1, then the names
-unfoldable pub sheet_judged : List ℕ → Counted
+unfoldable pub sheet_judged : List ℕ → Result (Unit {0}) Refused
 sheet_judged s = cond (bad_text today s) text_refused (names_judged s)
 
 -- the case of the first value line

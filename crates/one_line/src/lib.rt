@@ -6,16 +6,15 @@ mod reading;
 
 ghost use Rattle.one_line.specs.Answer.{SheetFewest};
 
-use case::{Counted, NAMES, case_of};
+use case::{NAMES, case_of};
 use reading::read_one;
+use refusal::Refused;
 use yards::{FewestLines, fewest_lines};
 
-pub fn fewest_of_sheet(s: &[u8], side: u32) -> FewestLines
+pub fn fewest_of_sheet(s: &[u8], side: u32) -> Result<FewestLines, Refused>
     ensures { SheetFewest s.now side result }
 {
     let mut values = [0u32; NAMES];
-    match read_one(s, &mut values) {
-        Counted::Count(_) => fewest_lines(case_of(&values), side),
-        Counted::Refused(number, line, column) => FewestLines::Refused(number, line, column),
-    }
+    read_one(s, &mut values)?;
+    fewest_lines(case_of(&values), side)
 }

@@ -1,98 +1,94 @@
 // The end of a line: the answer to its question.
 use gate::{bytes, number, numbers, refused};
-use hocsimbur::{FewestLines, Interval, Pair, Room, Row, RowAnswer, SizeAnswer, Tolerable, Worked};
+use hocsimbur::{FewestLines, Interval, Quantities, Refused, Row, TouchAndStep};
 
 // A number that the rules settle.
-pub fn settled(rt: &impl Print, answer: SizeAnswer) {
+pub fn settled(rt: &impl Print, answer: Result<u64, Refused>) {
     match answer {
-        SizeAnswer::Is(n) => {
+        Ok(n) => {
             number(rt, n);
             bytes(rt, b"\n");
         }
-        SizeAnswer::Refused(why, line, column) => refused(rt, why, line, column),
+        Err(Refused(why, line, column)) => refused(rt, why, line, column),
     }
 }
 
 fn both(rt: &impl Print, pair: Interval) {
-    let ends = [pair.lower, pair.upper];
-    numbers(rt, &ends);
+    numbers(rt, &[pair.lower, pair.upper]);
 }
 
 // A pair of ends.
-pub fn ends(rt: &impl Print, answer: Pair) {
+pub fn ends(rt: &impl Print, answer: Result<Interval, Refused>) {
     match answer {
-        Pair::Ends(pair) => both(rt, pair),
-        Pair::Refused(why, line, column) => refused(rt, why, line, column),
+        Ok(pair) => both(rt, pair),
+        Err(Refused(why, line, column)) => refused(rt, why, line, column),
     }
 }
 
 fn four(rt: &impl Print, touch: Interval, step: Interval) {
-    let ends = [touch.lower, touch.upper, step.lower, step.upper];
-    numbers(rt, &ends);
+    numbers(rt, &[touch.lower, touch.upper, step.lower, step.upper]);
 }
 
 // The ends of tolerable touch and step.
-pub fn voltages(rt: &impl Print, answer: Tolerable) {
+pub fn voltages(rt: &impl Print, answer: Result<TouchAndStep, Refused>) {
     match answer {
-        Tolerable::Ends(touch, step) => four(rt, touch, step),
-        Tolerable::Refused(why, line, column) => refused(rt, why, line, column),
+        Ok(limits) => four(rt, limits.touch, limits.step),
+        Err(Refused(why, line, column)) => refused(rt, why, line, column),
     }
 }
 
 fn whole(rt: &impl Print, row: Row) {
-    let all = hocsimbur::row_numbers(row);
-    numbers(rt, &all);
+    numbers(rt, &hocsimbur::row_numbers(row));
 }
 
 // A row.
-pub fn row_numbers(rt: &impl Print, answer: RowAnswer) {
+pub fn row_numbers(rt: &impl Print, answer: Result<Row, Refused>) {
     match answer {
-        RowAnswer::Is(row) => whole(rt, row),
-        RowAnswer::Refused(why, line, column) => refused(rt, why, line, column),
+        Ok(row) => whole(rt, row),
+        Err(Refused(why, line, column)) => refused(rt, why, line, column),
     }
 }
 
 // The greatest safe fault current.
-pub fn room(rt: &impl Print, answer: Room) {
+pub fn room(rt: &impl Print, answer: Result<Option<u32>, Refused>) {
     match answer {
-        Room::UpTo(fault) => {
+        Ok(Some(fault)) => {
             number(rt, fault as u64);
             bytes(rt, b"\n");
         }
-        Room::None => bytes(rt, b"none\n"),
-        Room::Refused(why, line, column) => refused(rt, why, line, column),
+        Ok(None) => bytes(rt, b"none\n"),
+        Err(Refused(why, line, column)) => refused(rt, why, line, column),
     }
 }
 
 // The working of a case.
-pub fn quantities(rt: &impl Print, answer: Worked) {
+pub fn quantities(rt: &impl Print, answer: Result<Quantities, Refused>) {
     match answer {
-        Worked::Is(w) => {
+        Ok(w) => {
             let ends = hocsimbur::working_numbers(w);
             numbers(rt, &ends);
         }
-        Worked::Refused(why, line, column) => refused(rt, why, line, column),
+        Err(Refused(why, line, column)) => refused(rt, why, line, column),
     }
 }
 
 // Numbers with commas between them.
 fn three(rt: &impl Print, lines: u32, rods: u32, tried: u32) {
-    let all = [lines as i64, rods as i64, tried as i64];
-    numbers(rt, &all);
+    let _ = println!(rt; "{lines},{rods},{tried}");
 }
 
 // The first safe yard of a search: lines, rods and yards tried; or how many yards were tried, none of them safe.
-pub fn found(rt: &impl Print, answer: FewestLines) {
+pub fn found(rt: &impl Print, answer: Result<FewestLines, Refused>) {
     match answer {
-        FewestLines::Found(lines, rods, tried) => {
+        Ok(FewestLines::Found(lines, rods, tried)) => {
             bytes(rt, b"found,");
             three(rt, lines, rods, tried);
         }
-        FewestLines::None(tried) => {
+        Ok(FewestLines::None(tried)) => {
             bytes(rt, b"none,");
             number(rt, tried as u64);
             bytes(rt, b"\n");
         }
-        FewestLines::Refused(why, line, column) => refused(rt, why, line, column),
+        Err(Refused(why, line, column)) => refused(rt, why, line, column),
     }
 }

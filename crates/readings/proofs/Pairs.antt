@@ -1,8 +1,9 @@
 -- The pairs of a list of numbers: how many, and which numbers each has.
 use Prim.Native.Nat.{ℕ, zero, suc, ◌+◌, ◌*◌, ◌/◌, ◌<◌}
-use mathlib.Core.{Path.{◌≡◌, refl}, List.{List, [], ◌∷◌}}
+use mathlib.Core.{Path.{◌≡◌, refl}, List.{List, [], ◌∷◌, map}}
 use native.Mathlib.Omega.{arith}
 use lib.ListN.{length, get_or, drop}
+use Rattle.std.specs.Simd.{first_chunks}
 use Rattle.readings.specs.Reading.{Reading, pairs_of}
 
 pub pair_count : (s : List ℕ) → length (pairs_of s) ≡ length s / 2
@@ -24,3 +25,16 @@ pairs_at (a ∷ R ∷ s) (suc k) h =
     let e : 2 * suc k ≡ suc (suc (2 * k)) = omega arith in
     let f : 2 * suc k + 1 ≡ suc (suc (2 * k + 1)) = omega arith in
     rw (f, e) (pairs_at s k (omega arith))
+
+-- the two numbers of a pair
+abbrev pub numbers : Reading → List ℕ
+numbers p = p.distance ∷ p.resistance ∷ []
+
+-- the list two by two
+pub chunks_are : (s : List ℕ) (n : ℕ) → n ≡ length s / 2 → first_chunks 2 n s ≡ map numbers (pairs_of s)
+unfolding pairs_of
+chunks_are [] n e = rw e
+chunks_are (a ∷ []) n e = rw e
+chunks_are (a ∷ R ∷ s) n e =
+    let m : n ≡ suc (length s / 2) = omega arith in
+    rw (m, chunks_are s (length s / 2) refl)

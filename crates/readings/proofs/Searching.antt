@@ -1,44 +1,34 @@
--- The search for the first pair with a number out of range: what holds while the first k pairs have none.
-use Prim.Native.Nat.{ℕ, ◌+◌, ◌-◌, ◌*◌, ◌/◌, ◌≤◌, ◌<◌}
-use mathlib.Core.{Path.{◌≡◌, refl, sym, ◌∙◌}, Bool.{true, false}, List.{List}, Logic.{◌⊎◌, inl, inr}}
-use native.Mathlib.{Numerals.{add-one}, Omega.{arith}, Nat.{eq-or-lt_of_le}}
-use borrow.Author.Tests.{eq-eqb, ne_eqb}
-use lib.ListN.{length, get_or, drop, drop_of_length-le}
-use Rattle.readings.specs.{declared.outside.{Range.{Range}, Found.TheVariants.{At, Nothing}}, Reading.{pairs_of}, Limits.{in_range}}
+-- The search for the first pair with a number out of range, among the numbers two by two.
+use Prim.Native.Nat.{ℕ, suc, ◌+◌, ◌-◌, ◌≤◌, ◌<◌}
+use mathlib.Core.{Path.{◌≡◌, refl}, Bool.{Bool, not, cond}, List.{List, [], ◌∷◌, map}, Logic.{◌⊎◌, inl, inr}}
+use native.Mathlib.{Omega.{arith}, Nat.{eq-or-lt_of_le}}
+use Rattle.std.proofs.Common.{position, slice_index, nat_lt}
+use Rattle.std.specs.{Option.{option_map}, Prelude.{Option, Some, None}}
+use Rattle.readings.specs.{declared.outside.Range.{Range}, Reading.{Reading}, Limits.{in_range}}
 use Rattle.readings.specs.Refusal.{number_in, first_outside}
-use Rattle.readings.proofs.Pairs.{pair_count, pair_at, pairs_at}
+use Rattle.readings.proofs.Pairs.{numbers}
 
--- the number in a column of pair k
-pub number_is : (s : List ℕ) (k column : ℕ) → 1 ≤ column → column ≤ 2 → get_or s (2 * k + (column - 1)) 0 ≡ number_in column (pair_at s k)
-unfolding number_in
-number_is s k column h l = go (eq-or-lt_of_le h)
-  where
-    go : (1 ≡ column) ⊎ (1 < column) → get_or s (2 * k + (column - 1)) 0 ≡ number_in column (pair_at s k)
-    go (inl e) =
-        let i : 2 * k + (column - 1) ≡ 2 * k = omega arith in
-        rw (i, eq-eqb column 1 (sym e))
-    go (inr m) =
-        let i : 2 * k + (column - 1) ≡ 2 * k + 1 = omega arith in
-        rw (i, ne_eqb column 1 (λ e. omega arith))
+-- what the code tests of two numbers
+abbrev pub outside : Range → ℕ → List ℕ → Bool
+outside range column pair = not (in_range range (slice_index pair (column - 1)))
 
-pub record Searching (range : Range) (column : ℕ) (s : List ℕ) (k : ℕ) : Type 0 where
-  pub passed : first_outside range column 1 (pairs_of s) ≡ first_outside range column (k + 1) (drop k (pairs_of s))
+-- one pair before the others, of which p pass
+one_more : (inside : Bool) (p n place : ℕ) {found : Option ℕ} → option_map (λ k. k + suc place) (cond (nat_lt p n) (Some p) None) ≡ found
+    → let q = cond (not (not inside)) (1 + p) 0 in
+    option_map (λ k. k + place) (cond (nat_lt q (suc n)) (Some q) None) ≡ cond inside found (Some place)
+one_more inside p n place e = grind arith
 
-pub searching_start : (range : Range) (column : ℕ) (s : List ℕ) → Searching range column s 0
-searching_start range column s = record { passed = refl }
+module _ (range : Range) (column : ℕ) (h : 1 ≤ column) (l : column ≤ 2) where
+  number_is : (p : Reading) → slice_index (numbers p) (column - 1) ≡ number_in column p
+  unfolding number_in
+  number_is p = go (eq-or-lt_of_le h)
+    where
+      go : (1 ≡ column) ⊎ (1 < column) → slice_index (numbers p) (column - 1) ≡ number_in column p
+      go (inl e) = rw (← e)
+      go (inr m) = let e : column ≡ 2 = omega arith in rw e
 
-module _ {range : Range} {column : ℕ} {s : List ℕ} {k : ℕ} (a : Searching range column s k) where
-  pub searching_found : k < length s / 2 → in_range range (number_in column (pair_at s k)) ≡ false
-      → At (k + 1) ≡ first_outside range column 1 (pairs_of s)
+  pub found_at : (ps : List Reading) (place : ℕ)
+      → option_map (λ k. k + place) (position (outside range column) (map numbers ps)) ≡ first_outside range column place ps
   unfolding first_outside
-  searching_found h e = sym (a.passed ∙ rw (pairs_at s k h, e))
-
-  pub searching_step : k < length s / 2 → in_range range (number_in column (pair_at s k)) ≡ true → Searching range column s (k + 1)
-  unfolding first_outside
-  searching_step h e = record { passed = a.passed ∙ rw (pairs_at s k h, e, add-one (k + 1), add-one k) }
-
-  pub searching_end : length s / 2 ≤ k → Nothing ≡ first_outside range column 1 (pairs_of s)
-  unfolding first_outside
-  searching_end h =
-      let l : length (pairs_of s) ≤ k = omega (arith, pair_count s) in
-      sym (a.passed ∙ rw (drop_of_length-le (pairs_of s) l))
+  found_at [] place = refl
+  found_at (p ∷ ps) place = rw (← number_is p) (one_more _ _ _ place (found_at ps (suc place)))

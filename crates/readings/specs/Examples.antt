@@ -9,9 +9,11 @@ use Rattle.exact.specs.Fraction.{◌≈f◌, whole, decimal, ◌+f◌, neg, ◌�
 use Rattle.exact.specs.Ends.{least as least_of, greatest as greatest_of, combine, ◌+e◌, ◌−e◌, ◌·e◌, ◌÷e◌}
 use Rattle.exact.specs.{Exact.{exactly, ◌+x◌, ◌−x◌, ◌·x◌, ◌÷x◌}, Pi.{alternating, arctan_term, arctan_over, π}, Depth.{Within}}
 use Rattle.exact.specs.Reported.{ten, over, reported}
-use Rattle.readings.specs.{declared.{Report.{Report}, Sounding.TheVariants.{Soil, Refused}}, Reading.{Reading, pairs_of}}
+use Rattle.readings.specs.{declared.{Report.{Report}}, Reading.{Reading, pairs_of}}
 use Rattle.readings.specs.{Limits.{in_range}, Resistivity.{apparent, lesser, greater, together, least, greatest, mean}}
 use Rattle.readings.specs.{Refusal.{sound_count, number_in, first_outside, refused_at, judged, answer_of}, Report.{μΩm, width, soil_of}}
+use Rattle.std.specs.Prelude.{Ok}
+use Rattle.refusal.specs.{Refused.{refuse}}
 
 -- 1 m and 10 Ω, 2 m and 3 Ω, 3 m and 1 Ω: 2π times 10, 6 and 3 Ω·m
 three : List Reading
@@ -66,24 +68,24 @@ counts = refl
 
 module _ (report : List Reading → Report) where
   -- both ends of both ranges
-  extreme_pairs : answer_of report (500 ∷ 1 ∷ 50000 ∷ 1000000 ∷ []) ≡ Soil (report (pairs_of (500 ∷ 1 ∷ 50000 ∷ 1000000 ∷ [])))
+  extreme_pairs : answer_of report (500 ∷ 1 ∷ 50000 ∷ 1000000 ∷ []) ≡ Ok (report (pairs_of (500 ∷ 1 ∷ 50000 ∷ 1000000 ∷ [])))
   unfolding answers
   extreme_pairs = refl
 
-  no_numbers : answer_of report [] ≡ Refused 12 0 0
+  no_numbers : answer_of report [] ≡ refuse 12 0 0
   unfolding answers
   no_numbers = refl
 
   -- an odd count comes before a distance out of range
-  three_numbers : answer_of report (499 ∷ 1 ∷ 500 ∷ []) ≡ Refused 12 0 0
+  three_numbers : answer_of report (499 ∷ 1 ∷ 500 ∷ []) ≡ refuse 12 0 0
   unfolding answers
   three_numbers = refl
 
   -- a distance in pair 2 comes before a resistance in pair 1
-  distance_first : answer_of report (500 ∷ 0 ∷ 499 ∷ 1 ∷ []) ≡ Refused 13 2 1
+  distance_first : answer_of report (500 ∷ 0 ∷ 499 ∷ 1 ∷ []) ≡ refuse 13 2 1
   unfolding answers
   distance_first = refl
 
-  resistance_second : answer_of report (500 ∷ 1 ∷ 50000 ∷ 1000001 ∷ []) ≡ Refused 14 2 2
+  resistance_second : answer_of report (500 ∷ 1 ∷ 50000 ∷ 1000001 ∷ []) ≡ refuse 14 2 2
   unfolding answers
   resistance_second = refl

@@ -14,8 +14,9 @@ ghost use Rattle.readings.specs.Report.{soil_of};
 ghost use Rattle.readings.specs.Answer.{Answered};
 
 use interval::Interval;
-use outside::{Found, Range, first_outside};
+use outside::{Range, first_outside};
 use products::gather;
+use refusal::Refused;
 
 // Pairs of ends in micro-ohm metres, and the soil column in ohm metres.
 #[derive(Clone, Copy)]
@@ -24,13 +25,6 @@ pub struct Report {
     pub greatest: Interval,
     pub mean: Interval,
     pub soil: u32,
-}
-
-// The report, or a refusal with number, line and column.
-#[derive(Clone, Copy)]
-pub enum Sounding {
-    Soil(Report),
-    Refused(u32, usize, usize),
 }
 
 // The most numbers of a list.
@@ -85,7 +79,7 @@ fn whole(mean: Interval) -> u32
     requires { Span mean 0 most_mean most_mean }
     ensures { result ≡ soil_of mean }
 {
-    (((mean.upper as u64) + (MICRO - 1)) / MICRO) as u32
+    (mean.upper as u64).div_ceil(MICRO) as u32
 }
 
 fn work_report(readings: &[u32]) -> Report
@@ -106,29 +100,23 @@ fn work_report(readings: &[u32]) -> Report
 fn sound_count(n: usize) -> bool
     ensures { result ≡ sound_count n }
 {
-    if n < 1 {
-        return false;
-    }
-    if n % 2 != 0 {
-        return false;
-    }
-    n <= NUMBERS
+    n % 2 == 0 && (1..=NUMBERS).contains(&n)
 }
 
 // The report on a list of readings, a distance in mm and a resistance in milliohms in turn.
-pub fn soil(readings: &[u32]) -> Sounding
+pub fn soil(readings: &[u32]) -> Result<Report, Refused>
     ensures { Answered readings.now result }
 {
     if !sound_count(readings.len()) {
-        return Sounding::Refused(REFUSED_READINGS, 0, 0);
+        return Err(Refused(REFUSED_READINGS, 0, 0));
     }
     let distance = first_outside(readings, 1, DISTANCES);
-    if let Found::At(line) = distance {
-        return Sounding::Refused(REFUSED_DISTANCE, line, 1);
+    if let Some(line) = distance {
+        return Err(Refused(REFUSED_DISTANCE, line, 1));
     }
     let resistance = first_outside(readings, 2, RESISTANCES);
-    if let Found::At(line) = resistance {
-        return Sounding::Refused(REFUSED_RESISTANCE, line, 2);
+    if let Some(line) = resistance {
+        return Err(Refused(REFUSED_RESISTANCE, line, 2));
     }
-    Sounding::Soil(work_report(readings))
+    Ok(work_report(readings))
 }

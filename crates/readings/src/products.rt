@@ -1,5 +1,5 @@
 // The least, the greatest and the sum of a·R over all pairs.
-ghost use Rattle.std.specs.Prelude.{◌≡◌, ◌+◌, ◌<◌, ◌^◌, min, max};
+ghost use Rattle.std.specs.Prelude.{◌≡◌, ◌+◌, ◌<◌, ◌^◌};
 ghost use Rattle.readings.specs.Reading.{pairs_of};
 ghost use Rattle.readings.specs.Taken.{Taken};
 ghost use Rattle.readings.specs.Ends.{with_product, products_of};
@@ -12,31 +12,18 @@ pub struct Products {
     pub total: u64,
 }
 
-fn lesser(a: u64, b: u64) -> u64
-    ensures { result ≡ min a b }
-{
-    if a <= b { a } else { b }
-}
-
-fn greater(a: u64, b: u64) -> u64
-    ensures { result ≡ max a b }
-{
-    if a <= b { b } else { a }
-}
-
 // With s, the a·R of one pair more.
 fn with(s: u64, t: Products) -> Products
     requires { s + t.total < 2 ^ 63 }
     ensures { result ≡ with_product s t }
 {
     Products {
-        least: lesser(s, t.least),
-        greatest: greater(s, t.greatest),
+        least: s.min(t.least),
+        greatest: s.max(t.greatest),
         total: s + t.total,
     }
 }
 
-// From the last pair to the first.
 pub fn gather(readings: &[u32]) -> Products
     requires { Taken readings.now }
     ensures { result ≡ products_of (pairs_of readings.now) }
@@ -46,12 +33,9 @@ pub fn gather(readings: &[u32]) -> Products
         greatest: 0,
         total: 0,
     };
-    let mut k = readings.len() / 2;
-    while 0 < k {
-        k -= 1;
-        let a = readings[2 * k] as u64;
-        let r = readings[2 * k + 1] as u64;
-        t = with(a * r, t);
+    let (pairs, _) = readings.as_chunks::<2>();
+    for [a, r] in pairs {
+        t = with(*a as u64 * *r as u64, t);
     }
     t
 }

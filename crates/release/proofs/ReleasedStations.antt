@@ -7,7 +7,6 @@ use lib.{Dec.{eqb}, IntN.{ℤ, pos, nat_abs}, ListN.{length, get_or}}
 use borrow.Author.Tests.{eqb-true, eq-eqb}
 use Rattle.tables.specs.Parts.{part_at}
 use Rattle.case.specs.declared.Case.{Case}
-use Rattle.case.specs.declared.Counted.TheVariants.{Count}
 use Rattle.sheet.specs.Answer.{cases}
 use Rattle.release.specs.Licence.{entries_of}
 use Rattle.release.specs.{Entry.{entry_length, numbers_of, station_numbers, release_of}, Answer.{Filled, TableAfter, ReleaseAnswered}}
@@ -17,6 +16,7 @@ use Rattle.tally.specs.Lines.{lines_of, count_of, missing, answered_unsafe, answ
 use Rattle.tally.specs.Tally.{released, EveryBounds}
 use Rattle.release.proofs.{Tables.{release_count, release_at}, CountedEntries.{EntriesCounted, entries_counted, cases_bounds}}
 use Rattle.release.proofs.StationMeaning.{station_released, fault_reported}
+use Rattle.std.specs.Prelude.{Ok}
 
 -- ---- the numbers in the table
 
@@ -43,7 +43,7 @@ choice {z} a b c d e h = go (eqb (a + b + c + d + e) 0) h
 zero_is : {a : ℕ} → pos a ≡ pos 0 → a ≡ 0
 zero_is e = cc
 
-module _ {s licence : List ℕ} {before after : List ℤ} {n : ℕ} (a : ReleaseAnswered s licence before after (Count n)) (k : ℕ)
+module _ {s licence : List ℕ} {before after : List ℤ} {n : ℕ} (a : ReleaseAnswered s licence before after (Ok n)) (k : ℕ)
     (h : k < n) where
   known : EntriesCounted s licence n
   known = entries_counted s licence (length before) n (sym a.answer_is)

@@ -3,39 +3,40 @@ use Rattle.std.specs.Prelude.{ℕ}
 use mathlib.Core.{Path.{◌≡◌, refl}, List.{List, [], ◌∷◌, map}}
 use Rattle.whole.specs.Count.{one}
 use Rattle.case.specs.{declared.Case.{Case}, Case.{case_of}}
-use Rattle.case.specs.declared.Counted.{Counted, TheVariants.{Count, Refused}}
 use Rattle.tally.specs.{Lines.{licensed, lines_of, count_of, has_line, without, missing, same_yard, other_yard, first_line}, Tally.{released}}
 use Rattle.release.specs.Licence.{entries_of, bad_count, among, wrong_station, wrong_seasons, wrong_area, first_wrong}
 use Rattle.release.specs.Answer.{room_answer, after_entries, licence_answer}
+use Rattle.std.specs.Prelude.{Result, Ok}
+use Rattle.refusal.specs.{declared.Refused.{Refused}, Refused.{refuse}}
 
 -- a licence, the length of the table, and the answer
 record Example : Type 0 where
   licence : List ℕ
   room : ℕ
-  answered : Counted
+  answered : Result ℕ Refused
 
-abbrev row : List ℕ → ℕ → Counted → Example
+abbrev row : List ℕ → ℕ → Result ℕ Refused → Example
 row licence room answered = record { licence = licence; room = room; answered = answered }
 
 examples : List Example
 examples =
-    row (7 ∷ 3 ∷ 0 ∷ []) 8 (Count 1)
-    ∷ row (7 ∷ 15 ∷ 211 ∷ 65535 ∷ 1 ∷ 2000 ∷ []) 20 (Count 2)
+    row (7 ∷ 3 ∷ 0 ∷ []) 8 (Ok 1)
+    ∷ row (7 ∷ 15 ∷ 211 ∷ 65535 ∷ 1 ∷ 2000 ∷ []) 20 (Ok 2)
     -- 21: none, no multiple of three
-    ∷ row [] 8 (Refused 21 0 0)
-    ∷ row (7 ∷ 3 ∷ []) 8 (Refused 21 0 0)
-    ∷ row (7 ∷ 3 ∷ 0 ∷ 9 ∷ []) 8 (Refused 21 0 0)
+    ∷ row [] 8 (refuse 21 0 0)
+    ∷ row (7 ∷ 3 ∷ []) 8 (refuse 21 0 0)
+    ∷ row (7 ∷ 3 ∷ 0 ∷ 9 ∷ []) 8 (refuse 21 0 0)
     -- 22: the station, the seasons, the cross-section, the station of an earlier entry; the station before the seasons before the
     -- cross-section, the first such entry
-    ∷ row (0 ∷ 3 ∷ 0 ∷ []) 8 (Refused 22 1 1)
-    ∷ row (65536 ∷ 0 ∷ 0 ∷ []) 8 (Refused 22 1 1)
-    ∷ row (7 ∷ 16 ∷ 2001 ∷ []) 8 (Refused 22 1 2)
-    ∷ row (7 ∷ 15 ∷ 2001 ∷ []) 8 (Refused 22 1 3)
-    ∷ row (9 ∷ 1 ∷ 0 ∷ 7 ∷ 3 ∷ 0 ∷ 9 ∷ 2 ∷ 0 ∷ []) 24 (Refused 22 3 1)
-    ∷ row (7 ∷ 0 ∷ 0 ∷ 0 ∷ 1 ∷ 0 ∷ []) 16 (Refused 22 1 2)
+    ∷ row (0 ∷ 3 ∷ 0 ∷ []) 8 (refuse 22 1 1)
+    ∷ row (65536 ∷ 0 ∷ 0 ∷ []) 8 (refuse 22 1 1)
+    ∷ row (7 ∷ 16 ∷ 2001 ∷ []) 8 (refuse 22 1 2)
+    ∷ row (7 ∷ 15 ∷ 2001 ∷ []) 8 (refuse 22 1 3)
+    ∷ row (9 ∷ 1 ∷ 0 ∷ 7 ∷ 3 ∷ 0 ∷ 9 ∷ 2 ∷ 0 ∷ []) 24 (refuse 22 3 1)
+    ∷ row (7 ∷ 0 ∷ 0 ∷ 0 ∷ 1 ∷ 0 ∷ []) 16 (refuse 22 1 2)
     -- 23 comes last
-    ∷ row (7 ∷ 3 ∷ 0 ∷ []) 7 (Refused 23 0 0)
-    ∷ row (0 ∷ 3 ∷ 0 ∷ []) 7 (Refused 22 1 1)
+    ∷ row (7 ∷ 3 ∷ 0 ∷ []) 7 (refuse 23 0 0)
+    ∷ row (0 ∷ 3 ∷ 0 ∷ []) 7 (refuse 22 1 1)
     ∷ []
 
 right : map (λ e. licence_answer e.licence e.room) examples ≡ map (λ e. e.answered) examples

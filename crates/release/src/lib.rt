@@ -10,16 +10,22 @@ ghost use Rattle.judgement.specs.Limits.{most_lines};
 ghost use Rattle.table_rows.specs.Rows.{StoredBounds, stored_cases};
 ghost use Rattle.release.specs.Answer.{LinesReleased, ReleaseAnswered};
 
-use case::{Counted, Form, REFUSED_LICENCE, REFUSED_RELEASE, REFUSED_STATION};
+use case::{Form, REFUSED_LICENCE, REFUSED_RELEASE, REFUSED_STATION};
 use judgement::{VALUES, read};
 use licence::{Wrong, bad_count, first_wrong};
 use put::put_entries;
+use refusal::Refused;
 
 // How many numbers an entry of the licence has in the table.
 pub const ENTRY_LENGTH: usize = 8;
 
 // The answer to a licence after the sheet was read, whose n lines of values are sound.
-fn release_lines<'a>(values: &'a [u32], n: usize, licence: &'a [u32], table: &mut [i64]) -> Counted
+fn release_lines<'a>(
+    values: &'a [u32],
+    n: usize,
+    licence: &'a [u32],
+    table: &mut [i64],
+) -> Result<usize, Refused>
     requires n_le_most_lines { n ≤ most_lines }
     requires stored_bounds { StoredBounds values.now n }
     requires n_in_bounds { name_count * n ≤ length values.now }
@@ -27,36 +33,38 @@ fn release_lines<'a>(values: &'a [u32], n: usize, licence: &'a [u32], table: &mu
         table.new result }
 {
     if bad_count(licence.len()) {
-        return Counted::Refused(REFUSED_LICENCE, 0, 0);
+        return Err(Refused(REFUSED_LICENCE, 0, 0));
     }
     match first_wrong(licence) {
-        Wrong::At(place, column) => Counted::Refused(REFUSED_STATION, place, column),
+        Wrong::At(place, column) => Err(Refused(REFUSED_STATION, place, column)),
         Wrong::Nothing => {
             let entries = licence.len() / 3;
             if table.len() < ENTRY_LENGTH * entries {
-                return Counted::Refused(REFUSED_RELEASE, 0, 0);
+                return Err(Refused(REFUSED_RELEASE, 0, 0));
             }
             put_entries(values, n, licence, table);
-            Counted::Count(entries)
+            Ok(entries)
         }
     }
 }
 
 // The same from the sheet, through a store with room for the values of as many lines as a sheet may have.
-fn release_by<'a>(s: &'a [u8], licence: &'a [u32], values: &mut [u32], table: &mut [i64]) -> Counted
+fn release_by<'a>(
+    s: &'a [u8],
+    licence: &'a [u32],
+    values: &mut [u32],
+    table: &mut [i64],
+) -> Result<usize, Refused>
     requires { length values.old ≡ name_count * most_lines }
     ensures { ReleaseAnswered s.now licence.now table.old table.new result }
 {
-    let judged = read(Form::Present, s, values);
-    let Counted::Count(n) = judged else {
-        return judged;
-    };
+    let n = read(Form::Present, s, values)?;
     release_lines(values, n, licence, table)
 }
 
 // The count of stations in a licence, which has a station, its seasons and its conductor's cross-section in turn, or a refusal; and eight
 // numbers an entry in the table.
-pub fn release<'a>(s: &'a [u8], licence: &'a [u32], table: &mut [i64]) -> Counted
+pub fn release<'a>(s: &'a [u8], licence: &'a [u32], table: &mut [i64]) -> Result<usize, Refused>
     ensures { ReleaseAnswered s.now licence.now table.old table.new result }
 {
     let mut values = [0u32; VALUES];

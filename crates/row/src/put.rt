@@ -9,12 +9,10 @@ use decision::verdict_number;
 pub fn row_numbers(r: Row) -> [i64; ROW_LENGTH]
     ensures { result ≡ numbers r }
 {
-    let verdict = r.verdict;
-    let told = verdict_number(verdict);
     [
         r.station,
         r.season,
-        told,
+        verdict_number(r.verdict),
         r.size,
         r.current.lower,
         r.current.upper,
@@ -35,21 +33,10 @@ pub fn row_numbers(r: Row) -> [i64; ROW_LENGTH]
     ]
 }
 
-fn copy_row(a: [i64; ROW_LENGTH], row: &mut [i64])
-    requires { length row.old ≡ row_length }
-    ensures { row.new ≡ a }
-{
-    let mut i = 0;
-    while i < ROW_LENGTH {
-        let z = a[i];
-        row[i] = z;
-        i += 1;
-    }
-}
-
+// The numbers into a row of the table.
 pub fn put_row(r: Row, row: &mut [i64])
     requires { length row.old ≡ row_length }
     ensures { row.new ≡ numbers r }
 {
-    copy_row(row_numbers(r), row);
+    row.copy_from_slice(&row_numbers(r));
 }

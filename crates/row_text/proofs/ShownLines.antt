@@ -1,11 +1,11 @@
 -- The line of what is shown of a row, and the five numbers of its margins.
 use Prim.Native.Nat.{suc}
 use mathlib.Core.{Path.{◌≡◌, refl}, List.{List, [], ◌∷◌}}
-use lib.{IntN.{ℤ, pos}, ListN.{length, get_or, take}}
+use lib.{IntN.{ℤ, pos}, ListN.{length, take}}
+use Rattle.std.specs.Prelude.{Option, Some, None, unwrap_or}
 use Rattle.writing.specs.Text.{ended}
-use Rattle.row.specs.Places.{station_place, season_place, verdict_place}
-use Rattle.margin.specs.{declared.Compared.{Compared}, Margin.{margins_of}}
-use Rattle.margin.specs.declared.Compared.TheVariants as compared
+use Rattle.row.specs.Places.{verdict_place}
+use Rattle.margin.specs.Margin.{margins_of}
 use Rattle.row_text.specs.{declared.Shown.{Shown, TheVariants.{Verdict, Numbers, Margins}}, Margins.{two_margins}}
 use Rattle.row_text.specs.Shown.{margin_numbers, shown_fields, shown_line}
 use Rattle.fields.specs.Fields.{line_of}
@@ -29,18 +29,12 @@ pub margins_five : (row : List ℤ) → length (margin_numbers row) ≡ 5
 unfolding margin_numbers two_margins
 margins_five row = go (margins_of row)
   where
-    go : (c : Compared) → suc (suc (suc (length (two_margins c)))) ≡ 5
-    go (compared.Margins mesh step) = refl
-    go compared.None = refl
+    go : (c : Option (ℤ × ℤ)) → suc (suc (suc (length (two_margins c)))) ≡ 5
+    go (Some (mesh, step)) = refl
+    go None = refl
 
-module _ (row : List ℤ) {c : Compared} (e : c ≡ margins_of row) where
-  abbrev three : List ℤ → List ℤ
-  three ms = get_or row station_place (pos 0) ∷ get_or row season_place (pos 0) ∷ get_or row verdict_place (pos 0) ∷ ms
-
-  pub with_margins : {mesh step : ℤ} → c ≡ compared.Margins mesh step → three (mesh ∷ step ∷ []) ≡ margin_numbers row
-  unfolding margin_numbers two_margins
-  with_margins q = rw (← e, q)
-
-  pub without_margins : c ≡ compared.None → three (pos 0 ∷ pos 0 ∷ []) ≡ margin_numbers row
-  unfolding margin_numbers two_margins
-  without_margins q = rw (← e, q)
+-- a row without margins would be shown with 0 twice
+pub margins_or : (told : Option (ℤ × ℤ)) → let two = unwrap_or told (pos 0, pos 0) in two.0 ∷ two.1 ∷ [] ≡ two_margins told
+unfolding two_margins
+margins_or (Some (mesh, step)) = refl
+margins_or None = refl

@@ -9,7 +9,7 @@ ghost use Rattle.row.specs.Row.{row_length};
 ghost use Rattle.row_text.specs.Shown.{margin_numbers, shown_line, lines_after};
 
 use fields::put_fields;
-use margin::{Compared, margins};
+use margin::margins;
 use row::{KCMIL, SEASON, STATION, VERDICT};
 use writing::put_bytes;
 
@@ -29,11 +29,8 @@ fn margin_numbers(row: &[i64]) -> [i64; 5]
     requires { 4 ≤ length row.now }
     ensures { result ≡ margin_numbers row.now }
 {
-    let compared = margins(row);
-    match compared {
-        Compared::Margins(mesh, step) => [row[STATION], row[SEASON], row[VERDICT], mesh, step],
-        Compared::None => [row[STATION], row[SEASON], row[VERDICT], 0, 0],
-    }
+    let (mesh, step) = margins(row).unwrap_or((0, 0));
+    [row[STATION], row[SEASON], row[VERDICT], mesh, step]
 }
 
 // The line of one row, with its byte 10.
@@ -59,13 +56,9 @@ fn put_rows(buf: &mut [u8], at: usize, rows: &[i64], n: usize, width: usize, wha
     requires rows_in_bounds { at + length (text_of (map (shown_line what) (parts_of width n rows.now))) ≤ length buf.old }
     ensures { Put buf.old at (text_of (map (shown_line what) (parts_of width n rows.now))) buf.new result }
 {
-    let mut rest = rows;
     let mut p = at;
-    let mut i = 0;
-    while i < n {
-        p = put_row(buf, p, &rest[..width], what);
-        rest = &rest[width..];
-        i += 1;
+    for row in rows[..n * width].chunks_exact(width) {
+        p = put_row(buf, p, row, what);
     }
     p
 }

@@ -4,38 +4,30 @@ use mathlib.Core.{Path.{◌≡◌, refl, sym, ◌∙◌}, Logic.{⊎_elim}, List
 use native.Mathlib.{Nat.{eq-or-lt_of_le}, Numerals.{add-one}, Omega.{arith}}
 use lib.ListN.{length, take, drop}
 use borrow.Author.Tests.{le-ltb, lt-ltb}
-use Rattle.text.specs.{declared.Field.{Field, TheVariants.{Wrong, Value}}, Text.{bytes, index_of}, Value.{field_value}, Parts.{Skipped}}
+use Rattle.std.specs.Prelude.{Result, Ok, Err}
+use Rattle.refusal.specs.{declared.Refused.{Refused}, Refused.{refuse}}
+use Rattle.text.specs.{Text.{bytes, index_of}, Value.{field_value}, Parts.{Skipped}}
 use Rattle.text.proofs.{Searching.{index_within}, FieldTurns.{part_end}}
-use Rattle.yards.specs.declared.FewestLines.{FewestLines, TheVariants.{Found, None, Refused}}
+use Rattle.yards.specs.declared.FewestLines.{FewestLines, TheVariants.{Found, None}}
 use Rattle.one_line.specs.Answer.{SheetFewest}
 use Rattle.fields.{specs.Refusal.{refusal_bytes}, proofs.Refusals.{numbered_most, refused_most}}
 use Rattle.search_text.specs.Fewest.{side_of, side_in, sheet_in, input_bytes, input_answer, search_text, fewest_text}
 
 -- ---- how long it is
 
-search_fits : (a : FewestLines) → length (search_text a) ≤ refusal_bytes
+search_fits : (a : Result FewestLines Refused) → length (search_text a) ≤ refusal_bytes
 unfolding search_text
-search_fits (Found lines rods tried) = omega (arith, numbered_most (bytes "found") (lines ∷ rods ∷ tried ∷ []))
-search_fits (None tried) = omega (arith, numbered_most (bytes "none") (tried ∷ []))
-search_fits (Refused number line column) = omega (arith, refused_most number line column)
+search_fits (Ok (Found lines rods tried)) = omega (arith, numbered_most (bytes "found") (lines ∷ rods ∷ tried ∷ []))
+search_fits (Ok (None tried)) = omega (arith, numbered_most (bytes "none") (tried ∷ []))
+search_fits (Err why) = omega (arith, refused_most why.0 why.1 why.2)
 
 pub fewest_fits : (s : List ℕ) → length (fewest_text s) ≤ refusal_bytes
 unfolding fewest_text
 fewest_fits s = search_fits (input_answer s)
 
--- ---- the side
-
-pub side_value : {f : Field} (line : List ℕ) {x : ℕ} → f ≡ field_value line → f ≡ Value x → x ≡ side_of (field_value line)
-unfolding side_of
-side_value line e q = rw (← e, q)
-
-pub side_none : {f : Field} (line : List ℕ) → f ≡ field_value line → f ≡ Wrong → 0 ≡ side_of (field_value line)
-unfolding side_of
-side_none line e q = rw (← e, q)
-
 -- ---- the input
 
-pub long_input : (s : List ℕ) → input_bytes < length s → Refused 1 0 0 ≡ input_answer s
+pub long_input : (s : List ℕ) → input_bytes < length s → refuse 1 0 0 ≡ input_answer s
 unfolding input_answer
 long_input s h = rw (lt-ltb input_bytes (length s) h)
 
@@ -54,7 +46,7 @@ module _ (s : List ℕ) {e r : ℕ} (ends : e ≡ index_of 10 s) (k : Skipped e 
       ∙ ⊎_elim (λ h. past r s (omega (arith, k.none (omega arith))) ∙ sym (past (suc (index_of 10 s)) s (omega arith)))
       (λ h. rw (k.next h, ends, add-one)) (eq-or-lt_of_le (rw ends (index_within 10 s)))
 
-  pub input_answer_lem : {side : ℕ} {a : FewestLines} → length s ≤ input_bytes → side ≡ side_of (field_value (take e s))
+  pub input_answer_lem : {side : ℕ} {a : Result FewestLines Refused} → length s ≤ input_bytes → side ≡ side_of (field_value (take e s))
       → SheetFewest (take (length s - r) (drop r s)) side a → a ≡ input_answer s
   unfolding input_answer side_in
   input_answer_lem short d a = a.answer_is ∙ rw (le-ltb input_bytes (length s) short, sheet_is, d, ends)

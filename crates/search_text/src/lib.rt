@@ -11,7 +11,8 @@ use case::REFUSED_TEXT;
 use fields::{put_numbered, put_refusal};
 use judgement::BYTES;
 use one_line::fewest_of_sheet;
-use text::{Field, find, skip, value};
+use refusal::Refused;
+use text::{find, skip, value};
 use yards::FewestLines;
 
 // The most bytes of an input: the line of a side, six digits and its byte 10, and a sheet.
@@ -21,19 +22,15 @@ pub const INPUT: usize = 7 + BYTES;
 fn side_of(line: &[u8]) -> u32
     ensures { result ≡ side_of (field_value line.now) }
 {
-    let side = value(line);
-    match side {
-        Field::Value(x) => x,
-        Field::Wrong => 0,
-    }
+    value(line).unwrap_or(0)
 }
 
 // The answer to an input: a line with the side, then a sheet of one value line.
-fn answer_to(s: &[u8]) -> FewestLines
+fn answer_to(s: &[u8]) -> Result<FewestLines, Refused>
     ensures { result ≡ input_answer s.now }
 {
     if INPUT < s.len() {
-        return FewestLines::Refused(REFUSED_TEXT, 0, 0);
+        return Err(Refused(REFUSED_TEXT, 0, 0));
     }
     let e = find(s, 10);
     let side = side_of(&s[..e]);
@@ -42,20 +39,20 @@ fn answer_to(s: &[u8]) -> FewestLines
 }
 
 // Lines, rods and yards tried; how many yards were tried, none of them safe; or the refusal.
-fn put_search(out: &mut [u8], answer: FewestLines) -> usize
+fn put_search(out: &mut [u8], answer: Result<FewestLines, Refused>) -> usize
     requires { refusal_bytes ≤ length out.old }
     ensures { Put out.old 0 (search_text answer) out.new result }
 {
     match answer {
-        FewestLines::Found(lines, rods, tried) => {
+        Ok(FewestLines::Found(lines, rods, tried)) => {
             let numbers = [lines as u64, rods as u64, tried as u64];
             put_numbered(out, b"found", &numbers)
         }
-        FewestLines::None(tried) => {
+        Ok(FewestLines::None(tried)) => {
             let numbers = [tried as u64];
             put_numbered(out, b"none", &numbers)
         }
-        FewestLines::Refused(why, line, column) => put_refusal(out, why, line, column),
+        Err(Refused(why, line, column)) => put_refusal(out, why, line, column),
     }
 }
 

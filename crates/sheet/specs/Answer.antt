@@ -5,13 +5,13 @@ use mathlib.Core.{Bool.{cond}, List.{List, map}}
 use Rattle.std.specs.Prelude.{ltb}
 use Rattle.text.specs.Text.{fields_of}
 use Rattle.case.specs.{declared.Case.{Case}, Columns.{columns}}
-use Rattle.case.specs.declared.Counted.{Counted}
-use Rattle.case.specs.declared.Counted.TheVariants as counted
 use Rattle.header.specs.Header.{columns_of}
 use Rattle.line.specs.Line.{line_case}
 use Rattle.row.specs.Row.{row_length}
 use Rattle.judgement.specs.Sheet.{names, value_lines, judgement}
 use Rattle.sheet.specs.declared.Answer.{Answer, TheVariants.{Rows, Refused}}
+use Rattle.std.specs.Prelude.{Result, Ok, Err}
+use Rattle.refusal.specs.{declared.Refused.{Refused as Refusal}}
 
 -- the cases of a sheet's value lines
 unfoldable pub cases : List ℕ → List Case
@@ -22,9 +22,9 @@ unfoldable pub table_refused : Answer
 table_refused = Refused 8 0 0
 
 -- 1 to 7 by the judgement of the sheet, then 8, or the count of rows
-unfoldable pub answer_by : ℕ → Counted → Answer
-answer_by room (counted.Count count) = cond (ltb room (row_length * count)) table_refused (Rows count)
-answer_by room (counted.Refused number line column) = Refused number line column
+unfoldable pub answer_by : ℕ → Result ℕ Refusal → Answer
+answer_by room (Ok count) = cond (ltb room (row_length * count)) table_refused (Rows count)
+answer_by room (Err why) = Refused why.0 why.1 why.2
 
 unfoldable pub answer : List ℕ → ℕ → Answer
 answer s room = answer_by room (judgement columns s)

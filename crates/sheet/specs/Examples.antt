@@ -5,13 +5,13 @@ use Rattle.std.specs.Prelude.{replicate}
 use Rattle.text.specs.{Text.{bytes, on_first, lines_of, fields_of, same}, Value.{digit, digits, plain, is_value, number_from, value_of}}
 use Rattle.case.specs.{Columns.{columns, in_range, name_index, named}, Case.{case_of}}
 use Rattle.case.specs.Check.{left_of, out_of_range, agree, disagreement, finding}
-use Rattle.case.specs.declared.Counted.TheVariants as counted
 use Rattle.header.specs.Header.{no_columns, fresh, wrong_name, columns_from, columns_of}
 use Rattle.line.specs.Line.{wrong_form, line_values, line_case}
 use Rattle.line_finding.specs.Findings.{or_finding, same_key, repeats, line_finding}
 use Rattle.judgement.specs.Refusal.{text_refused, name_refused, no_line_refused, many_lines_refused, line_judgement}
 use Rattle.judgement.specs.Sheet.{names, value_lines, bad_text, lines_judgement, values_judgement, names_judgement, judgement_within, judgement}
 use Rattle.sheet.specs.{declared.Answer.{Answer, TheVariants.{Rows, Refused}}, Answer.{cases, table_refused, answer_by, answer}}
+use Rattle.std.specs.Prelude.{Ok}
 
 -- the answer, with all that it is made of
 answer_of : List ℕ → ℕ → Answer
@@ -40,7 +40,7 @@ unfolding answer_of sample
 sample_answer = refl
 
 -- it breaks no rule, and has these two cases
-pub sample_judged : judgement columns sample ≡ counted.Count 2
+pub sample_judged : judgement columns sample ≡ Ok 2
 unfolding on_first lines_of fields_of same digit digits plain is_value number_from value_of columns in_range name_index named left_of out_of_range
     agree disagreement finding text_refused name_refused no_line_refused many_lines_refused line_judgement no_columns fresh wrong_name columns_from
     columns_of wrong_form line_values same_key repeats or_finding line_finding names value_lines bad_text lines_judgement values_judgement

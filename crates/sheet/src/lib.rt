@@ -6,8 +6,9 @@ ghost use Rattle.case.specs.Columns.{name_count};
 ghost use Rattle.judgement.specs.Limits.{most_lines};
 ghost use Rattle.sheet.specs.Table.{Answered};
 
-use case::{Counted, Form, REFUSED_SHORT};
+use case::{Form, REFUSED_SHORT};
 use judgement::{VALUES, read};
+use refusal::Refused;
 use row::ROW_LENGTH;
 use table_rows::write_rows;
 
@@ -24,8 +25,8 @@ fn fill_table(s: &[u8], values: &mut [u32], table: &mut [i64]) -> Answer
     ensures { Answered s.now table.old table.new result }
 {
     match read(Form::Present, s, values) {
-        Counted::Refused(number, line, column) => Answer::Refused(number, line, column),
-        Counted::Count(n) => {
+        Err(Refused(number, line, column)) => Answer::Refused(number, line, column),
+        Ok(n) => {
             if table.len() < ROW_LENGTH * n {
                 return Answer::Refused(REFUSED_SHORT, 0, 0);
             }

@@ -5,7 +5,6 @@ use native.Mathlib.Omega.{arith}
 use lib.{IntN.{ℤ}, ListN.{length, length-map}}
 use Rattle.tables.specs.Parts.{parts_of}
 use Rattle.case.specs.Columns.{columns}
-use Rattle.case.specs.declared.Counted.TheVariants as counted
 use Rattle.judgement.specs.{Limits.{most_lines}, Sheet.{judgement}}
 use Rattle.row.specs.{declared.Row.{Row}, Row.{numbers, row_length, row_length_lem}, Ends.{row_of}}
 use Rattle.table_rows.specs.Rows.{Filled}
@@ -15,12 +14,13 @@ use Rattle.fields.{specs.Refusal.{refused_text, unless_refused}, proofs.Refusals
 use Rattle.row_text.{specs.{declared.Shown.{Shown}, Shown.{lines_after}, Room.{name_bytes, text_room}}, proofs.Fits.{Width, lines_fit}}
 use Rattle.sheet_text.specs.Shown.{shown_text}
 use Rattle.sheet_text.proofs.{TableRows.{table_rows}, Judged.{rows_judged, refusal_judged, case_count, count_within}}
+use Rattle.std.specs.Prelude.{Ok}
 
 row_width : (r : Row) → Width (length (numbers r))
 row_width r = record { some = omega (arith, row_length_lem r); most = omega (arith, row_length_lem r) }
 
 -- an accepted sheet has no more rows than the limit
-pub rows_few : (s : List ℕ) (n : ℕ) → judgement columns s ≡ counted.Count n → length (sheet_rows s) ≤ most_lines
+pub rows_few : (s : List ℕ) (n : ℕ) → judgement columns s ≡ Ok n → length (sheet_rows s) ≤ most_lines
 rows_few s n e = omega (arith, length-map (cases s) row_of, case_count s n e, count_within s n e)
 
 module _ (names : List ℕ) (what : Shown) (s : List ℕ) where
@@ -36,7 +36,7 @@ module _ (names : List ℕ) (what : Shown) (s : List ℕ) where
     refusal_is e = rw (refusal_judged s (length before) enough h.answer_is e)
 
     module _ {n : ℕ} (e : a ≡ Rows n) where
-      lines : judgement columns s ≡ counted.Count n
+      lines : judgement columns s ≡ Ok n
       lines = rows_judged s (length before) enough h.answer_is e
 
       filled : Filled (cases s) before after

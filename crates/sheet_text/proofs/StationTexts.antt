@@ -8,14 +8,11 @@ use Rattle.text.{specs.Text.{bytes}, proofs.Clash.{clash}}
 use Rattle.tables.specs.Parts.{parts_of}
 use Rattle.writing.specs.{Decimal.{signed}, Text.{more_fields, parted, ended}}
 use Rattle.case.specs.Columns.{columns}
-use Rattle.case.specs.declared.Counted.{Counted}
-use Rattle.case.specs.declared.Counted.TheVariants as counted
 use Rattle.judgement.specs.{Limits.{most_lines}, Sheet.{judgement}}
 use Rattle.row.specs.{declared.Row.{Row}, Row.{row_length}}
 use Rattle.sheet.specs.{declared.Answer.{Answer}, Answer.{answer}}
 use Rattle.sheet.specs.declared.Answer.TheVariants as sheet
 use Rattle.station_sums.specs.Summary.{among, by_appearance, stations_of, stations, rows_of, station_length, station_numbers, summary_of, filled}
-use Rattle.stations.specs.declared.Summed.{Summed, TheVariants.{Summary, Refused}}
 use Rattle.stations.specs.Answer.{sheet_rows, answer_after, summary_answer, Summarised, TablesAfter, SummaryAnswered}
 use Rattle.stations.proofs.Within.{summary_within}
 use Rattle.fields.{specs.{Refusal.{refused_text, unless_refused}, Listed.{listed}}, proofs.Refusals.{answer_fits}}
@@ -23,6 +20,10 @@ use Rattle.row_text.specs.declared.Shown.TheVariants as shown
 use Rattle.row_text.{specs.{Shown.{lines_after}, Room.{text_room}}, proofs.{Fits.{Width, lines_fit}, Texts.{listed_same, numbers_fields}}}
 use Rattle.sheet_text.specs.Texts.{summary_names, summary_text}
 use Rattle.sheet_text.proofs.{Judged.{told, answer_told}, SheetTexts.{rows_few}}
+use Rattle.std.specs.Prelude.{Result, Ok, Err}
+use Rattle.refusal.specs.{declared.Refused.{Refused}, Refused.{refuse}}
+use Rattle.stations.specs.declared.Counts.{Counts}
+use Rattle.stations.{specs.Answer.{counts}, proofs.Within.{same_counts}}
 
 -- ---- no more stations than rows
 
@@ -42,9 +43,9 @@ stations_few rows = omega (arith, found_few [] (stations_of rows), length-map ro
 
 -- ---- the answer of the summary in tables with room for the most rows and stations, by the judgement of the sheet
 
-abbrev summed_of : ℕ → Counted → Summed
-summed_of m (counted.Count n) = Summary n m
-summed_of m (counted.Refused number line column) = Refused number line column
+abbrev summed_of : ℕ → Result ℕ Refused → Result Counts Refused
+summed_of m (Ok n) = Ok (counts n m)
+summed_of m (Err why) = Err why
 
 module _ (s : List ℕ) (rowsRoom room : ℕ) (rowsEnough : row_length * most_lines ≤ rowsRoom) (enough : station_length * most_lines ≤ room) where
   abbrev count : ℕ
@@ -109,24 +110,24 @@ module _ (s : List ℕ) where
       width : (station : ℤ) → Width (length (numbers_of (sheet_rows s) station))
       width station = let e = six_numbers (sheet_rows s) station in record { some = omega (arith, e); most = omega (arith, e) }
 
-  module _ {rowsBefore rowsAfter before after : List ℤ} {a : Summed} (h : SummaryAnswered s rowsBefore rowsAfter before after a)
+  module _ {rowsBefore rowsAfter before after : List ℤ} {a : Result Counts Refused} (h : SummaryAnswered s rowsBefore rowsAfter before after a)
       (rowsEnough : row_length * most_lines ≤ length rowsBefore) (enough : station_length * most_lines ≤ length before) where
-    judged_by_lem : {b : Summed} → a ≡ b → b ≡ summed_of station_count (judgement columns s)
+    judged_by_lem : {b : Result Counts Refused} → a ≡ b → b ≡ summed_of station_count (judgement columns s)
     judged_by_lem e = sym e ∙ h.answer_is ∙ summed_is s (length rowsBefore) (length before) rowsEnough enough
 
-    pub summary_refused_lem : {number line column : ℕ} → a ≡ Refused number line column → summary_text s ≡ refused_text number line column
+    pub summary_refused_lem : {number line column : ℕ} → a ≡ refuse number line column → summary_text s ≡ refused_text number line column
     unfolding summary_text unless_refused
     summary_refused_lem {number} {line} {column} e =
         ap (λ j. unless_refused j (listed summary_names (map (map signed) station_rows))) (go (judgement columns s) (judged_by_lem e))
       where
-        go : (j : Counted) → Refused number line column ≡ summed_of station_count j → j ≡ counted.Refused number line column
-        go (counted.Count n) q = clash cc
-        go (counted.Refused k l c) q = cc
+        go : (j : Result ℕ Refused) → refuse number line column ≡ summed_of station_count j → j ≡ refuse number line column
+        go (Ok n) q = clash cc
+        go (Err why) q = cc
 
-    module _ {n m : ℕ} (e : a ≡ Summary n m) where
-      both_counts : (j : Counted) → Summary n m ≡ summed_of station_count j → (j ≡ counted.Count n) × (m ≡ station_count)
-      both_counts (counted.Count k) q = (cc, cc)
-      both_counts (counted.Refused k l c) q = clash cc
+    module _ {n m : ℕ} (e : a ≡ Ok (counts n m)) where
+      both_counts : (j : Result ℕ Refused) → Ok (counts n m) ≡ summed_of station_count j → (j ≡ Ok n) × (m ≡ station_count)
+      both_counts (Ok k) q = let s = same_counts q in (ap Ok (sym s.0), s.1)
+      both_counts (Err why) q = clash cc
 
       tables : Summarised s n rowsBefore rowsAfter before after
       unfolding TablesAfter

@@ -7,8 +7,9 @@ ghost use Rattle.row_text.specs.Room.{text_room};
 use crate::TABLE;
 use fields::put_refusal;
 use judgement::LINES;
+use refusal::Refused;
 use row_text::{Shown, put_table};
-use stations::{STATION_LENGTH, Summed, summary};
+use stations::{STATION_LENGTH, summary};
 
 // Six numbers for each of as many stations as a sheet may have.
 const STATIONS: usize = LINES * STATION_LENGTH;
@@ -20,16 +21,15 @@ pub fn put_summary(s: &[u8], out: &mut [u8]) -> usize
 {
     let mut rows = [0i64; TABLE];
     let mut beside = [0i64; STATIONS];
-    let a = summary(s, &mut rows, &mut beside);
-    match a {
-        Summed::Summary(_, count) => put_table(
+    match summary(s, &mut rows, &mut beside) {
+        Ok(counts) => put_table(
             out,
             b"station,seasons,safe,unsafe,undecided,highest_mesh_season\n",
             &beside,
-            count,
+            counts.stations,
             STATION_LENGTH,
             Shown::Numbers,
         ),
-        Summed::Refused(why, line, column) => put_refusal(out, why, line, column),
+        Err(Refused(why, line, column)) => put_refusal(out, why, line, column),
     }
 }

@@ -3,12 +3,13 @@ ghost use Rattle.std.specs.Prelude.{◌≤◌};
 
 use crate::length::length;
 use crate::listed::print_kept;
-use case::{Counted, Form};
+use case::Form;
 use conversion::{carry, carry_back};
-use gate::{bytes, bytes_kept, first_part, hold_bytes, refused, unknown};
+use gate::{bytes, bytes_kept, hold_bytes, refused, unknown};
 use judgement::BYTES;
+use refusal::Refused;
 
-fn carry_to(form: Form, s: &[u8], buffer: &mut [u8]) -> Counted {
+fn carry_to(form: Form, s: &[u8], buffer: &mut [u8]) -> Result<usize, Refused> {
     match form {
         Form::Present => carry(s, buffer),
         Form::Former => carry_back(s, buffer),
@@ -17,8 +18,8 @@ fn carry_to(form: Form, s: &[u8], buffer: &mut [u8]) -> Counted {
 
 // The first count bytes of the buffer.
 fn front(rt: &impl Print, buffer: &[u8], count: usize) {
-    if count <= buffer.len() {
-        bytes(rt, &buffer[0..count]);
+    if let Some(text) = buffer.get(..count) {
+        bytes(rt, text);
     }
 }
 
@@ -26,13 +27,9 @@ fn front(rt: &impl Print, buffer: &[u8], count: usize) {
 fn answer(rt: &impl Print, form: Form, s: &[u8], buffer: &mut [u8]) {
     let a = carry_to(form, s, buffer);
     match a {
-        Counted::Count(count) => front(rt, buffer, count),
-        Counted::Refused(why, line, column) => refused(rt, why, line, column),
+        Ok(count) => front(rt, buffer, count),
+        Err(Refused(why, line, column)) => refused(rt, why, line, column),
     }
-}
-
-fn kept(rt: &impl Print, buffer: [u8; BYTES]) {
-    print_kept(rt, bytes_kept(&buffer));
 }
 
 // One answer, in the first room bytes of a buffer.
@@ -41,37 +38,27 @@ fn in_buffer(rt: &impl Print, form: Form, s: &[u8], room: usize)
 {
     let mut buffer = [0u8; BYTES];
     hold_bytes(&mut buffer);
-    answer(rt, form, s, &mut buffer[0..room]);
-    kept(rt, buffer);
+    answer(rt, form, s, &mut buffer[..room]);
+    print_kept(rt, bytes_kept(&buffer));
 }
 
 // The two answers for a buffer length: `unknown` where it is not a length or too large.
-fn at_length(rt: &impl Print, s: &[u8], room: usize) {
-    if room <= BYTES {
-        in_buffer(rt, Form::Present, s, room);
-        in_buffer(rt, Form::Former, s, room);
-    } else {
-        unknown(rt);
+fn at_length(rt: &impl Print, s: &[u8], field: &[u8]) {
+    match length(field) {
+        Some(room) if room <= BYTES => {
+            in_buffer(rt, Form::Present, s, room);
+            in_buffer(rt, Form::Former, s, room);
+        }
+        _ => unknown(rt),
     }
 }
 
-// The answers to a sheet for each of the buffer lengths.
-fn at_lengths<'a>(rt: &impl Print, lengths: &'a [u8], s: &'a [u8]) {
-    let mut rest = lengths;
-    while 0 < rest.len() {
-        let field = first_part(rest, 44);
-        let e = field.end;
-        let next = field.next;
-        at_length(rt, s, length(&rest[0..e]));
-        rest = &rest[next..];
-    }
-}
-
-// The answers for the buffer lengths: `unknown` where there is none.
-pub fn ask<'a>(rt: &impl Print, lengths: &'a [u8], s: &'a [u8]) {
-    if lengths.len() == 0 {
+// The answers to a sheet for each of the buffer lengths: `unknown` where there is none.
+pub fn ask(rt: &impl Print, lengths: &[u8], s: &[u8]) {
+    if lengths.is_empty() {
         unknown(rt);
-    } else {
-        at_lengths(rt, lengths, s);
+    }
+    for field in lengths.split_inclusive(|b| *b == b',') {
+        at_length(rt, s, field.strip_suffix(b",").unwrap_or(field));
     }
 }

@@ -8,6 +8,7 @@
 // release,LENGTH           the licence in the next line, in a table of this length
 //
 // tests/sheets/stored.py gathers the sheets; the tests in that folder judge the answers.
+// A write that fails is ignored: what is missing is missing from the stored answers too.
 #![tactic(auto)]
 
 mod carried;
@@ -18,50 +19,32 @@ mod rows;
 mod summed;
 
 use gate::{SPACE, bytes, empty_space, first_part, too_long, unknown};
-use text::same;
 
 // What is asked of a sheet, by the kind and the fields of its first line.
-fn ask<'a>(rt: &impl Print, kind: &'a [u8], fields: &'a [u8], sheet: &'a [u8]) {
-    if same(kind, b"rows") && fields.len() == 0 {
-        rows::ask(rt, sheet);
-    } else if same(kind, b"summary") {
-        summed::ask(rt, fields, sheet);
-    } else if same(kind, b"carry") {
-        carried::ask(rt, fields, sheet);
-    } else if same(kind, b"release") {
-        portfolio::ask(rt, fields, sheet);
-    } else {
-        unknown(rt);
+fn ask(rt: &impl Print, kind: &[u8], fields: &[u8], sheet: &[u8]) {
+    match kind {
+        b"rows" if fields.is_empty() => rows::ask(rt, sheet),
+        b"summary" => summed::ask(rt, fields, sheet),
+        b"carry" => carried::ask(rt, fields, sheet),
+        b"release" => portfolio::ask(rt, fields, sheet),
+        _ => unknown(rt),
     }
 }
 
-fn answer<'a>(rt: &impl Print, head: &'a [u8], sheet: &'a [u8]) {
+// A first line and the sheet after it.
+fn answer(rt: &impl Print, s: &[u8]) {
+    let (head, sheet) = first_part(s, b'\n');
     bytes(rt, head);
     bytes(rt, b"\n");
-    let kind = first_part(head, 44);
-    let e = kind.end;
-    let next = kind.next;
-    ask(rt, &head[0..e], &head[next..], sheet);
+    let (kind, fields) = first_part(head, b',');
+    ask(rt, kind, fields, sheet);
     bytes(rt, b"\n");
-}
-
-// A first line and the sheet after it.
-fn sheet(rt: &impl Print, s: &[u8]) {
-    let head = first_part(s, 10);
-    let e = head.end;
-    let next = head.next;
-    answer(rt, &s[0..e], &s[next..]);
 }
 
 // Every sheet of s.
 fn sheets(rt: &impl Print, s: &[u8]) {
-    let mut rest = s;
-    while 0 < rest.len() {
-        let part = first_part(rest, 0);
-        let e = part.end;
-        let next = part.next;
-        sheet(rt, &rest[0..e]);
-        rest = &rest[next..];
+    for part in s.split_inclusive(|b| *b == 0) {
+        answer(rt, part.strip_suffix(b"\0").unwrap_or(part));
     }
 }
 

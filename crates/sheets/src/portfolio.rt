@@ -4,8 +4,8 @@ ghost use Rattle.std.specs.Prelude.{◌≤◌};
 use crate::length::length;
 use crate::listed::{Listing, lines, print_kept};
 use crate::rows;
-use case::Counted;
-use gate::{bytes, first_part, hold, narrow, number, numbers_kept, read, refused, unknown};
+use gate::{first_part, hold, numbers_kept, read, refused, unknown};
+use refusal::Refused;
 use release::{ENTRY_LENGTH, release};
 
 // More than the most stations need.
@@ -20,60 +20,43 @@ fn sheet_rows(rt: &impl Print, s: &[u8]) {
     rows::answer(rt, Listing::Numbers, s, &mut table);
 }
 
-fn answer<'a>(rt: &impl Print, s: &'a [u8], licence: &'a [u32], table: &mut [i64]) {
+fn answer(rt: &impl Print, s: &[u8], licence: &[u32], table: &mut [i64]) {
     let a = release(s, licence, table);
     match a {
-        Counted::Count(count) => {
-            bytes(rt, b"released,");
-            number(rt, count as u64);
-            bytes(rt, b"\n");
+        Ok(count) => {
+            let _ = println!(rt; "released,{count}");
             lines(rt, Listing::Numbers, table, ENTRY_LENGTH, count);
             sheet_rows(rt, s);
         }
-        Counted::Refused(why, line, column) => refused(rt, why, line, column),
+        Err(Refused(why, line, column)) => refused(rt, why, line, column),
     }
 }
 
-fn kept(rt: &impl Print, table: [i64; TABLE]) {
-    print_kept(rt, numbers_kept(&table));
-}
-
 // The answer in the first numbers of a table, and what the whole of it kept.
-fn in_table<'a>(rt: &impl Print, s: &'a [u8], licence: &'a [u32], room: usize)
+fn in_table(rt: &impl Print, s: &[u8], licence: &[u32], room: usize)
     requires { room ≤ TABLE }
 {
     let mut table = [0i64; TABLE];
     hold(&mut table);
-    answer(rt, s, licence, &mut table[0..room]);
-    kept(rt, table);
+    answer(rt, s, licence, &mut table[..room]);
+    print_kept(rt, numbers_kept(&table));
 }
 
-// The answer to a licence of the first count numbers: `unknown` where the table has no such length.
-fn on_licence<'a>(rt: &impl Print, s: &'a [u8], numbers: &'a [u32], count: usize, room: usize) {
-    if count <= numbers.len() && room <= TABLE {
-        in_table(rt, s, &numbers[0..count], room);
-    } else {
-        unknown(rt);
+// The answer to a licence: `unknown` where the table has no such length.
+fn on_licence(rt: &impl Print, s: &[u8], licence: &[u32], field: &[u8]) {
+    match length(field) {
+        Some(room) if room <= TABLE => in_table(rt, s, licence, room),
+        _ => unknown(rt),
     }
 }
 
-// The answer to a line with the licence and the sheet after it: `unknown` where the line is not a list of 32-bit numbers.
-fn on_line<'a>(rt: &impl Print, line: &'a [u8], s: &'a [u8], room: usize) {
-    let mut v = [0i64; NUMBERS];
-    let mut words = [0u32; NUMBERS];
-    let list = read(line, 0, u32::MAX as i64, &mut v);
-    narrow(&v, &mut words);
-    if list.known {
-        on_licence(rt, s, &words, list.count, room);
-    } else {
-        unknown(rt);
+// The answer for the length of the table, to a line with the licence and the sheet after it: `unknown` where the line is not a list
+// of 32-bit numbers.
+pub fn ask(rt: &impl Print, field: &[u8], s: &[u8]) {
+    let (line, sheet) = first_part(s, b'\n');
+    let mut space = [0u32; NUMBERS];
+    match read(line, 0..=i64::from(u32::MAX), &mut space) {
+        Some(licence) => on_licence(rt, sheet, licence, field),
+        None => unknown(rt),
     }
-}
-
-// The answer for the length of the table.
-pub fn ask<'a>(rt: &impl Print, field: &'a [u8], s: &'a [u8]) {
-    let line = first_part(s, 10);
-    let e = line.end;
-    let next = line.next;
-    on_line(rt, &s[0..e], &s[next..], length(field));
 }

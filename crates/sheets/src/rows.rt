@@ -2,7 +2,7 @@
 ghost use Rattle.std.specs.Prelude.{◌≤◌};
 
 use crate::listed::{Listing, lines, print_kept};
-use gate::{bytes, hold, numbers_kept, refused};
+use gate::{hold, numbers_kept, refused};
 use judgement::LINES;
 use row::ROW_LENGTH;
 use sheet::Answer;
@@ -13,35 +13,22 @@ pub const TABLE: usize = LINES * ROW_LENGTH;
 // Room for two rows.
 const SHORT: usize = 2 * ROW_LENGTH;
 
-// The names of a row's numbers, with their units.
-fn number_names(rt: &impl Print) {
-    bytes(rt, b"station,season,verdict,size_kcmil");
-    bytes(
-        rt,
-        b",grid_current_lower_uA,grid_current_upper_uA,factor_lower_billionths,factor_upper_billionths",
-    );
-    bytes(rt, b",tolerable_touch_lower_mV,tolerable_touch_upper_mV");
-    bytes(rt, b",tolerable_step_lower_mV,tolerable_step_upper_mV");
-    bytes(
-        rt,
-        b",mesh_lower_mV,mesh_upper_mV,step_lower_mV,step_upper_mV",
-    );
-    bytes(
-        rt,
-        b",resistance_lower_uohm,resistance_upper_uohm,rise_lower_mV,rise_upper_mV\n",
-    );
-}
-
-fn names(rt: &impl Print, what: Listing) {
+// The names of what is listed of a row; of all its numbers with their units.
+fn names(what: Listing) -> &'static str {
     match what {
-        Listing::Numbers => number_names(rt),
-        Listing::Verdicts => bytes(rt, b"station,season,verdict,kcmil\n"),
+        Listing::Numbers => "station,season,verdict,size_kcmil\
+            ,grid_current_lower_uA,grid_current_upper_uA,factor_lower_billionths,factor_upper_billionths\
+            ,tolerable_touch_lower_mV,tolerable_touch_upper_mV\
+            ,tolerable_step_lower_mV,tolerable_step_upper_mV\
+            ,mesh_lower_mV,mesh_upper_mV,step_lower_mV,step_upper_mV\
+            ,resistance_lower_uohm,resistance_upper_uohm,rise_lower_mV,rise_upper_mV",
+        Listing::Verdicts => "station,season,verdict,kcmil",
     }
 }
 
 // The first count rows of the table, after a line of names.
 pub fn row_lines(rt: &impl Print, what: Listing, table: &[i64], count: usize) {
-    names(rt, what);
+    let _ = rt.println(names(what));
     lines(rt, what, table, ROW_LENGTH, count);
 }
 
@@ -54,18 +41,14 @@ pub fn answer(rt: &impl Print, what: Listing, s: &[u8], table: &mut [i64]) {
     }
 }
 
-fn kept(rt: &impl Print, table: [i64; TABLE]) {
-    print_kept(rt, numbers_kept(&table));
-}
-
 // One answer, in the first room numbers of a table.
 fn in_table(rt: &impl Print, what: Listing, s: &[u8], room: usize)
     requires { room ≤ TABLE }
 {
     let mut table = [0i64; TABLE];
     hold(&mut table);
-    answer(rt, what, s, &mut table[0..room]);
-    kept(rt, table);
+    answer(rt, what, s, &mut table[..room]);
+    print_kept(rt, numbers_kept(&table));
 }
 
 // The four answers to a sheet.

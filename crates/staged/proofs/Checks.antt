@@ -1,9 +1,9 @@
 -- What the checks of a staged test's numbers leave: how many there are, how large each is, and that a current is injected.
-use Prim.Native.Nat.{ℕ, zero, suc, ◌+◌, ◌-◌, ◌%◌, ◌^◌, ◌≤◌, ◌<◌}
+use Prim.Native.Nat.{ℕ, zero, suc, ◌-◌, ◌%◌, ◌^◌, ◌≤◌, ◌<◌}
 use mathlib.Core.{Path.{◌≡◌, refl, sym, ◌∙◌}, Bool.{Bool, true, false, not, ◌||◌}, List.{List, [], ◌∷◌}}
-use native.Mathlib.{Omega.{arith}, Numerals.{add-one}}
+use native.Mathlib.{Omega.{arith}}
 use borrow.Author.Tests.{ltb-false, ne_eqb}
-use lib.{Dec.{ltb, eqb}, IntN.{ℤ, pos, negsuc, nat_abs}, Signed.{mag}, ListN.{length, get_or, drop, drop_of_length-le}, Seq.{drop-cons}}
+use lib.{Dec.{ltb, eqb}, IntN.{ℤ, pos, negsuc, nat_abs}, Signed.{mag}, ListN.{get_or}}
 use mir.{Syntax.{w64}, Val.{of_z}}
 use Rattle.staged.specs.Check.{fewest_numbers, most_numbers, bad_count, largest_part, outside, any_outside}
 
@@ -38,23 +38,6 @@ unfolding any_outside largest_part
 parts_inside [] h i = omega arith
 parts_inside (z ∷ s) h zero = inside z (either_false _ _ h).0
 parts_inside (z ∷ s) h (suc i) = parts_inside s (either_false (outside z) (any_outside s) h).1 i
-
--- ---- the loop over the numbers
-
-module _ (s : List ℤ) (i : ℕ) (h : i < length s) where
-  first_of : any_outside (drop i s) ≡ outside (get_or s i (pos 0)) || any_outside (drop (i + 1) s)
-  unfolding any_outside
-  first_of = rw (drop-cons s i (pos 0), add-one)
-
-  pub any_found : outside (get_or s i (pos 0)) ≡ true → any_outside (drop i s) ≡ true
-  any_found e = rw (first_of, e)
-
-  pub any_step : outside (get_or s i (pos 0)) ≡ false → any_outside (drop (i + 1) s) ≡ any_outside (drop i s)
-  any_step e = rw (first_of, e)
-
-pub any_end : (s : List ℤ) (i : ℕ) → length s ≤ i → any_outside (drop i s) ≡ false
-unfolding any_outside
-any_end s i h = rw (drop_of_length-le s h)
 
 -- ---- the injected current
 

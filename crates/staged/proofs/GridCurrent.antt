@@ -1,9 +1,11 @@
 -- The grid's part of a current by a loop over the branches; branches and grid together make the injected current.
-use Prim.Native.Nat.{ℕ, ◌+◌, ◌*◌, ◌≤◌, ◌<◌}
+use Prim.Native.Nat.{ℕ, zero, suc, ◌+◌, ◌*◌, ◌≤◌, ◌<◌}
 use mathlib.Core.{Path.{◌≡◌, refl, ap, sym, ◌∙◌}, List.{List, [], ◌∷◌}}
 use native.Mathlib.{Omega.{arith}, Nat.{add-zero}}
 use lib.IntN.{ℤ, pos, neg_ℤ, nat_abs, ◌+ℤ◌, ◌-ℤ◌, +ℤ_idr, +ℤ_assoc, +ℤ_comm, neg_ℤ-+ℤ, -ℤ-+ℤ_cancel}
 use lib.{ListN.{length, get_or, drop, drop_of_length-le}, Seq.{get_or-drop, drop-drop}}
+use Rattle.std.specs.Simd.{first_chunks}
+use Rattle.std.proofs.lemmas.List.{get_or-take}
 use Rattle.whole.proofs.Signed.{size_difference}
 use Rattle.staged.specs.{Check.{most_numbers, largest_part}, Current.{every_other, injected, branches, total, grid_part}}
 use Rattle.staged.specs.Parts.{largest_grid_part, Parts}
@@ -73,3 +75,13 @@ module _ {s : List ℤ} (p : Parts s) where
 pub left_small : {s : List ℤ} {z : ℤ} {i : ℕ} → Left s z i → nat_abs z ≤ largest_grid_part
 unfolding largest_part
 left_small l = omega (arith, l.size, l.few)
+
+-- ---- the numbers two by two
+
+-- the second number of a pair
+pub second_of : (n : ℕ) (s : List ℤ) (k : ℕ) → k < n → get_or (get_or (first_chunks 2 n s) k []) 1 (pos 0) ≡ get_or s (2 * k + 1) (pos 0)
+second_of zero s k h = absurd (omega arith)
+second_of (suc n) s zero h = get_or-take 2 s 1 (pos 0) (omega arith)
+second_of (suc n) s (suc k) h =
+    let e : 2 + (2 * k + 1) ≡ 2 * suc k + 1 = omega arith in
+    second_of n (drop 2 s) k (omega arith) ∙ get_or-drop 2 s (2 * k + 1) (pos 0) ∙ ap (λ i. get_or s i (pos 0)) e

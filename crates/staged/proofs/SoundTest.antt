@@ -3,11 +3,12 @@ use Prim.Native.Nat.{ℕ, zero, suc, ◌+◌, ◌*◌, ◌≤◌, ◌<◌}
 use mathlib.Core.{Path.{◌≡◌}, Bool.{false, ◌&&◌}, List.{List}}
 use native.Mathlib.{Omega.{arith}, Nat.{mul-le-mul}}
 use lib.{Dec.{eqb}, IntN.{ℤ, pos, nat_abs}, ListN.{length, get_or, drop, length-drop}, Seq.{get_or-drop}}
-use Rattle.staged.specs.{declared.SplitAnswer.TheVariants.{Grid}, Check.{fewest_numbers, largest_part, none_injected}}
-use Rattle.staged.specs.{Current.{in_phase, quadrature, square_of}, Answer.{grid_square, injected_square, grid_answer}}
+use Rattle.staged.specs.{Check.{fewest_numbers, largest_part, none_injected}}
+use Rattle.staged.specs.{Current.{in_phase, quadrature, square_of}, Answer.{grid_square, injected_square, grid, grid_split}}
 use Rattle.staged.specs.Parts.{largest_grid_part, Sound, Parts, GridPart}
 use Rattle.long_root.specs.{Split.{split_of}, LongRoot.{Squares}}
 use Rattle.staged.proofs.{Checks.{count_low, count_high, parts_inside}, GridCurrent.{first_kept}}
+use Rattle.std.specs.Prelude.{Ok}
 
 some_square : (a b : ℕ) → eqb a 0 && eqb b 0 ≡ false → 0 < a * a + b * b
 some_square zero zero h = let z : ◌≡◌ {A = ℕ} 0 1 = cc in omega arith
@@ -43,8 +44,8 @@ module _ {s : List ℤ} (h : Sound s) where
   injected_is = rw (first_kept, first_kept, get_or-drop)
 
   pub answer_is : {a b : ℤ} {g i n : ℕ} → GridPart s a → GridPart (drop 1 s) b → g ≡ square_of a b
-      → i ≡ square_of (get_or s 0 (pos 0)) (get_or s 1 (pos 0)) → n ≡ split_of g i → Grid a b n ≡ grid_answer s
-  unfolding grid_answer grid_square in_phase quadrature
+      → i ≡ square_of (get_or s 0 (pos 0)) (get_or s 1 (pos 0)) → n ≡ split_of g i → grid a b n ≡ grid_split s
+  unfolding grid_split grid_square in_phase quadrature
   answer_is p q e f r = cc (p.is, q.is, injected_is)
 
   pub squares : (a b : ℤ) → nat_abs a ≤ largest_grid_part → nat_abs b ≤ largest_grid_part

@@ -1,15 +1,16 @@
 -- §9.2: the answer to a staged test computed on examples.
 use mathlib.Core.{Path.{◌≡◌, refl}, List.{List, [], ◌∷◌, map}}
 use Rattle.std.specs.Prelude.{ℤ, pos, negsuc}
-use Rattle.staged.specs.declared.SplitAnswer.{TheVariants.{Grid, Refused}, SplitAnswer}
 use Rattle.staged.specs.Check.{fewest_numbers, most_numbers, bad_count, largest_part, outside, any_outside, none_injected}
 use Rattle.staged.specs.Current.{every_other, in_phase, quadrature, injected, branches, total, grid_part, square_of}
-use Rattle.staged.specs.Answer.{grid_square, injected_square, grid_answer, answer}
+use Rattle.staged.specs.{declared.GridShare.{GridShare}, Answer.{grid, grid_square, injected_square, grid_split, answer}}
 use Rattle.long_root.specs.Split.{smallest, enough, split_of}
+use Rattle.std.specs.Prelude.{Result, Ok}
+use Rattle.refusal.specs.{declared.Refused.{Refused}, Refused.{refuse}}
 
-answered : List ℤ → SplitAnswer
+answered : List ℤ → Result GridShare Refused
 unfolding fewest_numbers most_numbers bad_count largest_part outside any_outside none_injected every_other in_phase quadrature injected branches
-    total grid_part square_of smallest enough split_of grid_square injected_square grid_answer answer
+    total grid_part square_of smallest enough split_of grid_square injected_square grid_split answer
 answered s = answer s
 
 -- one branch: 0.6 of the current in the grid, exactly; a quadrature part alone; a grid without current; a grid with more than is injected
@@ -18,7 +19,7 @@ one_branch : map answered (
     ∷ (pos 0 ∷ pos 10 ∷ pos 0 ∷ pos 5 ∷ [])
     ∷ (pos 7 ∷ negsuc 2 ∷ pos 7 ∷ negsuc 2 ∷ [])
     ∷ (pos 10 ∷ pos 0 ∷ negsuc 9 ∷ pos 0 ∷ [])
-    ∷ []) ≡ Grid (pos 600) (pos 0) 600 ∷ Grid (pos 0) (pos 5) 500 ∷ Grid (pos 0) (pos 0) 0 ∷ Grid (pos 20) (pos 0) 2000 ∷ []
+    ∷ []) ≡ Ok (grid (pos 600) (pos 0) 600) ∷ Ok (grid (pos 0) (pos 5) 500) ∷ Ok (grid (pos 0) (pos 0) 0) ∷ Ok (grid (pos 20) (pos 0) 2000) ∷ []
 unfolding answered
 one_branch = refl
 
@@ -27,7 +28,7 @@ rounded_up : map answered (
     (pos 3 ∷ pos 0 ∷ pos 2 ∷ pos 0 ∷ [])
     ∷ (pos 1 ∷ pos 1 ∷ pos 1 ∷ pos 0 ∷ [])
     ∷ (pos 40 ∷ pos 30 ∷ pos 10 ∷ negsuc 9 ∷ pos 0 ∷ pos 40 ∷ [])
-    ∷ []) ≡ Grid (pos 1) (pos 0) 334 ∷ Grid (pos 0) (pos 1) 708 ∷ Grid (pos 30) (pos 0) 600 ∷ []
+    ∷ []) ≡ Ok (grid (pos 1) (pos 0) 334) ∷ Ok (grid (pos 0) (pos 1) 708) ∷ Ok (grid (pos 30) (pos 0) 600) ∷ []
 unfolding answered
 rounded_up = refl
 
@@ -41,7 +42,7 @@ refused : map answered (
     ∷ (pos 0 ∷ pos 0 ∷ pos 1 ∷ pos 1 ∷ [])
     ∷ (pos 0 ∷ pos 0 ∷ pos 1000001 ∷ pos 1 ∷ [])
     ∷ (pos 0 ∷ pos 0 ∷ pos 1000001 ∷ [])
-    ∷ []) ≡ Refused 17 0 0 ∷ Refused 17 0 0 ∷ Refused 17 0 0 ∷ Refused 18 0 0 ∷ Refused 18 0 0 ∷ Refused 19 0 0 ∷ Refused 18 0 0 ∷ Refused
+    ∷ []) ≡ refuse 17 0 0 ∷ refuse 17 0 0 ∷ refuse 17 0 0 ∷ refuse 18 0 0 ∷ refuse 18 0 0 ∷ refuse 19 0 0 ∷ refuse 18 0 0 ∷ refuse
     17 0 0 ∷ []
 unfolding answered
 refused = refl
@@ -53,6 +54,6 @@ at_the_ends : map answered (
     ∷ (pos 16 ∷ pos 0 ∷ pos 1 ∷ pos 0 ∷ pos 1 ∷ pos 0 ∷ pos 1 ∷ pos 0 ∷ pos 1 ∷ pos 0 ∷ pos 1 ∷ pos 0 ∷ pos 1 ∷ pos 0 ∷ pos 1 ∷ pos 0 ∷
     pos 1 ∷ pos 0
     ∷ pos 1 ∷ pos 0 ∷ pos 1 ∷ pos 0 ∷ pos 1 ∷ pos 0 ∷ pos 1 ∷ pos 0 ∷ pos 1 ∷ pos 0 ∷ pos 1 ∷ pos 0 ∷ pos 1 ∷ pos 0 ∷ pos 1 ∷ pos 0 ∷ [])
-    ∷ []) ≡ Grid (pos 1) (pos 0) 1 ∷ Grid (negsuc 1000999) (pos 0) 1001 ∷ Grid (pos 0) (pos 0) 0 ∷ []
+    ∷ []) ≡ Ok (grid (pos 1) (pos 0) 1) ∷ Ok (grid (negsuc 1000999) (pos 0) 1001) ∷ Ok (grid (pos 0) (pos 0) 0) ∷ []
 unfolding answered
 at_the_ends = refl

@@ -14,36 +14,20 @@ const LARGEST: i64 = 1000000;
 pub fn bad_count(n: usize) -> bool
     ensures { result ≡ bad_count n }
 {
-    if n % 2 != 0 {
-        return true;
-    }
-    if n < FEWEST {
-        return true;
-    }
-    MOST < n
+    n % 2 != 0 || !(FEWEST..=MOST).contains(&n)
 }
 
 fn is_outside(part: i64) -> bool
     ensures { result ≡ outside part }
 {
-    if part < 0 - LARGEST {
-        return true;
-    }
-    LARGEST < part
+    !(-LARGEST..=LARGEST).contains(&part)
 }
 
 // Refusal 18.
 pub fn any_outside(parts: &[i64]) -> bool
     ensures { result ≡ any_outside parts.now }
 {
-    let mut i: usize = 0;
-    while i < parts.len() {
-        if is_outside(parts[i]) {
-            return true;
-        }
-        i += 1;
-    }
-    false
+    parts.iter().any(|part| is_outside(*part))
 }
 
 // Refusal 19.
@@ -51,8 +35,5 @@ pub fn none_injected(parts: &[i64]) -> bool
     requires { bad_count (length parts.now) ≡ false }
     ensures { result ≡ none_injected parts.now }
 {
-    if parts[0] != 0 {
-        return false;
-    }
-    parts[1] == 0
+    parts[0] == 0 && parts[1] == 0
 }

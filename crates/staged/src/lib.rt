@@ -9,13 +9,14 @@ ghost use Rattle.staged.specs.Answer.{answer};
 
 use check::{any_outside, bad_count, none_injected};
 use grid::measured;
+use refusal::Refused;
 
-// The answer to a staged test: the grid's in-phase and quadrature part in milliamperes and the split in per mille, or a
-// refusal with number, line and column.
+// What a staged test shows: the grid's in-phase and quadrature part in milliamperes, and the split in per mille.
 #[derive(Clone, Copy)]
-pub enum SplitAnswer {
-    Grid(i64, i64, u64),
-    Refused(u32, usize, usize),
+pub struct GridShare {
+    pub in_phase: i64,
+    pub quadrature: i64,
+    pub per_mille: u64,
 }
 
 // A wrong count of numbers, a part out of its range, no injected current.
@@ -27,19 +28,19 @@ const REFUSED_NO_CURRENT: u32 = 19;
 
 // Grid current and split from a test's numbers: the injected current's in-phase and quadrature part in milliamperes, then
 // those of each branch.
-pub fn split(parts: &[i64]) -> SplitAnswer
+pub fn split(parts: &[i64]) -> Result<GridShare, Refused>
     ensures { result ≡ answer parts.now }
 {
     if bad_count(parts.len()) {
-        return SplitAnswer::Refused(REFUSED_TEST, 0, 0);
+        return Err(Refused(REFUSED_TEST, 0, 0));
     }
     let outside = any_outside(parts);
     let none = none_injected(parts);
     if outside {
-        return SplitAnswer::Refused(REFUSED_PART, 0, 0);
+        return Err(Refused(REFUSED_PART, 0, 0));
     }
     if none {
-        return SplitAnswer::Refused(REFUSED_NO_CURRENT, 0, 0);
+        return Err(Refused(REFUSED_NO_CURRENT, 0, 0));
     }
-    measured(parts)
+    Ok(measured(parts))
 }

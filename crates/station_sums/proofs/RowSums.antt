@@ -74,8 +74,3 @@ module _ {table : List ℤ} {places : List ℕ} {n i : ℕ} {sums : List Sums} (
       go j l false q =
           let other : get_or places i 0 ≡ j → ⊥ = eqb-false (get_or places i 0) j q in
           get_or-set_other sums (get_or places i 0) j s none (λ x. other (sym x)) ∙ a.at j l
-
-  pub summing_end : n ≤ i → (j : ℕ) → j < most_lines → get_or sums j none ≡ sums_at table places j n
-  summing_end h j l =
-      let all : i ≡ n = omega (arith, a.most) in
-      a.at j l ∙ ap (sums_at table places j) all

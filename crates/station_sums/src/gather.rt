@@ -14,14 +14,11 @@ fn entry(table: &[i64], i: usize) -> Entry
     requires { row_length * i + row_length ≤ length table.now }
     ensures { result ≡ entry_at table.now i }
 {
-    let a = ROW_LENGTH * i;
-    let season = a + SEASON;
-    let verdict = a + VERDICT;
-    let mesh = a + MESH_UPPER;
+    let row = &table[ROW_LENGTH * i..ROW_LENGTH * (i + 1)];
     Entry {
-        season: table[season],
-        verdict: table[verdict],
-        mesh: table[mesh],
+        season: row[SEASON],
+        verdict: row[VERDICT],
+        mesh: row[MESH_UPPER],
     }
 }
 
@@ -41,12 +38,9 @@ pub fn sum_rows(table: &[i64], n: usize, places: [usize; LINES]) -> [Sums; LINES
         mesh: 0,
     };
     let mut sums = [nothing; LINES];
-    let mut i: usize = 0;
-    while i < n {
+    for i in 0..n {
         let place = places[i];
-        let before = sums[place];
-        sums[place] = add(before, entry(table, i));
-        i += 1;
+        sums[place] = add(sums[place], entry(table, i));
     }
     sums
 }

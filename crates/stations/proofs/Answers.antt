@@ -18,9 +18,11 @@ use Rattle.sheet.specs.declared.Answer.TheVariants as sheet
 use Rattle.station_sums.specs.{Summary.{by_appearance, stations, station_length, summary_of, filled}, declared.Sums.{Sums}}
 use Rattle.station_sums.specs.Sums.{none, sums_at, sixes}
 use Rattle.appearance.specs.Places.{station_column, Places}
-use Rattle.stations.specs.declared.Summed.TheVariants.{Summary, Refused}
 use Rattle.stations.specs.Answer.{sheet_rows, summary_refused, answer_after, summary_answer, TablesAfter, SummaryAnswered}
 use Rattle.stations.proofs.StationSums.{stations_found, summary_put}
+use Rattle.std.specs.Prelude.{Ok}
+use Rattle.refusal.specs.{Refused.{refuse}}
+use Rattle.stations.specs.Answer.{counts}
 
 -- ---- rows copied from one table into another
 
@@ -121,13 +123,13 @@ refused_elsewhere {s} {zeros} told q whole room = refused_anywhere s (length zer
 module _ (s : List ℕ) (rows before : List ℤ) where
   -- refused by the sheet's own question
   pub summary_refused_lem : {number line column : ℕ} → sheet.Refused number line column ≡ answer s (length rows)
-      → SummaryAnswered s rows rows before before (Refused number line column)
+      → SummaryAnswered s rows rows before before (refuse number line column)
   unfolding summary_answer answer_after TablesAfter
   summary_refused_lem e = record { answer_is = rw (← e); tables_are = record { rows = refl; summary = refl } }
 
   module _ {n m : ℕ} (e : sheet.Rows n ≡ answer s (length rows)) (count : m ≡ length (stations (sheet_rows s))) where
     -- the summary table is too short
-    pub summary_short : length before < station_length * m → SummaryAnswered s rows rows before before (Refused 20 0 0)
+    pub summary_short : length before < station_length * m → SummaryAnswered s rows rows before before (refuse 20 0 0)
     unfolding summary_answer answer_after summary_refused TablesAfter
     summary_short h =
         record {
@@ -137,7 +139,7 @@ module _ (s : List ℕ) (rows before : List ℤ) where
 
     pub summary_done : {after summary : List ℤ} (put : List (List ℤ)) → station_length * m ≤ length before
         → Answered s rows after (sheet.Rows n)
-        → put ≡ summary_of (sheet_rows s) → summary ≡ filled put before → SummaryAnswered s rows after before summary (Summary n m)
+        → put ≡ summary_of (sheet_rows s) → summary ≡ filled put before → SummaryAnswered s rows after before summary (Ok (counts n m))
     unfolding summary_answer answer_after TablesAfter
     summary_done put h a q u =
         record {

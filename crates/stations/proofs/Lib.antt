@@ -1,5 +1,4 @@
 mod StationSums
 mod Tables
-pub mod Copying
 mod Answers
 pub mod Within

@@ -2,27 +2,18 @@
 use Prim.Native.Nat.{ℕ, suc, ◌+◌, ◌*◌, ◌-◌, ◌≤◌, ◌<◌}
 use mathlib.Core.{Path.{◌≡◌, refl, sym, ap, ◌∙◌}, List.{List, [], ◌∷◌, ◌++◌, append_assoc}}
 use native.Mathlib.{Numerals.{add-one}, Omega.{arith}}
-use lib.{IntN.{ℤ, pos}, ListN.{length, get_or, set, take, drop, length-append, length-drop, take-append-drop}}
+use lib.{IntN.{ℤ, pos}, ListN.{length, get_or, take, drop, length-append, length-drop, take-append-drop}}
 use lib.Seq.{take_at, drop_at, length-take-le, drop-drop}
 use borrow.Rule.Slice.PartMut.{put_mid, Post-is}
 use Rattle.station_sums.specs.{declared.Sums.{Sums}, Summary.{filled, station_length}, Sums.{none, six, sixes, put_at}}
 
-pub six_set : (l : List ℤ) (a b c d e f : ℤ) → length l ≡ station_length
-    → set (set (set (set (set (set l 0 a) 1 b) 2 c) 3 d) 4 e) 5 f ≡ a ∷ b ∷ c ∷ d ∷ e ∷ f ∷ []
-six_set [] a b c d e f h = absurd (omega arith)
-six_set (u ∷ []) a b c d e f h = absurd (omega arith)
-six_set (u ∷ v ∷ []) a b c d e f h = absurd (omega arith)
-six_set (u ∷ v ∷ w ∷ []) a b c d e f h = absurd (omega arith)
-six_set (u ∷ v ∷ w ∷ x ∷ []) a b c d e f h = absurd (omega arith)
-six_set (u ∷ v ∷ w ∷ x ∷ y ∷ []) a b c d e f h = absurd (omega arith)
-six_set (u ∷ v ∷ w ∷ x ∷ y ∷ z ∷ []) a b c d e f h = refl
-six_set (u ∷ v ∷ w ∷ x ∷ y ∷ z ∷ r ∷ l) a b c d e f h = absurd (omega arith)
-
 -- a part of six numbers put in the place of station i
 pub put_at_lem : (i : ℕ) (t x y : List ℤ) → x ≡ y
-    → put_mid (station_length * i) (station_length * i + station_length - station_length * i) t x ≡ put_at i y t
+    → put_mid (station_length * i) (station_length * (i + 1) - station_length * i) t x ≡ put_at i y t
 unfolding put_at
-put_at_lem i t x y e = rw (e, Post-is (station_length * i) (station_length * i + station_length) t (omega arith))
+put_at_lem i t x y e =
+    let next : station_length * (i + 1) ≡ station_length * i + station_length = omega arith in
+    rw (next, e, Post-is (station_length * i) (station_length * i + station_length) t (omega arith))
 
 six_long : (station : ℤ) (s : Sums) → length (six station s) ≡ station_length
 unfolding six
@@ -62,11 +53,6 @@ pub record Putting (stations : List ℤ) (sums : List Sums) (count : ℕ) (befor
   pub size : length table ≡ length before
   pub rest : filled (sixes stations sums 0 count) before
       ≡ take (station_length * i) table ++ filled (left stations sums count i) (drop (station_length * i) table)
-
-pub putting_start : (stations : List ℤ) (sums : List Sums) (count : ℕ) (t : List ℤ) → Putting stations sums count t 0 t
-putting_start stations sums count t =
-    let z : count - 0 ≡ count = omega arith in
-    record { most = omega arith; size = refl; rest = rw z }
 
 module _ {stations : List ℤ} {sums : List Sums} {count : ℕ} {before : List ℤ} {i : ℕ} {t : List ℤ}
     (a : Putting stations sums count before i t) where

@@ -7,10 +7,5 @@ pub fn copy_numbers(from: &[i64], n: usize, to: &mut [i64])
     requires n_in_bounds_2 { n ≤ length to.old }
     ensures { to.new ≡ take n from.now ++ drop n to.old }
 {
-    let mut i: usize = 0;
-    while i < n {
-        let z = from[i];
-        to[i] = z;
-        i += 1;
-    }
+    to[..n].copy_from_slice(&from[..n]);
 }

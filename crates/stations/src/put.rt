@@ -14,17 +14,14 @@ fn put_numbers(station: i64, s: Sums, part: &mut [i64])
     requires part_len { length part.old ≡ station_length }
     ensures { part.new ≡ six station s }
 {
-    let seasons = s.seasons as i64;
-    let safe = s.safe as i64;
-    let not_safe = s.not_safe as i64;
-    let undecided = s.undecided as i64;
-    let season = s.season;
-    part[0] = station;
-    part[1] = seasons;
-    part[2] = safe;
-    part[3] = not_safe;
-    part[4] = undecided;
-    part[5] = season;
+    part.copy_from_slice(&[
+        station,
+        s.seasons as i64,
+        s.safe as i64,
+        s.not_safe as i64,
+        s.undecided as i64,
+        s.season,
+    ]);
 }
 
 // The station with index i.
@@ -33,9 +30,11 @@ fn put_station(station: i64, s: Sums, table: &mut [i64], i: usize)
     requires station_length_in_bounds { station_length * i + station_length ≤ length table.old }
     ensures { table.new ≡ put_at i (six station s) table.old }
 {
-    let a = STATION_LENGTH * i;
-    let b = a + STATION_LENGTH;
-    put_numbers(station, s, &mut table[a..b]);
+    put_numbers(
+        station,
+        s,
+        &mut table[STATION_LENGTH * i..STATION_LENGTH * (i + 1)],
+    );
 }
 
 // The first count stations, one after the other.
@@ -45,11 +44,7 @@ pub fn put_stations(stations: [i64; LINES], sums: [Sums; LINES], count: usize, t
     requires count_in_bounds { station_length * count ≤ length table.old }
     ensures { table.new ≡ filled (sixes stations sums 0 count) table.old }
 {
-    let mut i: usize = 0;
-    while i < count {
-        let station = stations[i];
-        let s = sums[i];
-        put_station(station, s, table, i);
-        i += 1;
+    for i in 0..count {
+        put_station(stations[i], sums[i], table, i);
     }
 }

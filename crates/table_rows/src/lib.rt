@@ -18,9 +18,7 @@ pub fn line_case(values: &[u32], i: usize) -> Case
     requires { name_count * i + name_count ≤ length values.now }
     ensures { result ≡ case_of (part_at name_count values.now i) }
 {
-    let a = NAMES * i;
-    let b = a + NAMES;
-    case_of(&values[a..b])
+    case_of(&values[NAMES * i..NAMES * (i + 1)])
 }
 
 // Row i of the table.
@@ -29,10 +27,10 @@ fn write_row(c: Case, table: &mut [i64], i: usize)
     requires row_length_in_bounds { row_length * i + row_length ≤ length table.old }
     ensures { Written row_length i (numbers (row_of c)) table.old table.new }
 {
-    let row = work_row(c);
-    let a = ROW_LENGTH * i;
-    let b = a + ROW_LENGTH;
-    put_row(row, &mut table[a..b]);
+    put_row(
+        work_row(c),
+        &mut table[ROW_LENGTH * i..ROW_LENGTH * (i + 1)],
+    );
 }
 
 // The rows of n lines of values, which are sound.
@@ -42,10 +40,7 @@ pub fn write_rows(values: &[u32], n: usize, table: &mut [i64])
     requires n_in_bounds_2 { row_length * n ≤ length table.old }
     ensures { Filled (stored_cases values.now n) table.old table.new }
 {
-    let mut i: usize = 0;
-    while i < n {
-        let c = line_case(values, i);
-        write_row(c, table, i);
-        i += 1;
+    for i in 0..n {
+        write_row(line_case(values, i), table, i);
     }
 }

@@ -1,7 +1,7 @@
--- The lines of a station among the stored values, taken from the last to the first.
+-- The lines of a station among the stored values: the first of them, and what is counted of them from the last to the first.
 use Prim.Native.Nat.{ℕ, suc, ◌+◌, ◌-◌, ◌*◌, ◌≤◌, ◌<◌}
 use mathlib.Core.{Path.{◌≡◌, sym, ap, ◌∙◌}, Bool.{Bool, true, false, cond}, List.{List, [], ◌∷◌}}
-use native.Mathlib.Omega.{arith}
+use native.Mathlib.{Numerals.{add-one}, Omega.{arith}}
 use lib.{Dec.{eqb}, ListN.{length, get_or, drop, drop_of_length-le}, Seq.{drop-cons}}
 use borrow.Author.Tests.{eq-eqb, ne_eqb}
 use Rattle.tables.{specs.Parts.{part_at}, proofs.Parts.{part_entry}}
@@ -61,32 +61,21 @@ lines_most values n station h = omega (arith, lines_few station (stored_cases va
 
 -- ---- the first line
 
-pub record First (values : List ℕ) (n station i : ℕ) (first : Case) : Type 0 where
-  pub within : i ≤ n
-  pub is : first ≡ first_line (lines_from values n station i)
+-- no line before line i is one of the station
+pub record Before (values : List ℕ) (n station i : ℕ) : Type 0 where
+  pub none : lines_from values n station i ≡ lines_of station (stored_cases values n)
 
-pub first_start : (values : List ℕ) (n station : ℕ) → First values n station n (case_of [])
-first_start values n station = record { within = omega arith; is = rw (lines_end values n station) }
+pub before_more : {values : List ℕ} {n station i : ℕ} → Before values n station i → i < n → (get_or values (name_count * i) 0 ≡ station → ⊥)
+    → Before values n station (i + 1)
+before_more {values} {n} {station} {i} b h e = record { none = rw add-one (sym (lines_other values n station i h e) ∙ b.none) }
 
-module _ {values : List ℕ} {n station i : ℕ} {first : Case} (a : First values n station i first) (h : 0 < i) where
-  after : suc (i - 1) ≡ i
-  after = omega arith
+pub first_here : {values : List ℕ} {n station i : ℕ} → Before values n station i → i < n → get_or values (name_count * i) 0 ≡ station
+    → case_of (part_at name_count values i) ≡ first_line (lines_of station (stored_cases values n))
+first_here {values} {n} {station} {i} b h e = ap first_line (sym (lines_own values n station i h e) ∙ b.none)
 
-  pub first_own : {c : Case} → get_or values (name_count * (i - 1)) 0 ≡ station → c ≡ case_of (part_at name_count values (i - 1))
-      → First values n station (i - 1) c
-  first_own {c} e q =
-      record { within = omega (arith, a.within); is = rw (lines_own values n station (i - 1) (omega (arith, a.within)) e) q }
-
-  pub first_other : (get_or values (name_count * (i - 1)) 0 ≡ station → ⊥) → First values n station (i - 1) first
-  first_other e =
-      record {
-        within = omega (arith, a.within);
-        is = rw (lines_other values n station (i - 1) (omega (arith, a.within)) e, after) a.is;
-      }
-
-pub first_end : {values : List ℕ} {n station i : ℕ} {first : Case} → First values n station i first → i ≤ 0
-    → first ≡ first_line (lines_of station (stored_cases values n))
-first_end {values} {n} {station} {i} a h = let e : i ≡ 0 = omega arith in rw e at a.is
+pub first_none : {values : List ℕ} {n station : ℕ} → Before values n station n
+    → case_of [] ≡ first_line (lines_of station (stored_cases values n))
+first_none {values} {n} {station} b = ap first_line (sym (lines_end values n station) ∙ b.none)
 
 -- ---- what is counted of them
 

@@ -1,5 +1,5 @@
 // One line added to what is counted of its station.
-ghost use Rattle.std.specs.Prelude.{◌≡◌, min, eqb, ◌||◌};
+ghost use Rattle.std.specs.Prelude.{◌≡◌, eqb, ◌||◌};
 ghost use Rattle.case.specs.Bounds.{Bounds};
 ghost use Rattle.decision.specs.Verdict.{verdict_number};
 ghost use Rattle.row.specs.Ends.{row_of};
@@ -12,7 +12,6 @@ use case::Case;
 use decision::Verdict;
 use headroom::greatest_fault;
 use row::work_row;
-use whole::below;
 
 // 254² and 1000: 1000·dia² is in 64,516ths of a kcmil, dia in tenths of a mm.
 const KCMIL: u32 = 64516;
@@ -23,48 +22,36 @@ const THOUSAND: u32 = 1000;
 fn count_unsafe(v: Verdict) -> u32
     ensures { result ≡ one (eqb (verdict_number v) 2) }
 {
-    match v {
-        Verdict::Safe => 0,
-        Verdict::Unsafe => 1,
-        Verdict::Undecided => 0,
-    }
+    u32::from(matches!(v, Verdict::Unsafe))
 }
 
 // 1 where it is undecided.
 fn count_undecided(v: Verdict) -> u32
     ensures { result ≡ one (eqb (verdict_number v) 3) }
 {
-    match v {
-        Verdict::Safe => 0,
-        Verdict::Unsafe => 0,
-        Verdict::Undecided => 1,
-    }
+    u32::from(matches!(v, Verdict::Undecided))
 }
 
 // The nine columns of a yard by value.
 fn same_yard(c: Case, d: Case) -> bool
     ensures { result ≡ same_yard c d }
 {
-    let across = c.across == d.across;
-    let along = c.along == d.along;
-    let space = c.space == d.space;
-    let depth = c.depth == d.depth;
-    let dia = c.dia == d.dia;
-    let rods = c.rods == d.rods;
-    let rodlen = c.rodlen == d.rodlen;
-    let place = c.place == d.place;
-    let metal = c.metal == d.metal;
-    across & (along & (space & (depth & (dia & (rods & (rodlen & (place & metal)))))))
+    c.across == d.across
+        && c.along == d.along
+        && c.space == d.space
+        && c.depth == d.depth
+        && c.dia == d.dia
+        && c.rods == d.rods
+        && c.rodlen == d.rodlen
+        && c.place == d.place
+        && c.metal == d.metal
 }
 
 // 1 where the case has another yard.
 fn count_other(yard: Case, c: Case) -> u32
     ensures { result ≡ one (other_yard yard c) }
 {
-    if same_yard(yard, c) {
-        return 0;
-    }
-    1
+    u32::from(!same_yard(yard, c))
 }
 
 // The conductor's cross-section in whole kcmil, rounded down: its own, or with 0 that of a solid round wire of the line's diameter.
@@ -73,9 +60,10 @@ fn area_of(c: Case, area: u32) -> u32
     ensures { result ≡ area_of area c }
 {
     if area != 0 {
-        return area;
+        area
+    } else {
+        THOUSAND * (c.dia * c.dia) / KCMIL
     }
-    THOUSAND * (c.dia * c.dia) / KCMIL
 }
 
 // 1 where the conductor is too small for the size in kcmil.
@@ -84,27 +72,14 @@ fn count_small(c: Case, area: u32, size: i64) -> u32
     requires size_value { size ≡ (row_of c).size }
     ensures { result ≡ one (too_small area c) }
 {
-    let kcmil = area_of(c, area);
-    if below(kcmil as i64, size) {
-        return 1;
-    }
-    0
-}
-
-fn lesser(a: u32, b: u32) -> u32
-    ensures { result ≡ min a b }
-{
-    if a <= b { a } else { b }
+    u32::from(i64::from(area_of(c, area)) < size)
 }
 
 // Whether a season has a line, with one more.
 fn has(season: u32, which: u32, before: bool) -> bool
     ensures { result ≡ (eqb season which || before) }
 {
-    if season == which {
-        return true;
-    }
-    before
+    season == which || before
 }
 
 // A line whose yard is compared with that of the first, and whose conductor has this cross-section of its own in kcmil, or 0.
@@ -114,9 +89,8 @@ pub fn add(yard: Case, area: u32, c: Case, t: Tally) -> Tally
     ensures { result ≡ add_line yard area c t }
 {
     let row = work_row(c);
-    let verdict = row.verdict;
-    let not_safe = count_unsafe(verdict) + t.not_safe;
-    let undecided = count_undecided(verdict) + t.undecided;
+    let not_safe = count_unsafe(row.verdict) + t.not_safe;
+    let undecided = count_undecided(row.verdict) + t.undecided;
     let other = count_other(yard, c) + t.other;
     let small = count_small(c, area, row.size) + t.small;
     Tally {
@@ -129,6 +103,6 @@ pub fn add(yard: Case, area: u32, c: Case, t: Tally) -> Tally
         undecided,
         other,
         small,
-        fault: lesser(greatest_fault(c), t.fault),
+        fault: greatest_fault(c).min(t.fault),
     }
 }

@@ -8,23 +8,20 @@ use crate::Tally;
 // 1 where the season that counts `unit` is licensed and has no line.
 fn lacking(unit: u32, seasons: u32, has: bool) -> u32
     requires { 1 ≤ unit }
-    ensures { result ≡ one (eqb (seasons / unit % 2) 1 && not has) }
+    ensures value { result ≡ one (eqb (seasons / unit % 2) 1 && not has) }
+    ensures at_most_one { result ≤ 1 }
 {
-    if seasons / unit % 2 != 1 {
-        return 0;
-    }
-    if has {
-        return 0;
-    }
-    1
+    u32::from(seasons / unit % 2 == 1 && !has)
 }
 
 // How many licensed seasons have no line.
 pub fn missing_seasons(seasons: u32, t: Tally) -> u32
     ensures { result ≡ missing_by seasons t }
 {
-    let first_two = lacking(1, seasons, t.first) + lacking(2, seasons, t.second);
-    first_two + lacking(4, seasons, t.third) + lacking(8, seasons, t.fourth)
+    lacking(1, seasons, t.first)
+        + lacking(2, seasons, t.second)
+        + lacking(4, seasons, t.third)
+        + lacking(8, seasons, t.fourth)
 }
 
 // 1 released, 2 held; `without` is the count of licensed seasons that have no line.
@@ -34,17 +31,15 @@ pub fn released_or_held(without: u32, t: Tally) -> u32
     ensures { result ≡ released without t.not_safe t.undecided t.other t.small }
 {
     if without + t.not_safe + t.undecided + t.other + t.small == 0 {
-        return 1;
+        1
+    } else {
+        2
     }
-    2
 }
 
 // The fault current, which without a line is 0.
 pub fn reported_fault(t: Tally) -> u32
     ensures { result ≡ cond (eqb t.lines 0) 0 t.fault }
 {
-    if t.lines == 0 {
-        return 0;
-    }
-    t.fault
+    if t.lines == 0 { 0 } else { t.fault }
 }

@@ -1,4 +1,4 @@
-// The lines of a station among the stored values of a sheet, from the last to the first.
+// The lines of a station among the stored values of a sheet.
 ghost use Rattle.std.specs.Prelude.{◌≡◌, ◌≤◌, ◌*◌, length};
 ghost use Rattle.case.specs.Columns.{name_count};
 ghost use Rattle.judgement.specs.Limits.{most_lines};
@@ -19,20 +19,16 @@ pub fn first_line(values: &[u32], n: usize, station: u32) -> Case
     requires { name_count * n ≤ length values.now }
     ensures { result ≡ first_line (lines_of station (stored_cases values.now n)) }
 {
-    let none = [0u32; NAMES];
-    let mut first = case_of(&none);
-    let mut i = n;
-    while 0 < i {
-        i -= 1;
+    for i in 0..n {
         if values[NAMES * i] == station {
-            first = line_case(values, i);
+            return line_case(values, i);
         }
     }
-    first
+    case_of(&[0; NAMES])
 }
 
 // What is counted of the lines of a station, whose yards are compared with that of a case, and whose conductor has this cross-section of
-// its own in kcmil, or 0.
+// its own in kcmil, or 0. From the last line to the first, as the counts are defined: those of the lines after it, and the line.
 pub fn count_lines(values: &[u32], n: usize, station: u32, yard: Case, area: u32) -> Tally
     requires n_le_most_lines { n ≤ most_lines }
     requires stored_bounds { StoredBounds values.now n }
@@ -51,9 +47,7 @@ pub fn count_lines(values: &[u32], n: usize, station: u32, yard: Case, area: u32
         small: 0,
         fault: MOST_FAULT,
     };
-    let mut i = n;
-    while 0 < i {
-        i -= 1;
+    for i in (0..n).rev() {
         if values[NAMES * i] == station {
             t = add(yard, area, line_case(values, i), t);
         }

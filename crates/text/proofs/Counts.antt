@@ -1,8 +1,10 @@
 -- The count of a byte, and of lines by it: what holds while n of the bytes before index i are b.
-use Rattle.std.proofs.Common.{ℕ, zero, suc, ◌+◌, ◌-◌, ◌<◌, ◌≤◌, eq-eqb, ne_eqb}
-use mathlib.Core.{Path.{◌≡◌, refl, sym, ◌∙◌}, Bool.{Bool, true, false, cond}, List.{List, [], ◌∷◌}}
+use Rattle.std.proofs.Common.{ℕ, zero, suc, map, zero-mul, zero-add, ◌*◌, ◌+◌, ◌<◌, ◌≤◌, eq-eqb, ne_eqb}
+use mathlib.Core.{Path.{◌≡◌, refl, sym, ap, ◌∙◌}, Bool.{Bool, true, false, cond}, List.{List, [], ◌∷◌, ◌++◌}}
 use native.Mathlib.{Numerals.{add-one}, Omega.{arith}}
-use lib.{ListN.{length, get_or, take, drop, length-drop, drop_of_length-le}, Seq.{drop-cons, length-take-le}, Dec.{eqb}}
+use lib.{ListN.{length, get_or, take, drop, length-drop, drop_of_length-le}, Seq.{drop-cons, drop-drop}, Dec.{eqb}}
+use Rattle.std.proofs.lemmas.List.Sums.{sum_by-cons}
+use Rattle.std.specs.{List.{sum}, Simd.{first_chunks}}
 use Rattle.text.specs.{Text.{on_first, lines_of}, Parts.{count_of}}
 
 pub record Counting (b : ℕ) (s : List ℕ) (n i : ℕ) : Type 0 where
@@ -53,46 +55,36 @@ count_split b (suc k) (x ∷ s) = step (eqb x b) (count_split b k s)
     step true h = omega arith
     step false h = h
 
--- the count by blocks: what holds while n bytes b are before the rest
-pub record Blocks (b : ℕ) (s rest : List ℕ) (n : ℕ) : Type 0 where
-  pub short : n + length rest ≤ length s
-  pub passed : count_of b s ≡ n + count_of b rest
+-- the count by blocks of k bytes, and in the rest
+pub blocks_count : (b k n : ℕ) (s : List ℕ) → n * k ≤ length s
+    → sum (map (count_of b) (first_chunks k n s)) + count_of b (drop (n * k) s) ≡ count_of b s
+blocks_count b k zero s h = rw (zero-mul k) (zero-add _)
+blocks_count b k (suc n) s h =
+    let size : n * k ≤ length (drop k s) = omega (arith, length-drop k s) in
+    let rest = blocks_count b k n (drop k s) size in
+    let more : sum (map (count_of b) (first_chunks k (suc n) s)) ≡ count_of b (take k s) + sum (map (count_of b) (first_chunks k n (drop k s))) =
+    sum_by-cons (λ x. x) _ (map (count_of b) (first_chunks k n (drop k s))) in
+    let later : drop (n * k) (drop k s) ≡ drop (suc n * k) s = drop-drop (n * k) k s ∙ ap (λ m. drop m s) (omega arith) in
+    omega (arith, more, rest, ap (count_of b) later, count_split b k s)
 
-pub blocks_start : (b : ℕ) (s : List ℕ) → Blocks b s s 0
-blocks_start b s = record { short = omega arith; passed = omega arith }
-
-module _ {b : ℕ} {s rest : List ℕ} {n : ℕ} (k m : ℕ) (a : Blocks b s rest n) (h : k ≤ length rest) (e : m ≡ count_of b (take k rest)) where
-  pub block_fits : n + m ≤ length s
-  block_fits = omega (arith, a.short, count_within b (take k rest), length-take-le k rest h)
-
-  pub blocks_step : Blocks b s (drop k rest) (n + m)
-  blocks_step =
-      record {
-        short = omega (arith, a.short, count_within b (take k rest), length-take-le k rest h, length-drop k rest);
-        passed = omega (arith, a.passed, count_split b k rest);
-      }
-
-pub blocks_end : {b : ℕ} {s rest : List ℕ} {n : ℕ} (m : ℕ) → Blocks b s rest n → m ≡ count_of b rest → n + m ≡ count_of b s
-blocks_end m a e = omega (arith, a.passed)
+-- at most as many as there are bytes
+pub blocks_most : (b k n : ℕ) (s : List ℕ) → n * k ≤ length s → sum (map (count_of b) (first_chunks k n s)) ≤ length s
+blocks_most b k n s h = omega (arith, blocks_count b k n s h, count_within b s)
 
 -- a text that is not empty has a line for each byte 10 before its last byte, and one more
-line_count : (b : ℕ) (s : List ℕ) → length (lines_of (b ∷ s)) ≡ count_of 10 (take (length s) (b ∷ s)) + 1
+pub lines_count : (t : List ℕ) (x : ℕ) → count_of 10 t + 1 ≡ length (lines_of (t ++ x ∷ []))
 unfolding lines_of count_of on_first
-line_count b [] = one (eqb b 10)
+lines_count [] x = one (eqb x 10)
   where
-    one : (t : Bool) → length (cond t ([] ∷ []) ((b ∷ []) ∷ [])) ≡ 1
+    one : (h : Bool) → 1 ≡ length (cond h ([] ∷ []) ((x ∷ []) ∷ []))
     one true = refl
     one false = refl
-line_count b (x ∷ s) = more (eqb b 10) (lines_of (x ∷ s)) _ (line_count x s)
+lines_count (b ∷ t) x = more (eqb b 10) (lines_of (t ++ x ∷ [])) _ (lines_count t x)
   where
-    more : (t : Bool) (ls : List (List ℕ)) (k : ℕ) → length ls ≡ k + 1 → length (cond t ([] ∷ ls) (on_first b ls)) ≡ cond t (suc k) k + 1
+    more : (h : Bool) (ls : List (List ℕ)) (k : ℕ) → k + 1 ≡ length ls → cond h (suc k) k + 1 ≡ length (cond h ([] ∷ ls) (on_first b ls))
     more true ls k e = omega arith
     more false [] k e = absurd (omega arith)
     more false (l ∷ ls) k e = e
-
-pub lines_count : (s : List ℕ) → (length s ≡ 0 → ⊥) → count_of 10 (take (length s - 1) s) + 1 ≡ length (lines_of s)
-lines_count [] h = absurd (h refl)
-lines_count (b ∷ s) h = let e : length (b ∷ s) - 1 ≡ length s = omega arith in rw e (sym (line_count b s))
 
 pub lines_of_none : (s : List ℕ) → length s ≡ 0 → 0 ≡ length (lines_of s)
 unfolding lines_of

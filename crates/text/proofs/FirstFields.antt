@@ -1,10 +1,9 @@
 -- The first field of a line by the digits at its front.
-use Rattle.std.proofs.Common.{ℕ, ◌+◌, ◌-◌, ◌*◌, ◌%◌, ◌^◌, ◌<◌, ◌≤◌, le-leb}
+use Rattle.std.proofs.Common.{Some, ℕ, ◌+◌, ◌-◌, ◌*◌, ◌%◌, ◌^◌, ◌<◌, ◌≤◌, le-leb}
 use mathlib.Core.{Path.{◌≡◌, refl, sym, ap, ◌∙◌}, Bool.{Bool, true, false, ◌&&◌}, List.{List, [], ◌∷◌, ◌++◌}}
 use native.Mathlib.{Numerals.{add-one}, Nat.{pow-suc, pow-le-pow_right}, Decide.{dec_lt, dec_le}, Omega.{arith}}
 use lib.{ListN.{length, get_or, take}, Seq.{take-suc, take-take, length-take-le, get_or-take}}
-use Rattle.text.specs.{Text.{index_of}, Value.{digit, digits, number_from, value_of, field_value}, Parts.{Passed, digits_value, IsFront}}
-use Rattle.text.specs.declared.Field.TheVariants.{Value}
+use Rattle.text.specs.{Text.{index_of}, Value.{digit, digits, number_from, value_of, field_value}, Parts.{Passed, digits_value, IsFront}, declared.FrontValue.{FrontValue}}
 use Rattle.text.proofs.Searching.{searching_start, searching_found, searching_step, searching_end, index_part}
 use Rattle.text.proofs.Form.{form_one, form_more}
 
@@ -48,10 +47,6 @@ front_start s =
 pub difference_back : (d b : ℕ) → (d + 48) % 2 ^ 32 ≡ b → d ≤ 9 → b ≡ d + 48
 difference_back d b e h = omega arith
 
--- no value
-pub front_none : {s : List ℕ} → IsFront s 0 0
-front_none = record { few = omega arith; ends = λ h. absurd (omega arith); held = λ h. absurd (omega arith) }
-
 module _ {s : List ℕ} {n i : ℕ} (a : Front s n i) where
   -- six digits and one more fit
   pub front_fits : n ≤ 999999
@@ -77,15 +72,15 @@ module _ {s : List ℕ} {n i : ℕ} (a : Front s n i) where
       lead m (no k) = z (omega arith)
 
   -- where a comma follows or the line ends, the digits are the first field
-  pub front_value : (i < length s → get_or s i 0 ≡ 44) → IsFront s i n
+  pub front_value : 1 ≤ i → (i < length s → get_or s i 0 ≡ 44) → IsFront s (record { end = i; value = n })
   unfolding digits_value
-  front_value h = record { few = a.few; ends = λ k. ends (dec_lt i (length s)); held = λ k. value ∙ form k (dec_le i 1) }
+  front_value k h = record { some = k; few = a.few; ends = ends (dec_lt i (length s)); held = value ∙ form k (dec_le i 1) }
     where
       ends : Dec (i < length s) → i ≡ index_of 44 s
       ends (yes k) = searching_found a.no_comma k (h k)
       ends (no k) = searching_end a.no_comma (omega arith)
 
-      value : Value n ≡ digits_value (take i s)
+      value : Some n ≡ digits_value (take i s)
       value = rw (a.all, a.number)
 
       long : length (take i s) ≡ i
@@ -98,9 +93,11 @@ module _ {s : List ℕ} {n i : ℕ} (a : Front s n i) where
           (λ q. a.no_zero (omega arith) (sym (get_or-take i s 0 0 (omega arith)) ∙ q))
 
 -- a value at the front of the first k bytes of a line, which are more than a value's, is at the front of the line
-pub front_whole : (k : ℕ) (line : List ℕ) {e n : ℕ} → IsFront (take k line) e n → 6 < k → k ≤ length line → IsFront line e n
-front_whole k line {e} f h l =
-    record { few = f.few; ends = ends; held = λ o. f.held o ∙ ap field_value (take-take e k line (omega (arith, f.few))) }
-  where
-    ends : 1 ≤ e → e ≡ index_of 44 line
-    ends o = f.ends o ∙ sym (index_part 44 k line l (omega (arith, f.few, f.ends o)))
+pub front_whole : (k : ℕ) (line : List ℕ) {v : FrontValue} → IsFront (take k line) v → 6 < k → k ≤ length line → IsFront line v
+front_whole k line {v} f h l =
+    record {
+      some = f.some;
+      few = f.few;
+      ends = f.ends ∙ sym (index_part 44 k line l (omega (arith, f.few, f.ends)));
+      held = f.held ∙ ap field_value (take-take v.end k line (omega (arith, f.few)));
+    }

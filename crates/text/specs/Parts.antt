@@ -1,13 +1,12 @@
 -- §1.1, §1.3: what the parts of reading a text promise.
-use Rattle.std.specs.Prelude.{ℕ, zero, suc, ◌+◌, ◌<◌, ◌≤◌}
+use Rattle.std.specs.Prelude.{ℕ, zero, suc, ◌+◌, ◌<◌, ◌≤◌, Option, Some, None}
 use mathlib.Core.{Path.{◌≡◌}, Bool.{cond}, List.{List, [], ◌∷◌}}
 use lib.{Dec.{eqb}, ListN.{length, take, drop}}
-use Rattle.text.specs.{Text.{index_of}, Value.{digits, value_of, field_value}, declared.{Field.{Field}, FirstField.{FirstField}}}
-use Rattle.text.specs.declared.Field.TheVariants.{Wrong, Value}
+use Rattle.text.specs.{Text.{index_of}, Value.{digits, value_of, field_value}, declared.{FirstField.{FirstField}, FrontValue.{FrontValue}}}
 
 -- the number of a text of digits, however many
-unfoldable pub digits_value : List ℕ → Field
-digits_value t = cond (digits t) (Value (value_of t)) Wrong
+unfoldable pub digits_value : List ℕ → Option ℕ
+digits_value t = cond (digits t) (Some (value_of t)) None
 
 -- none of the first i bytes of a text is b
 pub record Passed (b : ℕ) (s : List ℕ) (i : ℕ) : Type 0 where
@@ -28,10 +27,11 @@ pub record Skipped (e n r : ℕ) : Type 0 where
 -- the first field of a line
 pub record IsFirst (line : List ℕ) (r : FirstField) : Type 0 where
   pub ends : r.end ≡ index_of 44 line
-  pub held : r.field ≡ field_value (take r.end line)
+  pub held : r.value ≡ field_value (take r.end line)
 
--- the first field of a line is a value n that ends at e, where e is not 0
-pub record IsFront (line : List ℕ) (e n : ℕ) : Type 0 where
-  pub few : e ≤ 6
-  pub ends : 1 ≤ e → e ≡ index_of 44 line
-  pub held : 1 ≤ e → Value n ≡ field_value (take e line)
+-- the first field of a line is a value
+pub record IsFront (line : List ℕ) (v : FrontValue) : Type 0 where
+  pub some : 1 ≤ v.end
+  pub few : v.end ≤ 6
+  pub ends : v.end ≡ index_of 44 line
+  pub held : Some v.value ≡ field_value (take v.end line)

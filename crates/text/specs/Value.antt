@@ -1,8 +1,7 @@
 -- Values. §1.3: "A value is one to six decimal digits; 0 is the only value that may start with 0."
-use Rattle.std.specs.Prelude.{ℕ, ◌+◌, ◌-◌, ◌*◌}
+use Rattle.std.specs.Prelude.{ℕ, ◌+◌, ◌-◌, ◌*◌, Option, Some, None}
 use mathlib.Core.{Bool.{Bool, true, not, cond, ◌&&◌, ◌||◌}, List.{List, [], ◌∷◌}}
 use lib.{ListN.{length, get_or}, Dec.{leb, eqb}}
-use Rattle.text.specs.declared.Field.{Field, TheVariants.{Wrong, Value}}
 
 -- decimal digits: bytes 48 to 57
 unfoldable pub digit : ℕ → Bool
@@ -27,6 +26,6 @@ number_from n (b ∷ t) = number_from (n * 10 + (b - 48)) t
 unfoldable pub value_of : List ℕ → ℕ
 value_of t = number_from 0 t
 
--- what a field holds
-unfoldable pub field_value : List ℕ → Field
-field_value t = cond (is_value t) (Value (value_of t)) Wrong
+-- what a field holds: a value, or none where its bytes have a wrong form
+unfoldable pub field_value : List ℕ → Option ℕ
+field_value t = cond (is_value t) (Some (value_of t)) None

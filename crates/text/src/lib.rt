@@ -1,111 +1,65 @@
 // Text of bytes: lines, fields and values.
 #![tactic(auto)]
 
-ghost use Rattle.std.specs.Prelude.{◌≡◌, ◌≤◌, false, length};
+ghost use Rattle.std.specs.Prelude.{◌≡◌, ◌≤◌, false, length, IfSome};
 ghost use Rattle.text.specs.Text.{index_of, lines_of, same as same_text};
 ghost use Rattle.text.specs.Value.{field_value};
 ghost use Rattle.text.specs.Parts.{Passed, count_of, digits_value, Skipped, IsFirst, IsFront};
 
 use std::num::wrapping_sub_u32;
 
-// What a field holds: a value, or bytes of a wrong form.
-#[derive(Clone, Copy)]
-pub enum Field {
-    Wrong,
-    Value(u32),
-}
-
-// The first field of a line: where it ends, and what it holds.
+// The first field of a line: where it ends, and its value, or none where its bytes have a wrong form.
 #[derive(Clone, Copy)]
 pub struct FirstField {
     pub end: usize,
-    pub field: Field,
+    pub value: Option<u32>,
 }
 
-// A value and where it ends, or an end of 0 where there is none.
+// A value at the front of a line, and where it ends.
 #[derive(Clone, Copy)]
 pub struct FrontValue {
     pub end: usize,
     pub value: u32,
 }
 
-// What is said of the columns of a line, from 1: all are right, or which is the leftmost wrong one.
-#[derive(Clone, Copy)]
-pub enum Columns {
-    Right,
-    Wrong(usize),
-}
-
 // The bytes of the longest value and the one after it.
 pub const FRONT: usize = 7;
-
-// Whether b is among the bytes of a block.
-fn holds(s: &[u8], b: u8) -> bool
-    requires { length s.now ≡ 16 }
-    ensures { result ≡ false → Passed b s.now 16 }
-{
-    let mut found = false;
-    let mut i = 0;
-    while i < 16 {
-        let here = s[i] == b;
-        found = found | here;
-        i += 1;
-    }
-    found
-}
 
 // An index before which no byte of s is b: blocks of 16 bytes without b are skipped.
 fn pass_blocks(s: &[u8], b: u8) -> usize
     ensures { Passed b s.now result }
 {
-    let n = s.len();
-    let mut i = 0;
-    while 16 <= n - i {
-        let e = i + 16;
-        if holds(&s[i..e], b) {
-            return i;
-        }
-        i = e;
-    }
-    i
+    let (blocks, _) = s.as_chunks::<16>();
+    let first = blocks.iter().position(|block| block.contains(&b));
+    16 * first.unwrap_or(blocks.len())
 }
 
 // The index of the first byte b of s, or the length of s where there is none.
 pub fn find(s: &[u8], b: u8) -> usize
     ensures { result ≡ index_of b s.now }
 {
-    let mut i = pass_blocks(s, b);
-    while i < s.len() {
-        if s[i] == b {
-            return i;
-        }
-        i += 1;
-    }
-    i
+    let i = pass_blocks(s, b);
+    let rest = &s[i..];
+    i + rest.iter().position(|x| *x == b).unwrap_or(rest.len())
 }
 
 // The index after the byte at e, or the end of n bytes.
 pub fn skip(e: usize, n: usize) -> usize
     ensures { Skipped e n result }
 {
-    if e < n {
-        return e + 1;
-    }
-    n
+    if e < n { e + 1 } else { n }
 }
 
-// How many bytes of a block are b: few enough that one byte counts them.
+// How many bytes of a block are b: few enough that one byte counts them, so that many are counted at once.
 fn count_block(s: &[u8], b: u8) -> u8
     requires { length s.now ≤ 128 }
     ensures { result ≡ count_of b s.now }
 {
     let mut n: u8 = 0;
-    let mut i = 0;
-    while i < s.len() {
-        if s[i] == b {
+    for x in s {
+        if *x == b {
             n += 1;
         }
-        i += 1;
     }
     n
 }
@@ -114,126 +68,100 @@ fn count_block(s: &[u8], b: u8) -> u8
 fn count(s: &[u8], b: u8) -> usize
     ensures { result ≡ count_of b s.now }
 {
-    let mut rest = s;
-    let mut n: usize = 0;
-    while 128 < rest.len() {
-        n += count_block(&rest[..128], b) as usize;
-        rest = &rest[128..];
-    }
-    n + count_block(rest, b) as usize
+    let (blocks, rest) = s.as_chunks::<128>();
+    let whole: usize = blocks
+        .iter()
+        .map(|block| count_block(block, b) as usize)
+        .sum();
+    whole + count_block(rest, b) as usize
 }
 
 // The number of lines: whatever the last byte is, it ends one or is in one that has no end.
 pub fn count_lines(s: &[u8]) -> usize
     ensures { result ≡ length (lines_of s.now) }
 {
-    let k = s.len();
-    if k == 0 {
+    let Some((_, before)) = s.split_last() else {
         return 0;
-    }
-    let e = k - 1;
-    count(&s[..e], 10) + 1
+    };
+    count(before, b'\n') + 1
 }
 
 // Whether two texts agree byte for byte.
 pub fn same(s: &[u8], t: &[u8]) -> bool
     ensures { result ≡ same_text s.now t.now }
 {
-    if s.len() != t.len() {
-        return false;
-    }
-    let mut i = 0;
-    while i < s.len() {
-        if s[i] != t[i] {
-            return false;
-        }
-        i += 1;
-    }
-    true
+    s == t
 }
 
-// The number of at most six digits, or Wrong where a byte is no digit.
-fn number(s: &[u8]) -> Field
+// The number of at most six digits, or none where a byte is no digit.
+fn number(s: &[u8]) -> Option<u32>
     requires { length s.now ≤ 6 }
     ensures { result ≡ digits_value s.now }
 {
     let mut n: u32 = 0;
-    let mut i = 0;
-    while i < s.len() {
-        let b = s[i];
-        if b < 48 {
-            return Field::Wrong;
+    for b in s {
+        if !b.is_ascii_digit() {
+            return None;
         }
-        if 57 < b {
-            return Field::Wrong;
-        }
-        n = n * 10 + (b - 48) as u32;
-        i += 1;
+        n = n * 10 + (*b - b'0') as u32;
     }
-    Field::Value(n)
+    Some(n)
 }
 
-// The value of a field.
-pub fn value(s: &[u8]) -> Field
+// The value of a field, or none where its bytes have a wrong form.
+pub fn value(s: &[u8]) -> Option<u32>
     ensures { result ≡ field_value s.now }
 {
     let k = s.len();
-    if k == 0 {
-        return Field::Wrong;
+    if k == 0 || 6 < k {
+        return None;
     }
-    if 6 < k {
-        return Field::Wrong;
-    }
-    if 1 < k {
-        if s[0] == 48 {
-            return Field::Wrong;
-        }
+    if 1 < k && s[0] == b'0' {
+        return None;
     }
     number(s)
 }
 
 // The value at the front of a line, read in one pass: digits that a comma or the line's end follows.
-pub fn front_value(s: &[u8]) -> FrontValue
-    ensures { IsFront s.now result.end result.value }
+pub fn front_value(s: &[u8]) -> Option<FrontValue>
+    ensures { IfSome result (λ v. IsFront s.now v) }
 {
-    let none = FrontValue { end: 0, value: 0 };
     let mut n: u32 = 0;
-    let mut i: usize = 0;
-    while i < s.len() {
-        let b = s[i];
-        let d = wrapping_sub_u32(b as u32, 48);
+    for (i, b) in s.iter().enumerate() {
+        let d = wrapping_sub_u32(*b as u32, b'0' as u32);
         if 9 < d {
-            if b != 44 {
-                return none;
+            if i == 0 || *b != b',' {
+                return None;
             }
-            return FrontValue { end: i, value: n };
+            return Some(FrontValue { end: i, value: n });
         }
-        if i == 6 {
-            return none;
-        }
-        if i == 1 {
-            if s[0] == 48 {
-                return none;
-            }
+        if i == 6 || (i == 1 && s[0] == b'0') {
+            return None;
         }
         n = n * 10 + d;
-        i += 1;
     }
-    FrontValue { end: i, value: n }
+    if s.is_empty() {
+        return None;
+    }
+    Some(FrontValue {
+        end: s.len(),
+        value: n,
+    })
 }
 
-// The first field of a line: where it ends, and what it holds.
+// The first field of a line.
 pub fn first_field(s: &[u8]) -> FirstField
     ensures { IsFirst s.now result }
 {
-    let v = front_value(s);
-    if 0 < v.end {
+    if let Some(v) = front_value(s) {
         return FirstField {
             end: v.end,
-            field: Field::Value(v.value),
+            value: Some(v.value),
         };
     }
-    let e = find(s, 44);
-    let f = value(&s[..e]);
-    FirstField { end: e, field: f }
+    let end = find(s, b',');
+    FirstField {
+        end,
+        value: value(&s[..end]),
+    }
 }

@@ -3,6 +3,7 @@ use Prim.Native.Nat.{ℕ, ◌≤◌}
 use mathlib.Core.{Path.{◌≡◌, refl, ap}, Bool.{Bool, true, false, not, cond}}
 use native.Mathlib.{Nat.{le_antisymm}, Omega.{arith}}
 use lib.{Dec.{T, leb→le, nleb→lt, le→leb}, IntN.{ℤ, pos, negsuc}, Signed.{◌≤ℤ◌, le_z, le_z_yes, ≤ℤ_refl}}
+use Rattle.std.specs.Int.{int_min, int_max}
 use Rattle.whole.specs.Whole.{min_z, max_z}
 use Rattle.whole.proofs.Signed.{le_halves, halves_le}
 
@@ -33,6 +34,21 @@ min_cases P a b f g = chosen P (le_z a b) (λ t. f (le_z_yes t)) (λ t. g (le_z_
 pub max_cases : (P : ℤ → Type 0) (a b : ℤ) → (a ≤ℤ b → P b) → (b ≤ℤ a → P a) → P (max_z a b)
 unfolding max_z
 max_cases P a b f g = chosen P (le_z a b) (λ t. f (le_z_yes t)) (λ t. g (le_z_no a b t))
+
+-- `a.min(b)` and `a.max(b)` of std are these
+pub min_is : (a b : ℤ) → int_min a b ≡ min_z a b
+unfolding min_z
+min_is (pos a) (pos b) = grind arith
+min_is (pos a) (negsuc b) = refl
+min_is (negsuc a) (pos b) = refl
+min_is (negsuc a) (negsuc b) = grind arith
+
+pub max_is : (a b : ℤ) → int_max a b ≡ max_z a b
+unfolding max_z
+max_is (pos a) (pos b) = grind arith
+max_is (pos a) (negsuc b) = refl
+max_is (negsuc a) (pos b) = refl
+max_is (negsuc a) (negsuc b) = grind arith
 
 pub min_left : (a b : ℤ) → min_z a b ≤ℤ a
 min_left a b = min_cases (λ z. z ≤ℤ a) a b (λ h. ≤ℤ_refl a) (λ h. h)

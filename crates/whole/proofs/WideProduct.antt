@@ -24,14 +24,14 @@ module _ (k x : ℕ) {d : ℕ} (p : 0 < d) where
 -- ---- within 64 bits
 
 module _ {k x d : ℕ} (w : WideFits k x d) where
-  pub rest_high_lem : k * (x % d) ≤ k * d
+  rest_high_lem : k * (x % d) ≤ k * d
   rest_high_lem = mul-le-mul_left k (le_of_lt (mod-lt x w.divisor))
 
   -- with whatever rounds it up
-  pub rounded_parts : (r : ℕ) → r < d → k * (x / d) + (k * (x % d) + r) / d < 2 ^ 63
+  rounded_parts : (r : ℕ) → r < d → k * (x / d) + (k * (x % d) + r) / d < 2 ^ 63
   rounded_parts r h = omega (arith, w.quotient, floor_div_most (k * (x % d) + r) {w = k} w.divisor (omega (arith, rest_high_lem)))
 
-  pub floor_parts : k * (x / d) + k * (x % d) / d < 2 ^ 63
+  floor_parts : k * (x / d) + k * (x % d) / d < 2 ^ 63
   floor_parts = rw add-zero at (rounded_parts 0 w.divisor)
 
   ceil_parts : k * (x / d) + (k * (x % d) + (d - 1)) / d < 2 ^ 63

@@ -1,13 +1,12 @@
-// Signed whole numbers: division rounded down and up, the lesser and the greater of two, and which of two is below the other.
+// Signed whole numbers: division rounded down and up, by one divisor and by two.
 #![tactic(auto)]
 
 pub mod wide;
 
 ghost use Rattle.std.specs.Prelude.{◌≡◌, ◌≤◌, ◌<◌, ◌^◌, nat_abs};
-ghost use Rattle.std.specs.Int.Signed.{le_z, lt_z};
 ghost use Rattle.whole.specs.Whole.{floor_z, ceil_z, min_z, max_z};
 
-// a / d, rounded toward the lower end, also below 0.
+// a / d, rounded toward the lower end, also below 0. The divisor may be 2^63 or more, which the i64 of `div_euclid` cannot hold.
 pub fn floor_div(a: i64, d: u64) -> i64
     requires { 0 < d }
     ensures { result ≡ floor_z a d }
@@ -24,7 +23,7 @@ pub fn ceil_div(a: i64, d: u64) -> i64
     requires { (0 < d) × (nat_abs a < 2 ^ 63) }
     ensures { result ≡ ceil_z a d }
 {
-    0 - floor_div(0 - a, d)
+    -floor_div(-a, d)
 }
 
 // The lesser of a / d and a / e, each rounded down, where d is not above e: one division, by d below 0 and by e else.
@@ -45,29 +44,5 @@ pub fn most_ceil(a: i64, d: u64, e: u64) -> i64
     requires a_bound { nat_abs a < 2 ^ 63 }
     ensures { result ≡ max_z (ceil_z a d) (ceil_z a e) }
 {
-    0 - least_floor(0 - a, d, e)
-}
-
-pub fn least(a: i64, b: i64) -> i64
-    ensures { result ≡ min_z a b }
-{
-    if a <= b { a } else { b }
-}
-
-pub fn most(a: i64, b: i64) -> i64
-    ensures { result ≡ max_z a b }
-{
-    if a <= b { b } else { a }
-}
-
-pub fn at_most(a: i64, b: i64) -> bool
-    ensures { result ≡ le_z a b }
-{
-    a <= b
-}
-
-pub fn below(a: i64, b: i64) -> bool
-    ensures { result ≡ lt_z a b }
-{
-    a < b
+    -least_floor(-a, d, e)
 }

@@ -1,10 +1,12 @@
 -- The working of a case within its bounds is right, and the answer to a record.
-use Prim.Native.Nat.{ℕ, ◌*◌}
+use Prim.Native.Nat.{◌*◌}
 use mathlib.Core.Path.{◌≡◌, refl, sym, ◌∙◌}
 use lib.{Dec.{lit≤}, IntN.{pos}}
+use Rattle.std.specs.Prelude.{Result, Ok, Err}
+use Rattle.refusal.specs.declared.Refused.{Refused}
 use Rattle.exact.{specs.Reported.{ten}, proofs.Consistency.{consistent_exactly, consistent_quotient}}
 use Rattle.enclosure.proofs.{Basics.{encloses_count}, Reporting.{reports}}
-use Rattle.case.specs.{declared.{Case.{Case}, Judged.{Judged, TheVariants.{Sound, Refused}}}, Check.{record_judged, record_answer}}
+use Rattle.case.specs.{declared.Case.{Case}, Check.{record_judged, record_answer}}
 use Rattle.case.{specs.Bounds.{Bounds}, proofs.Bounds.{record_bounds}}
 use Rattle.formulas.proofs.{Conductors.{quantity_n, quantity_s}, Quantities.{quantity-Ki, quantity-Kh, quantity-Kii, quantity_LM}}
 use Rattle.formulas.proofs.Consistent.{quantity_root_time, consistent-Km, consistent-Ks}
@@ -21,7 +23,6 @@ use Rattle.mesh.proofs.FactorEnclosed as ME
 use Rattle.working.specs.{declared.Quantities.{Quantities}, Ends.{working_of}}
 use Rattle.working.specs.Working.{millionth, hundred_thousandth, driven_width, RightWorking, working_answer, RightWorked}
 use Rattle.working.specs.Working.{WorkingAnswered}
-use Rattle.working.specs.declared.Worked.TheVariants as worked
 use Rattle.working.proofs.{Layer.{factor_encloses, effect_is_derated, factor_span}, Leasts.{Kii-span, Km-span, Ks-span}}
 use Rattle.working.proofs.Widths.{millionth_narrow, hundred_thousandth_narrow, point_narrow, lm_narrow, driven_narrow}
 
@@ -59,14 +60,14 @@ right_working {c} b =
       mesh_follows = refl;
     }
 
-module _ (c : Case) {j : Judged} (judged : j ≡ record_judged c) where
-  pub sound_bounds : j ≡ Sound → Bounds c
+module _ (c : Case) {j : Result (Unit {0}) Refused} (judged : j ≡ record_judged c) where
+  pub sound_bounds : j ≡ Ok tt → Bounds c
   sound_bounds sound = record_bounds (sym judged ∙ sound)
 
-  pub working_told : {w : Quantities} → j ≡ Sound → w ≡ working_of c → WorkingAnswered c (worked.Is w)
+  pub working_told : {w : Quantities} → j ≡ Ok tt → w ≡ working_of c → WorkingAnswered c (Ok w)
   unfolding working_answer record_answer RightWorked
   working_told sound e = record { answer = rw (e, ← judged, sound); right = rw e (right_working (sound_bounds sound)) }
 
-  pub working_refused : {n l k : ℕ} → j ≡ Refused n l k → WorkingAnswered c (worked.Refused n l k)
+  pub working_refused : {why : Refused} → j ≡ Err why → WorkingAnswered c (Err why)
   unfolding working_answer record_answer RightWorked
   working_refused fault = record { answer = rw (← judged, fault); right = tt }

@@ -1,5 +1,6 @@
 -- §6.4: what a right working is: the quantities that IEEE Std 80-2013, Annex B, prints of a case between its record and its row.
-use Rattle.std.specs.Prelude.{◌≡◌}
+use Rattle.std.specs.Prelude.{◌≡◌, Result, Ok, Err}
+use Rattle.refusal.specs.declared.Refused.{Refused}
 use Rattle.interval.specs.Operations.{product_of}
 use Rattle.exact.specs.{Fraction.{Fraction, ◌≈f◌, decimal, ◌+f◌, ◌·f◌}, Ends.{Ends}, Exact.{exactly, ◌·x◌, ◌÷x◌}, Reported.{ten, Reports}}
 use Rattle.case.specs.{declared.Case.{Case}, Check.{record_judged, record_answer}}
@@ -8,8 +9,7 @@ use Rattle.formulas.specs.{Current.{IG}, Tolerable.{Q, root_time}, Width.{m_v}}
 use Rattle.formulas.specs.Mesh
 use Rattle.formulas.specs.Step
 use Rattle.mesh.specs.Ends.{mesh_ends}
-use Rattle.working.specs.{declared.{Quantities.{Quantities}, Worked.{Worked, TheVariants.{Is, Refused}}}, Surface.{Cs, surface}}
-use Rattle.working.specs.Ends.{working_of}
+use Rattle.working.specs.{declared.Quantities.{Quantities}, Surface.{Cs, surface}, Ends.{working_of}}
 
 -- ---- widths
 
@@ -51,16 +51,16 @@ pub record RightWorking (c : Case) (w : Quantities) : Type 0 where
 -- ---- the answer
 
 -- the working, or refusal 5 or 6 with line 0
-unfoldable pub working_answer : Case → Worked
-working_answer c = record_answer Refused (Is (working_of c)) (record_judged c)
+unfoldable pub working_answer : Case → Result Quantities Refused
+working_answer c = record_answer (Ok (working_of c)) (record_judged c)
 
 -- a working is right; nothing is required of a refusal here
-unfoldable pub RightWorked : Case → Worked → Type 0
-RightWorked c (Is w) = RightWorking c w
-RightWorked c (Refused number line column) = Unit {0}
+unfoldable pub RightWorked : Case → Result Quantities Refused → Type 0
+RightWorked c (Ok w) = RightWorking c w
+RightWorked c (Err why) = Unit {0}
 
 -- the answer by the name of its working, and what holds of it. Two wrong programs: one that refuses every record breaks `answer`; one whose
 -- Cs is 1 with a layer too, by that name, breaks `right`.
-pub record WorkingAnswered (c : Case) (r : Worked) : Type 0 where
+pub record WorkingAnswered (c : Case) (r : Result Quantities Refused) : Type 0 where
   pub answer : r ≡ working_answer c
   pub right : RightWorked c r

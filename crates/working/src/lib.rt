@@ -9,8 +9,9 @@ ghost use Rattle.working.specs.Ends.{cs_ends, working_of};
 ghost use Rattle.working.specs.Numbers.{working_numbers};
 ghost use Rattle.working.specs.Working.{WorkingAnswered};
 
-use case::{Case, Judged, judge};
+use case::{Case, judge};
 use interval::Interval;
+use refusal::Refused;
 
 // How many numbers a working has: two ends of fifteen quantities.
 pub const WORKING_NUMBERS: usize = 30;
@@ -41,13 +42,6 @@ pub struct Quantities {
     pub ks: Interval,
     // ρ·Ki·IG/LM, millivolts
     pub driven: Interval,
-}
-
-// The working of a case, or a refusal with number, line and column.
-#[derive(Clone, Copy)]
-pub enum Worked {
-    Is(Quantities),
-    Refused(u32, usize, usize),
 }
 
 // Cs in 10^-9: with a layer the quotient of two whole numbers.
@@ -110,13 +104,11 @@ pub fn work(c: Case) -> Quantities
 }
 
 // The working of a case, after the checks of a record.
-pub fn working(c: Case) -> Worked
+pub fn working(c: Case) -> Result<Quantities, Refused>
     ensures { WorkingAnswered c result }
 {
-    match judge(c) {
-        Judged::Sound => Worked::Is(work(c)),
-        Judged::Refused(number, line, column) => Worked::Refused(number, line, column),
-    }
+    judge(c)?;
+    Ok(work(c))
 }
 
 // The ends in the order of the quantities.

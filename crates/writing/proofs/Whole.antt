@@ -4,8 +4,9 @@ use mathlib.Core.{Path.{◌≡◌, refl, ap, ◌∙◌}, Bool.{Bool, true, false
 use native.Mathlib.Omega.{arith}
 use lib.{Dec.{leb}, ListN.{length, drop, length-append, length-drop}}
 use borrow.Author.Tests.{le-leb, lt-leb, leb-true}
+use Rattle.std.specs.Prelude.{Option, Some, None}
 use Rattle.tables.{specs.Parts.{parts_of}, proofs.Parts.{parts_length}}
-use Rattle.writing.specs.{Text.{all_lines}, Put.{Put, WrittenFirst}, declared.Written.{Written, TheVariants.{Short, Count}}}
+use Rattle.writing.specs.{Text.{all_lines}, Put.{Put, WrittenFirst}}
 use Rattle.writing.proofs.{Filling.{Filling, filling_start, filling_room, filling_rest, text_step}, Lengths.{text_most}}
 use Rattle.writing.proofs.LinesWriting.{lines_text}
 
@@ -17,7 +18,7 @@ table_most k m t n h v =
     omega (arith, text_most k (parts_of k m t) n v)
 
 module _ (s u b : List ℕ) where
-  pub too_short : length b < length s + length u → WrittenFirst (s ++ u) b b Short
+  pub too_short : length b < length s + length u → WrittenFirst (s ++ u) b b None
   too_short h =
       let l : length b < length (s ++ u) = rw length-append h in
       record { answer = rw (lt-leb (length (s ++ u)) (length b) l); holds = rw (lt-leb (length (s ++ u)) (length b) l) }
@@ -32,7 +33,7 @@ module _ (s u b : List ℕ) where
     pub second_room : {c : List ℕ} {p : ℕ} → Put b 0 s c p → p + length u ≤ length c
     second_room q = filling_room (first_part q)
 
-    pub both_parts : {c d : List ℕ} {p r : ℕ} → Put b 0 s c p → Put c p u d r → WrittenFirst (s ++ u) b d (Count r)
+    pub both_parts : {c d : List ℕ} {p r : ℕ} → Put b 0 s c p → Put c p u d r → WrittenFirst (s ++ u) b d (Some r)
     both_parts {r = r} q w =
         let a = filling_rest (first_part q) w in
         let e : r ≡ length (s ++ u) = omega (arith, a.next) in
@@ -43,7 +44,7 @@ module _ (s u b : List ℕ) where
         }
 
 -- the buffer keeps its length
-pub written_size : {t before after : List ℕ} {r : Written} → WrittenFirst t before after r → length after ≡ length before
+pub written_size : {t before after : List ℕ} {r : Option ℕ} → WrittenFirst t before after r → length after ≡ length before
 written_size {t} {before} w = go (leb (length t) (length before)) refl w.holds
   where
     go : (b : Bool) → leb (length t) (length before) ≡ b → {after : List ℕ} → after ≡ cond b (t ++ drop (length t) before) before

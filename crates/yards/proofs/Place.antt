@@ -4,7 +4,7 @@ use mathlib.Core.{Path.{◌≡◌, refl}, Bool.{Bool, true, false, cond}, List.{
 use native.Mathlib.Omega.{arith}
 use lib.ListN.{length, get_or}
 use Rattle.case.specs.declared.Case.{Case}
-use Rattle.yards.specs.{declared.FewestLines.{FewestLines, TheVariants.{Found, None, Refused}}, Yards.{yards, is_safe}}
+use Rattle.yards.specs.{declared.FewestLines.{FewestLines, TheVariants.{Found, None}}, Yards.{yards, is_safe}}
 use Rattle.yards.specs.Fewest.{first_safe, fewest}
 
 -- the yard with index `at` is safe and none before it is; d stands past the list's end
@@ -22,7 +22,6 @@ NoneSafe d ys = (i : ℕ) → i < length ys → is_safe (get_or ys i d) ≡ fals
 unfoldable pub Says : Case → ℕ → List Case → FewestLines → Type 0
 Says d t ys (Found lines rods place) = (at : ℕ) × (place ≡ t + at + 1) × First d ys lines rods at
 Says d t ys (None tried) = (tried ≡ t + length ys) × NoneSafe d ys
-Says d t ys (Refused number line column) = ⊥
 
 module _ (d : Case) where
   later : (y : Case) (ys : List Case) (t : ℕ) → is_safe y ≡ false → (r : FewestLines) → Says d (suc t) ys r → Says d t (y ∷ ys) r
@@ -47,7 +46,6 @@ module _ (d : Case) where
       none : (i : ℕ) → i < suc (length ys) → is_safe (get_or (y ∷ ys) i d) ≡ false
       none zero h = s
       none (suc i) h = n i (omega arith)
-  later y ys t s (Refused number line column) b = b
 
   says : (t : ℕ) (ys : List Case) → Says d t ys (first_safe t ys)
   unfolding Says first_safe

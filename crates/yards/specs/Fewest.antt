@@ -1,11 +1,12 @@
 -- The first safe yard. §6.7.
-use Rattle.std.specs.Prelude.{ℕ, suc, ◌≤◌, ◌<◌}
+use Rattle.std.specs.Prelude.{ℕ, suc, ◌≤◌, ◌<◌, Result, Ok, Err}
 use mathlib.Core.{Path.{◌≡◌}, Bool.{cond, ◌&&◌}, List.{List, [], ◌∷◌}}
 use lib.{Dec.{leb, eqb}, ListN.{length, get_or}}
-use Rattle.case.specs.{declared.{Case.{Case}, Judged.TheVariants.{Sound}}, Check.{record_judged, record_answer}}
+use Rattle.refusal.specs.{declared.Refused.{Refused}, Refused.{refuse}}
+use Rattle.case.specs.{declared.Case.{Case}, Check.{record_judged, record_answer}}
 use Rattle.decision.specs.declared.Verdict.TheVariants.{Safe}
 use Rattle.row.specs.{Row.{RightRow}, Ends.{row_of}}
-use Rattle.yards.specs.{declared.FewestLines.{FewestLines, TheVariants.{Found, None, Refused}}, Yards.{yard, yards, trial, is_safe}}
+use Rattle.yards.specs.{declared.FewestLines.{FewestLines, TheVariants.{Found, None}}, Yards.{yard, yards, trial, is_safe}}
 
 -- the first safe of the yards that are left, after some were tried
 unfoldable pub first_safe : ℕ → List Case → FewestLines
@@ -23,19 +24,19 @@ abbrev pub most_side : ℕ
 most_side = 720000
 
 -- "15 when the side is out of range; 16 when the rod length is 0"
-unfoldable pub side_answer : Case → ℕ → FewestLines
+unfoldable pub side_answer : Case → ℕ → Result FewestLines Refused
 side_answer c side =
-    cond (leb least_side side && leb side most_side) (cond (eqb c.rodlen 0) (Refused 16 0 0) (fewest c side)) (Refused 15 0 0)
+    cond (leb least_side side && leb side most_side) (cond (eqb c.rodlen 0) (refuse 16 0 0) (Ok (fewest c side))) (refuse 15 0 0)
 
 -- "its other values follow document 01's checks for one case, which come first"
-unfoldable pub answer : Case → ℕ → FewestLines
-answer c side = record_answer Refused (side_answer c side) (record_judged (trial c))
+unfoldable pub answer : Case → ℕ → Result FewestLines Refused
+answer c side = record_answer (side_answer c side) (record_judged (trial c))
 
 -- ---- what holds of an answer
 
 -- a yard that the checks of one case find sound, so that it is answered with its row, and the row is right
 pub record AnsweredYard (y : Case) : Type 0 where
-  pub sound : record_judged y ≡ Sound
+  pub sound : record_judged y ≡ Ok tt
   pub right : RightRow y (row_of y)
 
 -- "stop at the first yard answered safe. The answer gives that yard's line and rod counts."; "The number of yards tried is reported, at
@@ -52,13 +53,13 @@ pub record RightNone (c : Case) (side tried : ℕ) : Type 0 where
   pub most : tried ≤ 264
 
 -- nothing is required of a refusal here
-unfoldable pub RightAnswer : Case → ℕ → FewestLines → Type 0
-RightAnswer c side (Found lines rods tried) = RightFound c side lines rods tried
-RightAnswer c side (None tried) = RightNone c side tried
-RightAnswer c side (Refused number line column) = Unit {0}
+unfoldable pub RightAnswer : Case → ℕ → Result FewestLines Refused → Type 0
+RightAnswer c side (Ok (Found lines rods tried)) = RightFound c side lines rods tried
+RightAnswer c side (Ok (None tried)) = RightNone c side tried
+RightAnswer c side (Err why) = Unit {0}
 
 -- the answer by the list of yards, and what holds of it. Two wrong programs: one that begins with three lines breaks `answer`; one that
 -- takes an undecided yard for safe, by that name, breaks `right`.
-pub record FewestAnswered (c : Case) (side : ℕ) (r : FewestLines) : Type 0 where
+pub record FewestAnswered (c : Case) (side : ℕ) (r : Result FewestLines Refused) : Type 0 where
   pub answer : r ≡ answer c side
   pub right : RightAnswer c side r

@@ -1,5 +1,4 @@
 -- `find_stations` places row after row: the pass of proofs/Appearing.antt, with the marks of proofs/Marks.antt.
-use Prim.Native.Nat.{◌-◌}
 use mathlib.Core.{Path.{◌≡◌}}
 use lib.ListN.{length}
 use Rattle.judgement.specs.Limits.{most_lines}
@@ -10,6 +9,3 @@ use Rattle.appearance.proofs.find_stations.Given as goal
 abbrev pub invariant-loop-i : goal.invariant-loop-i
 invariant-loop-i l =
     Placing l.table l.n l.i l.known l.places l.count × (length l.marks ≡ most_lines) × Marked l.known l.marks l.count
-
-abbrev pub decreases-loop-i : goal.decreases-loop-i
-decreases-loop-i l = l.n - l.i

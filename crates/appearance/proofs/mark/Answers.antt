@@ -1,26 +1,20 @@
 -- `mark` takes the remainder of a natural number by 2^16.
-use mathlib.Core.Path.{◌≡◌, sym, ap, ◌∙◌}
-use native.Mathlib.Omega.{arith}
-use lib.{IntN.{pos}, Signed.{mag}}
-use mir.Facts.{to_z-of_z}
-use Rattle.whole.proofs.Bits.{below_zero, not_below_zero, natural_cast}
+use Rattle.std.proofs.Common.{zero, suc, ◌≡◌, ◌%◌, refl, arith, ℤ, pos, negsuc, w64, to_z, of_z, FitsSigned, to_z-of_z}
+use Rattle.std.specs.Int.{int_max}
+use borrow.Author.Tests.{lt-ltb}
+use lib.{IntN.{nat_abs}, Signed.{rem_z}}
 use Rattle.appearance.specs.Places.{mark_of}
-use Rattle.appearance.proofs.{Marks.{mark_natural}}
 use Rattle.appearance.proofs.mark.Goals as goal
-use Rattle.appearance.proofs.mark.Goals.{Else-station-lt0}
 
-natural : (c : Else-station-lt0) → c.args.station ≡ pos (mag c.args.station)
-natural c = not_below_zero c.args.station c.ranges.station c.if-station-lt0.false
-
-pub returns-then-station-lt0 : goal.returns-then-station-lt0
+-- the remainder of the station, or of 0 below 0
+remainder : (z : ℤ) → FitsSigned w64 z → nat_abs (to_z w64 (of_z w64 (rem_z (to_z w64 (of_z w64 (int_max z (pos 0)))) (pos 65536)))) ≡ mark_of z
 unfolding mark_of
-returns-then-station-lt0 c = sym (ap mark_of (below_zero c.args.station c.ranges.station c.if-station-lt0.true))
-
-pub overflow_cast-result : goal.overflow_cast-result
-overflow_cast-result c = natural_cast _ c.ranges.station (to_z-of_z c.ranges.station ∙ natural (goal.at.overflow_cast-result c).Else-station-lt0)
-
-pub overflow_cast-result-2 : goal.overflow_cast-result-2
-overflow_cast-result-2 c = record { fits = omega arith }
+remainder (pos zero) f = refl
+remainder (pos (suc n)) f =
+    let top : int_max (pos (suc n)) (pos 0) ≡ pos (suc n) = rw (lt-ltb 0 (suc n) (omega arith)) in
+    let small : FitsSigned w64 (pos (suc n % 65536)) = record { sfits = omega arith } in
+    rw (top, to_z-of_z f, to_z-of_z small)
+remainder (negsuc n) f = refl
 
 pub returns : goal.returns
-returns c = rw (to_z-of_z c.ranges.station) (mark_natural _ (natural (goal.at.returns c).Else-station-lt0))
+returns c = rw (c.max.ensures.value, to_z-of_z c.ranges.station) (remainder c.args.station c.ranges.station)

@@ -7,9 +7,9 @@ use Rattle.row.specs.{Row.{numbers}, Ends.{row_of}}
 use Rattle.margin.specs.Margin.{margins_of}
 use Rattle.c_line.proofs.{LineParts.{put_whole, read_both, margins_some, margins_line}}
 use Rattle.c_line.proofs.put_margins.Goals as goal
-use Rattle.c_line.proofs.put_margins.Goals.{After-margins, In-Margins}
+use Rattle.c_line.proofs.put_margins.Goals.{After-margins, In-Some}
 
-held : (c : In-Margins) → SFits w64 c.in-Margins.mesh × SFits w64 c.in-Margins.step
+held : (c : In-Some) → SFits w64 c.in-Some.mesh × SFits w64 c.in-Some.step
 held c = search rules
 
 -- what the margins were asked of
@@ -22,10 +22,10 @@ pub put_first-requires : goal.put_first-requires
 put_first-requires c =
     omega (arith, c.requires.part_len)
 
-pub returns-in-Margins : goal.returns-in-Margins
-returns-in-Margins c =
-    let h = held (goal.at.returns-in-Margins c).In-Margins in
-    margins_line c.requires.bounds (asked (goal.at.returns-in-Margins c).After-margins) c.in-Margins.is
+pub returns-in-Some : goal.returns-in-Some
+returns-in-Some c =
+    let h = held (goal.at.returns-in-Some c).In-Some in
+    margins_line c.requires.bounds (asked (goal.at.returns-in-Some c).After-margins) c.in-Some.is
     (c.put_first.ensures ∙ put_whole _ c.args.part.now c.requires.part_len ∙ read_both h.0 h.1)
 
 pub returns-in-None : goal.returns-in-None

@@ -1,14 +1,7 @@
 -- `exponential::exp_ends` meets its contract, below 22 and from 22 on.
-use native.Mathlib.Omega.{arith}
 use borrow.Author.Tests.{lt-ltb, le-ltb}
 use Rattle.exponential.specs.Ends.{exp_ends}
 use Rattle.exponential.proofs.exp_ends.Goals as goal
-
-pub near_ends-requires : goal.near_ends-requires
-near_ends-requires c = c.requires
-
-pub natural-requires : goal.natural-requires
-natural-requires c = (omega arith, omega arith)
 
 pub returns-then-a-lt-LARGE : goal.returns-then-a-lt-LARGE
 unfolding exp_ends

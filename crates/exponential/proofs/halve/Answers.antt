@@ -1,26 +1,9 @@
--- `exponential::halve` meets its contract: `parts` is 2^times, and `times` has not passed the halvings.
-use mathlib.Core.Path.{sym}
-use native.Mathlib.Omega.{arith}
-use Rattle.exponential.proofs.Loops.{halving_start, halving_again, halving_pos, halving_size, halving_end}
+-- `exponential::halve` meets its contract: the power of two is the least that is not below 2q in whole numbers.
+use Rattle.exponential.proofs.Loops.{halvings_found}
 use Rattle.exponential.proofs.halve.Goals as goal
 
-pub loop-parts-init : goal.loop-parts-init
-loop-parts-init c = halving_start _
-
-pub overflow_mul-parts : goal.overflow_mul-parts
-overflow_mul-parts c = omega (arith, halving_size c.loop-parts.invariant c.requires)
-
-pub overflow_mul-q : goal.overflow_mul-q
-overflow_mul-q c = omega (arith, c.requires)
-
-pub overflow_add-times : goal.overflow_add-times
-overflow_add-times c = omega (arith, halving_size c.loop-parts.invariant c.requires)
-
-pub loop-parts-smaller : goal.loop-parts-smaller
-loop-parts-smaller c = omega (arith, c.loop-parts-test.true, halving_pos c.loop-parts.invariant)
-
-pub loop-parts-preserved : goal.loop-parts-preserved
-loop-parts-preserved c = halving_again c.loop-parts.invariant c.loop-parts-test.true
-
 pub returns : goal.returns
-returns c = sym (halving_end c.loop-parts.invariant c.loop-parts-test.false)
+returns c =
+    let p = c.next_power_of_two.ensures in
+    let j = c.ilog2.ensures in
+    halvings_found _ _ _ _ c.div_ceil.ensures p.power p.lower_bound p.upper_bound j.power_le j.next_power_gt

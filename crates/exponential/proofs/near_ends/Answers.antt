@@ -13,17 +13,8 @@ small : (c : After-halve-j)
     (4 * c.args.b / 2 ^ j ≤ 2000000000) × (j ≤ 14)
 small c = rw c.halve-j.ensures (argument_size (le_refl c.args.b), halvings_few c.requires.1)
 
-pub halve-j-requires : goal.halve-j-requires
-halve-j-requires c = c.requires.1
-
-pub overflow_mul-b : goal.overflow_mul-b
-overflow_mul-b c = omega (arith, c.requires)
-
 pub overflow_shr-b : goal.overflow_shr-b
 overflow_shr-b c = omega (arith, small (goal.at.overflow_shr-b c).After-halve-j)
-
-pub overflow_add-b : goal.overflow_add-b
-overflow_add-b c = omega (arith, small (goal.at.overflow_add-b c).After-halve-j)
 
 pub series-s-requires : goal.series-s-requires
 series-s-requires c = omega (arith, small (goal.at.series-s-requires c).After-halve-j)
@@ -31,20 +22,11 @@ series-s-requires c = omega (arith, small (goal.at.series-s-requires c).After-ha
 series_low : (c : After-series-s) → unit ≤ c.series-s.result
 series_low c = rw c.series-s.ensures (series_least _ _)
 
-pub overflow_mul-squared : goal.overflow_mul-squared
-overflow_mul-squared c = omega arith
-
 pub nonzero_div-s : goal.nonzero_div-s
 nonzero_div-s c = omega (arith, series_low (goal.at.nonzero_div-s c).After-series-s)
 
 pub squared-l-requires : goal.squared-l-requires
 squared-l-requires c = (inverse_most (series_low (goal.at.squared-l-requires c).After-series-s), (small (goal.at.squared-l-requires c).After-halve-j).1)
-
-pub overflow_sub-b : goal.overflow_sub-b
-overflow_sub-b c = omega (arith, c.requires.0)
-
-pub overflow_mul-b-2 : goal.overflow_mul-b-2
-overflow_mul-b-2 c = omega (arith, c.requires.1)
 
 -- what the calculation can err by
 few : (c : After-error) → c.error.result ≤ 46

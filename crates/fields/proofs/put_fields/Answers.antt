@@ -1,9 +1,9 @@
 -- `put_fields` writes the fields of a line one after the other: proofs/LineFields.antt.
 use Prim.Native.Nat.{ℕ, ◌+◌}
-use mathlib.Core.{Path.{◌≡◌, refl, ◌∙◌}, List.{List, [], ◌∷◌, ◌++◌}}
+use mathlib.Core.{Path.{◌≡◌, refl}, List.{List, [], ◌∷◌, ◌++◌}}
 use native.Mathlib.Omega.{arith}
 use borrow.Author.Rules.{rules}
-use lib.{IntN.{pos}, ListN.{get_or, length-set}}
+use lib.{IntN.{pos}, ListN.{get_or}}
 use mir.{Syntax.{w64}, Val.{SFits}, Facts.{to_z-of_z}}
 use Rattle.writing.proofs.Filling.{Filling, filling_start, filling_room, filling_end, filling_rest, byte_room, byte_step, text_room_lem}
 use Rattle.writing.proofs.Filling.{text_step, field_room, field_step}
@@ -85,17 +85,13 @@ loop-i-preserved c =
 
 module _ (c : After-loop-i) where
   last_is : line_from c.args.word c.args.row.now c.loop-i.i ≡ 10 ∷ []
-  last_is = line_last _ _ _ c.loop-i-test.false
+  last_is = line_last _ _ _ (omega arith)
 
 pub bounds-buf-p-2 : goal.bounds-buf-p-2
 bounds-buf-p-2 c = byte_room c.loop-i.invariant 10 [] (last_is (goal.at.bounds-buf-p-2 c).After-loop-i)
 
 pub overflow_add-result : goal.overflow_add-result
 overflow_add-result c = omega (arith, bounds-buf-p-2 c, c.loop-i.invariant.size)
-
-pub shape_of-buf : goal.shape_of-buf
-shape_of-buf c =
-    length-set c.loop-i.buf c.loop-i.p 10 ∙ c.loop-i.invariant.size ∙ (first (goal.at.shape_of-buf c).After-put_field-p).size
 
 pub returns : goal.returns
 returns c = filling_rest (first (goal.at.returns c).After-put_field-p) (filling_end (byte_step c.loop-i.invariant 10 [] (last_is (goal.at.returns c).After-loop-i)) refl)

@@ -25,31 +25,31 @@ at_kept h = h.read_header.ensures.columns_all ∙ sym (ap length h.requires.at_v
 order_kept : (h : After-read_header) → length h.read_header.new.order ≡ length h.args.order.now
 order_kept h = h.read_header.ensures.order_all ∙ sym h.requires.order_len
 
-pub shape_of-at-in-Wrong : goal.shape_of-at-in-Wrong
-shape_of-at-in-Wrong c = at_kept (goal.at.shape_of-at-in-Wrong c).After-read_header
+pub shape_of-at-in-Err : goal.shape_of-at-in-Err
+shape_of-at-in-Err c = at_kept (goal.at.shape_of-at-in-Err c).After-read_header
 
-pub shape_of-order-in-Wrong : goal.shape_of-order-in-Wrong
-shape_of-order-in-Wrong c = order_kept (goal.at.shape_of-order-in-Wrong c).After-read_header
+pub shape_of-order-in-Err : goal.shape_of-order-in-Err
+shape_of-order-in-Err c = order_kept (goal.at.shape_of-order-in-Err c).After-read_header
 
-pub returns-in-Wrong : goal.returns-in-Wrong
-returns-in-Wrong c =
-    read_names _ _ (text (goal.at.returns-in-Wrong c).After-read_header) c.find-e.ensures c.read_header.ensures _ c.in-Wrong.is
+pub returns-in-Err : goal.returns-in-Err
+returns-in-Err c =
+    read_names _ _ (text (goal.at.returns-in-Err c).After-read_header) c.find-e.ensures c.read_header.ensures _ c.in-Err.is
 
 pub judge_values-requires : goal.judge_values-requires
 judge_values-requires c =
-    let right = c.in-Right.is in
+    let right = c.in-Ok.is in
     record { placed = c.read_header.ensures.placed right; ordered = c.read_header.ensures.ordered right; room = room_left _ _ (text (goal.at.judge_values-requires c).After-read_header) c.find-e.ensures c.skip-next.ensures c.requires.room }
 
-pub shape_of-at-in-Right : goal.shape_of-at-in-Right
-shape_of-at-in-Right c = at_kept (goal.at.shape_of-at-in-Right c).After-read_header
+pub shape_of-at-in-Ok : goal.shape_of-at-in-Ok
+shape_of-at-in-Ok c = at_kept (goal.at.shape_of-at-in-Ok c).After-read_header
 
-pub shape_of-order-in-Right : goal.shape_of-order-in-Right
-shape_of-order-in-Right c = order_kept (goal.at.shape_of-order-in-Right c).After-read_header
+pub shape_of-order-in-Ok : goal.shape_of-order-in-Ok
+shape_of-order-in-Ok c = order_kept (goal.at.shape_of-order-in-Ok c).After-read_header
 
 pub shape_of-values : goal.shape_of-values
 shape_of-values c = c.judge_values.ensures.size
 
-pub returns-in-Right : goal.returns-in-Right
-returns-in-Right c =
-    read_values _ _ (text (goal.at.returns-in-Right c).After-read_header) c.find-e.ensures c.read_header.ensures _ c.in-Right.is
+pub returns-in-Ok : goal.returns-in-Ok
+returns-in-Ok c =
+    read_values _ _ (text (goal.at.returns-in-Ok c).After-read_header) c.find-e.ensures c.read_header.ensures _ c.in-Ok.is
     c.skip-next.ensures c.judge_values.ensures

@@ -14,21 +14,21 @@ line_values_lem : (v : After-read_values)
     v.read_values.new.row
 line_values_lem v = rw v.requires.row_len at v.read_values.ensures
 
-pub shape_of-row-in-Wrong : goal.shape_of-row-in-Wrong
-shape_of-row-in-Wrong c = c.read_values.ensures.count
+pub shape_of-row-in-Err : goal.shape_of-row-in-Err
+shape_of-row-in-Err c = c.read_values.ensures.count
 
-pub returns-in-Wrong : goal.returns-in-Wrong
-returns-in-Wrong c = judged_form _ (line_values_lem (goal.at.returns-in-Wrong c).After-read_values) _ c.in-Wrong.is
+pub returns-in-Err : goal.returns-in-Err
+returns-in-Err c = judged_form _ (line_values_lem (goal.at.returns-in-Err c).After-read_values) _ c.in-Err.is
 
 pub values_finding-requires : goal.values_finding-requires
 values_finding-requires c =
     record { placed = c.requires.placed; v_len = (line_values_lem (goal.at.values_finding-requires c).After-read_values).count; n_in_bounds = c.requires.n_in_bounds; at_most = c.requires.at_most }
 
-pub shape_of-row-in-Right : goal.shape_of-row-in-Right
-shape_of-row-in-Right c = c.read_values.ensures.count
+pub shape_of-row-in-Ok : goal.shape_of-row-in-Ok
+shape_of-row-in-Ok c = c.read_values.ensures.count
 
-pub returns-in-Right : goal.returns-in-Right
-returns-in-Right c =
-    judged_values _ (line_values_lem (goal.at.returns-in-Right c).After-read_values) _ _ (form_keyed c.args.form)
-    (key_fits c.args.form _ c.requires.placed (line_values_lem (goal.at.returns-in-Right c).After-read_values).count) c.in-Right.is
-    (arranged c.requires.placed c.requires.ordered (line_values_lem (goal.at.returns-in-Right c).After-read_values) c.in-Right.is) c.values_finding.ensures
+pub returns-in-Ok : goal.returns-in-Ok
+returns-in-Ok c =
+    judged_values _ (line_values_lem (goal.at.returns-in-Ok c).After-read_values) _ _ (form_keyed c.args.form)
+    (key_fits c.args.form _ c.requires.placed (line_values_lem (goal.at.returns-in-Ok c).After-read_values).count) c.in-Ok.is
+    (arranged c.requires.placed c.requires.ordered (line_values_lem (goal.at.returns-in-Ok c).After-read_values) c.in-Ok.is) c.values_finding.ensures

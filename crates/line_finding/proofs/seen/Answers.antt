@@ -1,19 +1,11 @@
--- `seen` meets its contract: the search of proofs/Keys.antt.
-use mathlib.Core.Path.{sym}
-use native.Mathlib.Omega.{arith}
-use Rattle.line_finding.proofs.{Keys.{not_seen, seeking_start, seeking_step, seeking_end}}
+-- `seen` meets its contract: a key above them all is none of them, and else the library's search answers.
+use mathlib.Core.Path.{sym, ◌∙◌}
+use borrow.Author.Tests.{lt-leb}
+use Rattle.line_finding.proofs.{Keys.{not_seen, seen_any}}
 use Rattle.line_finding.proofs.seen.Goals as goal
 
--- above all of them
-pub returns-then-most-key : goal.returns-then-most-key
-returns-then-most-key c = sym (not_seen _ c.requires.at_most c.if-most-key.true)
+pub returns-then-key-most : goal.returns-then-key-most
+returns-then-key-most c = c.contains.ensures.value ∙ seen_any _ _ _ c.requires.n_in_bounds
 
-pub loop-j-init : goal.loop-j-init
-loop-j-init c = seeking_start _ _ _
-
-pub loop-j-preserved : goal.loop-j-preserved
-loop-j-preserved c =
-    seeking_step c.loop-j.invariant (omega arith)
-
-pub returns : goal.returns
-returns c = seeking_end c.loop-j.invariant (omega arith)
+pub returns-else-key-most : goal.returns-else-key-most
+returns-else-key-most c = lt-leb _ _ c.if-key-most.false ∙ sym (not_seen _ c.requires.at_most c.if-key-most.false)

@@ -7,16 +7,10 @@ use Rattle.logarithm.specs.Ends.{down_ends, ln_ends}
 use Rattle.logarithm.proofs.{LnEnds.{up_tight}}
 use Rattle.logarithm.proofs.ln_ends.Goals as goal
 
-pub up_ends-requires : goal.up_ends-requires
-up_ends-requires c = (c.requires.1, (c.requires.0, omega arith))
-
 pub minus-requires : goal.minus-requires
 minus-requires c =
     let t = up_tight c.requires.1 c.requires.0 (omega arith) in
     rw c.up_ends.ensures (omega (arith, t.small))
-
-pub up_ends-requires-else-p-q : goal.up_ends-requires-else-p-q
-up_ends-requires-else-p-q c = (c.requires.0, (c.requires.1, c.if-p-q.false))
 
 pub returns-then-p-q : goal.returns-then-p-q
 unfolding ln_ends down_ends

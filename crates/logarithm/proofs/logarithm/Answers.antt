@@ -1,11 +1,11 @@
 -- `logarithm::logarithm` meets its contract.
 use mathlib.Core.{Path.{◌≡◌, sym, ap, ◌∙◌}, Bool.{true, false}}
-use Rattle.interval.specs.declared.Pair.TheVariants.{Ends}
 use Rattle.exact.specs.Answered.{RightPair}
 use Rattle.logarithm.specs.Asked.{inside, refused, answer_of}
 use Rattle.logarithm.proofs.{RightEnds.{right_ends, inside_known}}
 use Rattle.logarithm.proofs.logarithm.Goals as goal
 use Rattle.logarithm.proofs.logarithm.Goals.{Else-not-is_inside, Else-not-is_inside-2, Then-not-is_inside, Then-not-is_inside-2}
+use Rattle.std.specs.Prelude.{Ok}
 
 -- what the two tests found
 upper_outside : (c : Then-not-is_inside) → inside c.args.p ≡ false
@@ -37,6 +37,6 @@ returns c =
     let p = upper_inside (goal.at.returns c).Else-not-is_inside in
     let q = lower_inside (goal.at.returns c).Else-not-is_inside-2 in
     record {
-      answer = rw (p, q) (ap Ends c.ln_ends.ensures);
+      answer = rw (p, q) (ap Ok c.ln_ends.ensures);
       right = rw c.ln_ends.ensures (right_ends (inside_known _ p) (inside_known _ q));
     }

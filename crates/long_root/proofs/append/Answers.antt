@@ -42,8 +42,5 @@ overflow_mul-result-3 c =
 pub overflow_mul-result-4 : goal.overflow_mul-result-4
 overflow_mul-result-4 c = record { fits = omega (arith, (is_digit (goal.at.overflow_mul-result-4 c).After-digit-d).low, rest_small (start (goal.at.overflow_mul-result-4 c).After-digit-d).requires) }
 
-pub overflow_sub-result : goal.overflow_sub-result
-overflow_sub-result c = (is_digit (goal.at.overflow_sub-result c).After-digit-d).low
-
 pub returns : goal.returns
 returns c = appended (start (goal.at.returns c).After-digit-d).requires (is_digit (goal.at.returns c).After-digit-d)

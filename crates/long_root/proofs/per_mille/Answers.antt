@@ -2,9 +2,8 @@
 use Prim.Native.Nat.{◌*◌}
 use mathlib.Core.Path.{◌≡◌}
 use native.Mathlib.Omega.{arith}
-use lib.Dec.{lit≤}
 use Rattle.long_root.specs.LongRoot.{radicand}
-use Rattle.long_root.proofs.{LongRoot.{room}, RoundedUp.{exact_split, next_split, split_small}}
+use Rattle.long_root.proofs.{RoundedUp.{exact_split, next_split, split_small}}
 use Rattle.long_root.proofs.per_mille.Goals as goal
 use Rattle.long_root.proofs.per_mille.Goals.{After-append-one, After-append-three, After-append-two, After-begin}
 
@@ -23,15 +22,6 @@ three_digits : (c : After-append-three)
     → radicand c.args.injected c.append-three.result
     ≡ 1000000 * c.args.grid
 three_digits c = omega (arith, c.append-three.ensures.more, two_digits (goal.at.After-append-three c).After-append-two)
-
-pub append-one-requires : goal.append-one-requires
-append-one-requires c = room c.requires c.begin.ensures.greatest 1 (lit≤ tt) (no_digit (goal.at.append-one-requires c).After-begin)
-
-pub append-two-requires : goal.append-two-requires
-append-two-requires c = room c.requires c.append-one.ensures.greatest 100 (lit≤ tt) (one_digit (goal.at.append-two-requires c).After-append-one)
-
-pub append-three-requires : goal.append-three-requires
-append-three-requires c = room c.requires c.append-two.ensures.greatest 10000 (lit≤ tt) (two_digits (goal.at.append-three-requires c).After-append-two)
 
 pub overflow_add-result : goal.overflow_add-result
 overflow_add-result c =

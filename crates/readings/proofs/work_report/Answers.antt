@@ -2,7 +2,7 @@
 use Prim.Native.Nat.{ℕ, ◌*◌, ◌/◌, ◌≤◌, ◌<◌}
 use mathlib.Core.{Path.{ap}, List.{List}}
 use native.Mathlib.Omega.{arith}
-use lib.{Dec.{lit≤, lit<}, ListN.{length}}
+use lib.{ListN.{length}}
 use Rattle.readings.specs.{declared.products.Products.{Products}, Reading.{pairs_of}, Taken.{most_pairs, most_product, Taken}}
 use Rattle.readings.specs.Ends.{report_of}
 use Rattle.readings.proofs.{Pairs.{pair_count}, Bounds.{least_bound, greatest_bound, total_bound}, Spans.{ends_span}}
@@ -37,11 +37,11 @@ module _ (c : After-gather-t) where
 pub ends-mean-requires : goal.ends-mean-requires
 ends-mean-requires c = record { count_nonzero = (some (goal.at.ends-mean-requires c).After-gather-t, few (goal.at.ends-mean-requires c).After-gather-t); s_bound = total_high (goal.at.ends-mean-requires c).After-gather-t }
 
-pub ends-requires : goal.ends-requires
-ends-requires c = record { count_nonzero = (lit< tt, lit≤ tt); s_bound = least_high (goal.at.ends-requires c).After-gather-t }
+pub ends-requires-clause-s_bound : goal.ends-requires-clause-s_bound
+ends-requires-clause-s_bound c = least_high (goal.at.ends-requires-clause-s_bound c).After-gather-t
 
-pub ends-requires-2 : goal.ends-requires-2
-ends-requires-2 c = record { count_nonzero = (lit< tt, lit≤ tt); s_bound = greatest_high (goal.at.ends-requires-2 c).After-gather-t }
+pub ends-requires-2-clause-s_bound : goal.ends-requires-2-clause-s_bound
+ends-requires-2-clause-s_bound c = greatest_high (goal.at.ends-requires-2-clause-s_bound c).After-gather-t
 
 pub whole-requires : goal.whole-requires
 whole-requires c =

@@ -2,14 +2,18 @@
 use Rattle.search_text.specs.Fewest.{search_text}
 use Rattle.search_text.proofs.put_search.Goals as goal
 
-pub returns-in-Found : goal.returns-in-Found
+pub returns-in-Ok-Found : goal.returns-in-Ok-Found
 unfolding search_text
-returns-in-Found c = rw c.in-Found.is c.put_numbered.ensures
+returns-in-Ok-Found c =
+    let found = rw c.in-Ok-Found.is at c.in-Ok-Found.field-0-is in
+    rw (c.in-Ok-Found.is, found) c.put_numbered.ensures
 
-pub returns-in-None : goal.returns-in-None
+pub returns-in-Ok-None : goal.returns-in-Ok-None
 unfolding search_text
-returns-in-None c = rw c.in-None.is c.put_numbered-in-None.ensures
+returns-in-Ok-None c =
+    let none = rw c.in-Ok-None.is at c.in-Ok-None.field-0-is in
+    rw (c.in-Ok-None.is, none) c.put_numbered-in-Ok-None.ensures
 
-pub returns-in-Refused : goal.returns-in-Refused
+pub returns-in-Err : goal.returns-in-Err
 unfolding search_text
-returns-in-Refused c = rw c.in-Refused.is c.put_refusal.ensures
+returns-in-Err c = rw c.in-Err.is c.put_refusal.ensures

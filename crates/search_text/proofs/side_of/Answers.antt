@@ -1,9 +1,8 @@
 -- `side_of` reads a line that is not a value as 0.
-use Rattle.search_text.proofs.{SearchTexts.{side_value, side_none}}
+use Rattle.std.proofs.Common.{ap, ◌∙◌}
+use Rattle.search_text.specs.Fewest.{side_of}
 use Rattle.search_text.proofs.side_of.Goals as goal
 
-pub returns-in-Value : goal.returns-in-Value
-returns-in-Value c = side_value _ c.value-side.ensures c.in-Value.is
-
-pub returns-in-Wrong : goal.returns-in-Wrong
-returns-in-Wrong c = side_none _ c.value-side.ensures c.in-Wrong.is
+pub returns : goal.returns
+unfolding side_of
+returns c = c.unwrap_or.ensures ∙ ap side_of c.value.ensures

@@ -1,5 +1,6 @@
 -- `split` makes the checks in their order.
-use mathlib.Core.{Path.{◌≡◌, sym, ◌∙◌}, Bool.{false}}
+use mathlib.Core.{Path.{◌≡◌, sym, ap, ◌∙◌}, Bool.{false}}
+use Rattle.std.specs.Prelude.{Ok}
 use lib.ListN.{length}
 use Rattle.staged.specs.{Check.{bad_count, any_outside, none_injected}, Answer.{answer}}
 use Rattle.staged.proofs.split.Goals as goal
@@ -38,4 +39,4 @@ measured-requires c =
 pub returns : goal.returns
 unfolding answer
 returns c =
-    rw (count_passed (goal.at.returns c).Else-bad_count, range_passed (goal.at.returns c).Else-outside, injected_passed (goal.at.returns c).Else-none) c.measured.ensures
+    rw (count_passed (goal.at.returns c).Else-bad_count, range_passed (goal.at.returns c).Else-outside, injected_passed (goal.at.returns c).Else-none) (ap Ok c.measured.ensures)

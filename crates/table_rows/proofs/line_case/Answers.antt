@@ -8,5 +8,5 @@ use Rattle.table_rows.proofs.line_case.Goals as goal
 
 pub returns : goal.returns
 returns c =
-    let w : name_count * c.args.i + name_count - name_count * c.args.i ≡ name_count = omega arith in
+    let w : name_count * (c.args.i + 1) - name_count * c.args.i ≡ name_count = omega arith in
     c.case_of.ensures ∙ ap (λ k. case_of (take k (drop (name_count * c.args.i) c.args.values.now))) w

@@ -6,4 +6,4 @@ use Rattle.table_rows.proofs.write_row.Goals as goal
 
 pub returns : goal.returns
 returns c =
-    row_written c.args.i c.args.table.now _ _ c.requires.row_length_in_bounds (c.put_row.ensures ∙ ap numbers c.work_row-row.ensures)
+    row_written c.args.i c.args.table.now _ _ c.requires.row_length_in_bounds (c.put_row.ensures ∙ ap numbers c.work_row.ensures)

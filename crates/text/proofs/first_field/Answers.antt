@@ -2,10 +2,8 @@
 use Rattle.text.proofs.{FieldTurns.{part_length}}
 use Rattle.text.proofs.first_field.Goals as goal
 
-pub returns-then-v-gt0 : goal.returns-then-v-gt0
-returns-then-v-gt0 c =
-    let v = c.front_value-v.ensures in
-    record { ends = v.ends c.if-v-gt0.true; held = v.held c.if-v-gt0.true }
+pub returns-in-Some : goal.returns-in-Some
+returns-in-Some c = record { ends = c.in-Some.ensures.ends; held = c.in-Some.ensures.held }
 
 pub slice_bounds-value-end : goal.slice_bounds-value-end
-slice_bounds-value-end c = part_length 44 _ _ c.find-e.ensures
+slice_bounds-value-end c = part_length 44 _ _ c.find-end.ensures

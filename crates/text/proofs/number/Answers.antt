@@ -1,27 +1,26 @@
 -- `text::number` meets its contract: the reading of digits of proofs/Digits.antt.
-use Rattle.std.proofs.Common.{arith, rules}
-use Rattle.text.proofs.Digits.{reading_start, reading_fits, reading_under, reading_over, reading_step, reading_end}
+use Rattle.std.proofs.Common.{sym, ◌∙◌, arith, rules}
+use Rattle.text.specs.Value.{digit}
+use Rattle.text.proofs.Digits.{reading_start, reading_fits, reading_other, reading_step, reading_end}
 use Rattle.text.proofs.number.Goals as goal
 
-pub loop-i-init : goal.loop-i-init
-loop-i-init c = reading_start _
+pub loop-b-init : goal.loop-b-init
+loop-b-init c = reading_start _
 
-pub returns-then-b-lt48 : goal.returns-then-b-lt48
-returns-then-b-lt48 c = reading_under c.loop-i.invariant (search rules) c.if-b-lt48.true
-
-pub returns-then-b-gt57 : goal.returns-then-b-gt57
-returns-then-b-gt57 c = reading_over c.loop-i.invariant (search rules) (search rules) c.if-b-gt57.true
+pub returns-then-not-is_ascii_digit : goal.returns-then-not-is_ascii_digit
+unfolding digit
+returns-then-not-is_ascii_digit c =
+    reading_other c.loop-b.invariant (search rules) (sym c.is_ascii_digit.ensures.value ∙ c.if-not-is_ascii_digit.true)
 
 pub overflow_mul-n : goal.overflow_mul-n
-overflow_mul-n c =
-    omega (arith, reading_fits c.loop-i.invariant c.requires (search rules))
+overflow_mul-n c = omega (arith, reading_fits c.loop-b.invariant c.requires (search rules))
 
 pub overflow_add-n : goal.overflow_add-n
-overflow_add-n c =
-    omega (arith, reading_fits c.loop-i.invariant c.requires (search rules))
+overflow_add-n c = omega (arith, reading_fits c.loop-b.invariant c.requires (search rules))
 
-pub loop-i-preserved : goal.loop-i-preserved
-loop-i-preserved c = reading_step c.loop-i.invariant (search rules) (search rules) (search rules)
+pub loop-b-preserved : goal.loop-b-preserved
+unfolding digit
+loop-b-preserved c = reading_step c.loop-b.invariant (search rules) (sym c.is_ascii_digit.ensures.value ∙ c.if-not-is_ascii_digit.false)
 
 pub returns : goal.returns
-returns c = reading_end c.loop-i.invariant c.loop-i-test.false
+returns c = reading_end c.loop-b.invariant (omega arith)

@@ -1,13 +1,14 @@
--- `text::pass_blocks` meets its contract: each block that is passed is without the byte.
-use Rattle.std.proofs.Common.{◌≡◌, ◌+◌, ◌-◌, arith}
-use Rattle.text.proofs.{Searching.{searching_start, part_passed}}
+-- `text::pass_blocks` meets its contract: each block before the one that is found is without the byte.
+use Rattle.std.proofs.Common.{◌==◌, ◌∙◌, rules, arith}
+use borrow.Author.Tests.{tests}
+use Rattle.std.specs.List.{list_any}
+use Rattle.std.proofs.lemmas.{Iterator.{YieldsList-from_slice}, Iterator.Search.{position_from_yields_List}}
+use Rattle.text.proofs.Searching.{place_or_length, blocks_passed}
 use Rattle.text.proofs.pass_blocks.Goals as goal
 
-pub loop-i-init : goal.loop-i-init
-loop-i-init c = searching_start _ _
-
-pub loop-i-preserved : goal.loop-i-preserved
-loop-i-preserved c =
-    let l = c.loop-i in
-    let k : l.i + 16 - l.i ≡ 16 = omega arith in
-    part_passed 16 l.invariant (omega arith) (rw k at (c.holds.ensures c.if-holds.false))
+pub returns : goal.returns
+returns c =
+    let first = position_from_yields_List (list_any (λ x. x == c.args.b)) _ _ _ c.position-first.ensures.ran
+    (YieldsList-from_slice c.as_chunks.result.0.now cc) (λ x b q k. search (rules, tests)) in
+    rw (c.unwrap_or.ensures ∙ place_or_length _ _ first, c.as_chunks.ensures.front)
+    (blocks_passed c.args.b 16 _ c.args.s.now (omega arith))

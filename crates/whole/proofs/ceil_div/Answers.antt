@@ -9,9 +9,6 @@ use Rattle.whole.proofs.{Signed.{size_neg, size_floor}, Bits.{negated_fits, nega
 use Rattle.whole.proofs.ceil_div.Goals as goal
 use Rattle.whole.proofs.ceil_div.Goals.{After-floor_div}
 
-pub overflow_sub-a : goal.overflow_sub-a
-overflow_sub-a c = negated_fits c.ranges.a c.requires.1
-
 floored : (c : After-floor_div) → c.floor_div.result ≡ floor_z (neg_ℤ c.args.a) c.args.d
 floored c = rw (negated_is c.ranges.a c.requires.1) at c.floor_div.ensures
 

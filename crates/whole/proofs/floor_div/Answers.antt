@@ -1,9 +1,9 @@
 -- `floor_div`: the bits of a number below 0 are inverted, divided, and inverted again.
 use Prim.Native.Nat.{◌-◌, ◌/◌, ◌<◌, ◌^◌}
 use mathlib.Core.{Path.{◌≡◌, sym, ap, ◌∙◌}, Bool.{true, false}}
-use native.Mathlib.{Nat.{lt_of_le_of_lt, div-le_self}, Omega.{arith}}
+use native.Mathlib.{Nat.{lt_of_le_of_lt, div-le_self}}
 use lib.{IntN.{pos}, Signed.{mag, lt_z}}
-use mir.{Syntax.{w64}, Val.{Fits, to_z, of_z}, Facts.{to_z-of_z, to_z_pos}}
+use mir.{Syntax.{w64}, Val.{to_z, of_z}, Facts.{to_z-of_z, to_z_pos}}
 use Rattle.whole.specs.Whole.{flip_z, floor_z}
 use Rattle.whole.proofs.{Bits.{read, flipped, below_zero, not_below_zero}}
 use Rattle.whole.proofs.floor_div.Goals as goal
@@ -13,26 +13,11 @@ module _ (s : Start) where
   quotient_small : mag s.args.a / s.args.d < 2 ^ 63
   quotient_small = lt_of_le_of_lt (div-le_self _ _) s.ranges.a.sfits
 
-  number_fits : Fits w64 (mag s.args.a)
-  number_fits = record { fits = omega (arith, s.ranges.a.sfits) }
-
   turned : lt_z (read s.args.a) (pos 0) ≡ true → to_z w64 (18446744073709551615 - of_z w64 s.args.a) ≡ pos (mag s.args.a)
   turned h = flipped s.args.a s.ranges.a ∙ ap flip_z (below_zero s.args.a s.ranges.a h)
 
   straight : lt_z (read s.args.a) (pos 0) ≡ false → read s.args.a ≡ pos (mag s.args.a)
   straight h = to_z-of_z s.ranges.a ∙ not_below_zero s.args.a s.ranges.a h
-
-pub overflow_cast-result : goal.overflow_cast-result
-overflow_cast-result c = rw (turned (goal.at.overflow_cast-result c).Start c.if-a-lt0.true) (tt, number_fits (goal.at.overflow_cast-result c).Start)
-
-pub overflow_cast-result-then-a-lt0 : goal.overflow_cast-result-then-a-lt0
-overflow_cast-result-then-a-lt0 c = rw (turned (goal.at.overflow_cast-result-then-a-lt0 c).Start c.if-a-lt0.true) (record { sfits = quotient_small (goal.at.overflow_cast-result-then-a-lt0 c).Start })
-
-pub overflow_cast-result-else-a-lt0 : goal.overflow_cast-result-else-a-lt0
-overflow_cast-result-else-a-lt0 c = rw (straight (goal.at.overflow_cast-result-else-a-lt0 c).Start c.if-a-lt0.false) (tt, number_fits (goal.at.overflow_cast-result-else-a-lt0 c).Start)
-
-pub overflow_cast-result-else-a-lt0-2 : goal.overflow_cast-result-else-a-lt0-2
-overflow_cast-result-else-a-lt0-2 c = rw (straight (goal.at.overflow_cast-result-else-a-lt0-2 c).Start c.if-a-lt0.false) (record { sfits = quotient_small (goal.at.overflow_cast-result-else-a-lt0-2 c).Start })
 
 pub returns-then-a-lt0 : goal.returns-then-a-lt0
 unfolding floor_z

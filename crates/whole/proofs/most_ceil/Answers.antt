@@ -10,9 +10,6 @@ use Rattle.whole.proofs.{Divisors.{most_of_least}}
 use Rattle.whole.proofs.most_ceil.Goals as goal
 use Rattle.whole.proofs.most_ceil.Goals.{After-least_floor}
 
-pub overflow_sub-a : goal.overflow_sub-a
-overflow_sub-a c = negated_fits c.ranges.a c.requires.a_bound
-
 lesser : (c : After-least_floor)
     → let s = c.args in
     c.least_floor.result ≡ min_z (floor_z (neg_ℤ s.a) s.d) (floor_z (neg_ℤ s.a) s.e)

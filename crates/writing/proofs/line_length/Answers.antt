@@ -1,24 +1,18 @@
--- `line_length` adds up the digits, a comma before each number but the first, and the byte 10.
-use native.Mathlib.Omega.{arith}
-use Rattle.writing.proofs.{Line.{measuring_start, measuring_step, measuring_end}}
+-- `line_length` adds up the digits of the numbers and the byte after each: proofs/Line.antt.
+use Rattle.std.proofs.Common.{◌+◌, ◌∙◌, rules, arith}
+use Rattle.std.proofs.lemmas.{Iterator.{YieldsList-from_slice, YieldsList-from_map}, Iterator.Consumers.{sum_from_yields_List, fits_from_yields_list}}
+use Rattle.writing.specs.Decimal.{digit_count}
+use Rattle.writing.proofs.Line.{line_count}
 use Rattle.writing.proofs.line_length.Goals as goal
 
-pub loop-i-init : goal.loop-i-init
-loop-i-init c = measuring_start _ _ c.requires.v_nonzero c.digit_count-n.ensures
-
-pub loop-i-preserved : goal.loop-i-preserved
-loop-i-preserved c =
-    measuring_step c.loop-i.invariant _ c.loop-i-test.true c.digit_count.ensures
-
-pub overflow_add-n : goal.overflow_add-n
-overflow_add-n c = omega (arith, (loop-i-preserved c).left, c.requires.v_len_bound)
-
-pub overflow_add-n-in-loop-i : goal.overflow_add-n-in-loop-i
-overflow_add-n-in-loop-i c = omega (arith, (loop-i-preserved c).left, c.requires.v_len_bound)
-
-pub overflow_add-result : goal.overflow_add-result
-overflow_add-result c =
-    omega (arith, measuring_end c.loop-i.invariant c.loop-i-test.false, c.requires.v_len_bound)
+pub sum-requires-clause-fits : goal.sum-requires-clause-fits
+sum-requires-clause-fits c =
+    fits_from_yields_list _ _
+    (YieldsList-from_map _ (λ n. digit_count n + 1) (YieldsList-from_slice c.args.v.now cc) c.map.ensures.closure (λ x r q k. search rules))
+    (omega (arith, line_count c.args.v.now c.requires.v_nonzero, c.requires.v_len_bound))
 
 pub returns : goal.returns
-returns c = measuring_end c.loop-i.invariant c.loop-i-test.false
+returns c =
+    sum_from_yields_List _ _ c.sum.ensures.ran
+    (YieldsList-from_map _ (λ n. digit_count n + 1) (YieldsList-from_slice c.args.v.now cc) c.map.ensures.closure (λ x r q k. search rules))
+    ∙ line_count c.args.v.now c.requires.v_nonzero

@@ -1,38 +1,44 @@
 -- `put_lines` writes line after line: proofs/LinesWriting.antt, with the lines of a table of proofs/TableRest.antt.
-use mathlib.Core.{Path.{sym}}
-use native.Mathlib.Omega.{arith}
+use Rattle.std.proofs.Common.{◌≡◌, ◌+◌, ◌∷◌, ◌++◌, [], length, length-append, ap, ◌∙◌, arith}
+use Rattle.std.specs.Slice.Iter.{chunks_exact_rest, chunks_exact_size}
 use Rattle.writing.specs.Text.{value_line}
 use Rattle.writing.proofs.LinesWriting.{lines_start, line_room, line_step, lines_end}
-use Rattle.writing.proofs.TableRest.{rest_start, rest_step, line_next, line_none, line_within, line_size}
+use Rattle.writing.proofs.TableRest.{rest_start, rest_step, line_next, line_none}
 use Rattle.writing.proofs.put_lines.Goals as goal
 
-pub loop-i-init : goal.loop-i-init
-loop-i-init c = (rest_start _ _ _ c.requires.k_in_bounds, lines_start _ _ _ c.requires.table_in_bounds)
-
-pub slice_bounds-put_line-end : goal.slice_bounds-put_line-end
-slice_bounds-put_line-end c = sym (line_size c.loop-i.invariant.0 c.loop-i-test.true)
+pub loop-v-init : goal.loop-v-init
+loop-v-init c =
+    let same = c.into_iter-v-iterator.ensures.into_iter_gives in
+    record {
+      width = ap chunks_exact_size same ∙ c.chunks_exact-v-items.ensures.size;
+      table = rw (ap chunks_exact_rest same ∙ c.chunks_exact-v-items.ensures.rest) (rest_start _ _ _ c.requires.k_in_bounds);
+      lines = lines_start _ _ _ c.requires.table_in_bounds;
+    }
 
 pub put_line-p-requires : goal.put_line-p-requires
 put_line-p-requires c =
-    record { v_nonzero = omega (arith, line_size c.loop-i.invariant.0 c.loop-i-test.true, c.requires.k_nonzero); v_in_bounds = line_room c.loop-i.invariant.1 (line_next c.loop-i.invariant.0 c.loop-i-test.true value_line) }
+    let a = c.loop-v.invariant in
+    let next = c.in-Some.ensures.steps.1 in
+    let size = next.1 ∙ a.width in
+    record {
+      v_nonzero = omega (arith, size, c.requires.k_nonzero);
+      v_in_bounds = line_room a.lines (line_next a.table c.requires.k_nonzero _ _ next.0 size value_line);
+    }
 
-pub offset_bounds-rest-k : goal.offset_bounds-rest-k
-offset_bounds-rest-k c =
-    omega (arith, c.loop-i.invariant.0.shorter, line_within c.loop-i.invariant.0 c.loop-i-test.true, c.well_formed)
-
-pub slice_bounds-rest-count : goal.slice_bounds-rest-count
-slice_bounds-rest-count c = line_within c.loop-i.invariant.0 c.loop-i-test.true
-
-pub slice_bounds-rest-start : goal.slice_bounds-rest-start
-slice_bounds-rest-start c = slice_bounds-rest-count c
-
-pub loop-i-preserved : goal.loop-i-preserved
-loop-i-preserved c =
-    let a = c.loop-i.invariant in
-    (rest_step a.0 c.loop-i-test.true, line_step a.1 (line_next a.0 c.loop-i-test.true value_line) c.put_line-p.ensures)
-
-pub shape_of-buf : goal.shape_of-buf
-shape_of-buf c = c.loop-i.invariant.1.filling.size
+pub loop-v-preserved : goal.loop-v-preserved
+loop-v-preserved c =
+    let a = c.loop-v.invariant in
+    let steps = c.in-Some.ensures.steps in
+    let size = steps.1.1 ∙ a.width in
+    let more : length (c.loop-v.yielded ++ c.in-Some.v ∷ []) ≡ length c.loop-v.yielded + 1 = length-append c.loop-v.yielded (c.in-Some.v ∷ []) in
+    rw more
+    (record {
+      width = steps.0 ∙ a.width;
+      table = rest_step a.table c.requires.k_nonzero _ _ steps.1.0 size;
+      lines = line_step a.lines (line_next a.table c.requires.k_nonzero _ _ steps.1.0 size value_line) c.put_line-p.ensures;
+    })
 
 pub returns : goal.returns
-returns c = let a = c.loop-i.invariant in lines_end a.1 (line_none a.0 value_line c.loop-i-test.false)
+returns c =
+    let a = c.loop-v.invariant in
+    lines_end a.lines (line_none a.table (omega (arith, a.width, c.in-None.ensures.steps.1.0)) value_line)

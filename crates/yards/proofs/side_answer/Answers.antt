@@ -1,5 +1,6 @@
 -- `side_answer` refuses a side out of range, then a rod length of 0.
-use mathlib.Core.Path.{◌∙◌}
+use mathlib.Core.Path.{ap, ◌∙◌}
+use Rattle.std.specs.Prelude.{Ok}
 use Rattle.case.proofs.Bounds.{record_bounds}
 use Rattle.yards.specs.{Yards.{trial}, Fewest.{side_answer}}
 use borrow.Author.Tests.{eq-eqb, ne_eqb, le-leb, lt-leb}
@@ -25,4 +26,5 @@ first_safe-requires c = record_bounds (rw (ne_eqb _ _ c.if-c-eq0.false) at c.req
 pub returns : goal.returns
 unfolding side_answer
 returns c =
-    c.first_safe.ensures ∙ rw (le-leb _ _ c.if-side-lt-LEAST_SIDE.false, le-leb _ _ c.if-side-gt-MOST_SIDE.false, ne_eqb _ _ c.if-c-eq0.false)
+    ap Ok c.first_safe.ensures
+    ∙ rw (le-leb _ _ c.if-side-lt-LEAST_SIDE.false, le-leb _ _ c.if-side-gt-MOST_SIDE.false, ne_eqb _ _ c.if-c-eq0.false)

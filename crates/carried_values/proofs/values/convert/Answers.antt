@@ -29,4 +29,4 @@ loop-i-preserved c =
     (part_is c.args.values.now c.loop-i.i (from_count (goal.at.loop-i-preserved c).In-loop-i)))
 
 pub returns : goal.returns
-returns c = converting_end c.loop-i.invariant c.loop-i-test.false
+returns c = converting_end c.loop-i.invariant (omega arith)

@@ -1,12 +1,15 @@
 -- `case::parts::agree` meets its contract.
-use borrow.Author.Tests.{eq-eqb, ne_eqb}
+use mathlib.Core.{Path.{◌≡◌, refl}, Bool.{Bool, true, false, cond, not, beq}}
+use lib.Dec.{eqb}
 use Rattle.case.specs.Check.{agree as agreeing}
 use Rattle.case.proofs.parts.agree.Goals as goal
 
-pub returns-then-a-eq0 : goal.returns-then-a-eq0
-unfolding agreeing
-returns-then-a-eq0 c = rw (eq-eqb _ 0 c.if-a-eq0.true)
+same : (a b : Bool) → beq a b ≡ cond a b (not b)
+same true true = refl
+same true false = refl
+same false true = refl
+same false false = refl
 
-pub returns-else-a-eq0 : goal.returns-else-a-eq0
+pub returns : goal.returns
 unfolding agreeing
-returns-else-a-eq0 c = rw (ne_eqb _ 0 c.if-a-eq0.false)
+returns c = same (eqb c.args.a 0) (eqb c.args.b 0)

@@ -1,16 +1,17 @@
--- `gate::parts::first_part`: both places are within the text, and the second one is not its start.
-use native.Mathlib.Omega.{arith}
-use lib.ListN.{length-drop}
-use Rattle.text.proofs.{Searching.{index_within}, FieldTurns.{part_end}, LineTurns.{skipped_shorter}}
+-- `gate::parts::first_part`: the byte is found within the text or at its end, and what is after it is all but the first byte of what is left.
+use Rattle.std.proofs.Common.{ap, ◌+◌, ◌∙◌, arith, drop}
+use Rattle.std.proofs.lemmas.List.{drop-drop, length-drop, take_all}
+use Rattle.text.proofs.Searching.{index_within}
 use Rattle.gate.proofs.parts.first_part.Goals as goal
 
-pub returns : goal.returns
-returns c =
-    let args = c.args in
-    let s = args.s.now in
-    let next = c.skip-n.result in
-    record {
-      ends = omega (arith, c.find-e.ensures, index_within args.b s);
-      starts = c.skip-n.ensures.within;
-      goes = λ some. omega (arith, length-drop next s, rw (part_end s next) at (skipped_shorter s some c.skip-n.ensures));
-    }
+pub split_at-requires : goal.split_at-requires
+split_at-requires c = omega (arith, c.find.ensures, index_within c.args.b c.args.s.now)
+
+pub returns-in-len1-up-clause-rest : goal.returns-in-len1-up-clause-rest
+returns-in-len1-up-clause-rest c =
+    let s = c.args.s.now in
+    let rest = c.split_at.result.1.now in
+    take_all _ _ (omega (arith, length-drop 1 rest))
+    ∙ ap (drop 1) c.split_at.ensures.back
+    ∙ drop-drop 1 c.find.result s
+    ∙ ap (λ i. drop (i + 1) s) c.find.ensures

@@ -1,12 +1,12 @@
 -- `header::names::name_of` meets its contract: no name stands twice, so the expected one may be tried first.
-use mathlib.Core.Path.{sym, ◌∙◌}
-use Rattle.header.proofs.{NameIndices.{name_found}}
+use mathlib.Core.Path.{sym, ap, ◌∙◌}
+use lib.Dec.{eqb}
+use Rattle.std.specs.Cmp.Lexicographic.{pointwise}
+use Rattle.text.proofs.Comparing.{same_is}
+use Rattle.header.proofs.NameIndices.{name_found}
 use Rattle.header.proofs.names.name_of.Goals as goal
 
-pub is_name-requires : goal.is_name-requires
-is_name-requires c = c.requires.spells.fits
-
-pub returns-then-is_name : goal.returns-then-is_name
-returns-then-is_name c =
-    let test = rw c.requires.spells.is at c.is_name.ensures in
-    name_found _ _ c.requires.k_in_bounds (sym test ∙ c.if-is_name.true)
+pub returns-then-eq : goal.returns-then-eq
+returns-then-eq c =
+    name_found _ _ c.requires
+    (sym (same_is _ _) ∙ sym (ap (pointwise eqb c.args.s.now) c.name.ensures) ∙ sym c.eq.ensures ∙ c.if-eq.true)

@@ -1,7 +1,7 @@
 -- `Interval::hull` takes the lesser lower end and the greater upper one.
 use borrow.Author.Rules.{rules}
 use mir.Facts.{to_z-of_z}
-use Rattle.whole.proofs.Bits.{back}
+use Rattle.whole.proofs.{Bits.{back}, Choice.{min_is, max_is}}
 use Rattle.interval.specs.Operations.{hull_of}
 use Rattle.interval.proofs.{Held.{Held}}
 use Rattle.interval.proofs.Interval.hull.Goals as goal
@@ -19,6 +19,8 @@ returns c =
       to_z-of_z h.0.1,
       to_z-of_z h.1.0,
       to_z-of_z h.1.1,
-      back c.least.result c.least.type_inv,
-      back c.most.result c.most.type_inv,
+      back c.min.result c.min.type_inv,
+      back c.max.result c.max.type_inv,
+      min_is _ _,
+      max_is _ _,
     )

@@ -1,53 +1,26 @@
 -- `minus` turns the ends round: a number whose size is below 2^63 has a negative that fits.
-use Prim.Native.Nat.{◌≤◌, ◌<◌, ◌^◌}
-use mathlib.Core.Path.{◌≡◌}
+use Prim.Native.Nat.{◌<◌, ◌^◌}
 use native.Mathlib.Omega.{arith}
-use borrow.Author.Rules.{rules}
-use lib.{IntN.{ℤ, pos, negsuc, nat_abs, neg_ℤ, ◌-ℤ◌, +ℤ_idl}, Signed.{mag}}
-use mir.{Facts.{to_z-of_z}, Syntax.{w64}, Val.{SFits, to_z, of_z}}
-use Rattle.whole.proofs.Signed.{size_neg}
+use lib.IntN.{nat_abs}
+use Rattle.whole.proofs.Bits.{small_fits, negated_fits, negated_is}
 use Rattle.interval.specs.Operations.{size, minus_of}
 use Rattle.interval.proofs.Interval.minus.Goals as goal
-
-magnitude≤ : (z : ℤ) → mag z ≤ nat_abs z
-magnitude≤ (pos n) = omega arith
-magnitude≤ (negsuc n) = omega arith
-
-small : (z : ℤ) → nat_abs z < 2 ^ 63 → SFits w64 z
-small z h = record { sfits = omega (arith, magnitude≤ z) }
-
--- 0 − z, as the code computes it
-module _ (z : ℤ) (h : nat_abs z < 2 ^ 63) where
-  subtracted : pos 0 -ℤ to_z w64 (of_z w64 z) ≡ neg_ℤ z
-  subtracted = rw (to_z-of_z (small z h), +ℤ_idl)
-
-  negative_fits : SFits w64 (neg_ℤ z)
-  negative_fits = small (neg_ℤ z) (omega (arith, size_neg z))
-
-  minus_fits : SFits w64 (pos 0 -ℤ to_z w64 (of_z w64 z))
-  minus_fits = rw subtracted negative_fits
-
-  minus_is : to_z w64 (of_z w64 (pos 0 -ℤ to_z w64 (of_z w64 z))) ≡ neg_ℤ z
-  minus_is = rw subtracted (to_z-of_z negative_fits)
 
 pub overflow_sub-result : goal.overflow_sub-result
 unfolding size
 overflow_sub-result c =
-    let a = c.args.self in
-    let lower = minus_fits a.lower (omega arith) in
-    let upper = minus_fits a.upper (omega arith) in
-    search rules
+    let h : nat_abs c.args.self.upper < 2 ^ 63 = omega arith in
+    negated_fits {z = c.args.self.upper} (small_fits h) h
 
 pub overflow_sub-result-2 : goal.overflow_sub-result-2
 unfolding size
 overflow_sub-result-2 c =
-    let a = c.args.self in
-    let lower = minus_fits a.lower (omega arith) in
-    let upper = minus_fits a.upper (omega arith) in
-    search rules
+    let h : nat_abs c.args.self.lower < 2 ^ 63 = omega arith in
+    negated_fits {z = c.args.self.lower} (small_fits h) h
 
 pub returns : goal.returns
 unfolding size minus_of
 returns c =
-    let a = c.args.self in
-    simp (minus_is a.lower (omega arith), minus_is a.upper (omega arith))
+    let h : nat_abs c.args.self.upper < 2 ^ 63 = omega arith in
+    let k : nat_abs c.args.self.lower < 2 ^ 63 = omega arith in
+    simp (negated_is {z = c.args.self.upper} (small_fits h) h, negated_is {z = c.args.self.lower} (small_fits k) k)

@@ -3,7 +3,7 @@ use Prim.Native.Nat.{◌≤◌, ◌<◌, ◌^◌}
 use native.Mathlib.Nat.{lt_of_le_of_lt, le_refl}
 use borrow.Author.Rules.{rules}
 use lib.IntN.{ℤ, nat_abs, ◌*ℤ◌}
-use Rattle.whole.proofs.Bits.{back, result_fits, result_is}
+use Rattle.whole.proofs.{Bits.{back, result_fits, result_is}, Choice.{min_is, max_is}}
 use Rattle.interval.specs.Operations.{size, times_of}
 use Rattle.interval.proofs.{Sizes.{size_lower, size_upper, size_factors}, Held.{Held}}
 use Rattle.interval.proofs.Interval.times.Goals as goal
@@ -34,6 +34,8 @@ returns c =
     cc (
       result_is ◌*ℤ◌ c.ranges.z (held (goal.at.returns c).Start).0 (lower_small (goal.at.returns c).Start),
       result_is ◌*ℤ◌ c.ranges.z (held (goal.at.returns c).Start).1 (upper_small (goal.at.returns c).Start),
-      back c.least.result c.least.type_inv,
-      back c.most.result c.most.type_inv,
+      back c.min.result c.min.type_inv,
+      back c.max.result c.max.type_inv,
+      min_is _ _,
+      max_is _ _,
     )

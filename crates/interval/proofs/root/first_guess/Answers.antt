@@ -1,17 +1,8 @@
 -- `first_guess` shifts by half the length of x in bits, rounded up.
 use native.Mathlib.Omega.{arith}
-use lib.Count.{leading_le, leading_length}
+use lib.Count.{leading_length}
 use Rattle.interval.proofs.{FirstGuess.{step_fits, step_not_below}}
 use Rattle.interval.proofs.root.first_guess.Goals as goal
-
-pub overflow_sub-k : goal.overflow_sub-k
-overflow_sub-k c = omega (arith, leading_le 64 c.args.x)
-
-pub overflow_shl-result : goal.overflow_shl-result
-overflow_shl-result c = omega arith
-
-pub overflow_shr-result : goal.overflow_shr-result
-overflow_shr-result c = omega arith
 
 pub overflow_add-result : goal.overflow_add-result
 overflow_add-result c =

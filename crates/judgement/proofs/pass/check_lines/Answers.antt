@@ -4,6 +4,7 @@ use mathlib.Core.Path.{refl, ◌∙◌}
 use native.Mathlib.Omega.{arith}
 use borrow.Author.Rules.{rules}
 use lib.ListN.{length}
+use Rattle.refusal.proofs.Passed.{passed_on}
 use Rattle.text.proofs.{FieldTurns.{part_length}, LineTurns.{line_shorter}}
 use Rattle.case.{proofs.Findings.{rods_place_lem}}
 use Rattle.line_finding.{proofs.Keys.{form_keyed, at_most_more}}
@@ -12,7 +13,7 @@ use Rattle.judgement.proofs.LineJudged.{sound_line}
 use Rattle.judgement.proofs.Passing.{passing_start, passing_room, passing_store, stored_value, stored_first}
 use Rattle.judgement.proofs.{Passing.{passing_refused, passing_step, passing_end}}
 use Rattle.judgement.proofs.pass.check_lines.Goals as goal
-use Rattle.judgement.proofs.pass.check_lines.Goals.{In-loop-rest, In_default}
+use Rattle.judgement.proofs.pass.check_lines.Goals.{In-loop-rest, In_ok-refusal}
 
 pub loop-rest-init : goal.loop-rest-init
 loop-rest-init c = (passing_start _ _ _ _ _ (search rules), record { above = λ j l. absurd (omega arith) })
@@ -32,18 +33,18 @@ store_line-f-requires c =
 pub overflow_add-n : goal.overflow_add-n
 overflow_add-n c = omega (arith, room (goal.at.overflow_add-n c).In-loop-rest)
 
-pub shape_of-values-in-Refused : goal.shape_of-values-in-Refused
-shape_of-values-in-Refused c =
-    c.store_line-f.ensures.written.size ∙ c.loop-rest.invariant.0.size
+pub shape_of-values-in_err-refusal : goal.shape_of-values-in_err-refusal
+shape_of-values-in_err-refusal c = c.store_line-f.ensures.written.size ∙ c.loop-rest.invariant.0.size
 
-pub returns-in-Refused : goal.returns-in-Refused
-returns-in-Refused c =
-    passing_refused _ (form_keyed c.args.form) c.loop-rest.invariant.0 c.loop-rest-test.true
+pub returns-in_err-refusal : goal.returns-in_err-refusal
+returns-in_err-refusal c =
+    rw (passed_on _ c.from_residual.ensures.1)
+    (passing_refused _ (form_keyed c.args.form) c.loop-rest.invariant.0 c.loop-rest-test.true
     c.find-e.ensures c.store_line-f.ensures
-    c.refusal-j.ensures c.in-Refused.is
+    c.refusal.ensures c.in_err-refusal.was)
 
 -- its values are within the store
-within : (c : In_default)
+within : (c : In_ok-refusal)
     → length c.args.at.now * c.loop-rest.n + length c.args.at.now
     ≤ length c.store_line-f.new.values
 within c =
@@ -54,34 +55,34 @@ within c =
           c.requires.placed.count c.requires.count_value c.requires.count_in_bounds c.loop-rest-test.true,
     )
 
-some : (c : In_default) → 1 < length c.args.at.now
+some : (c : In_ok-refusal) → 1 < length c.args.at.now
 some c = omega (arith, c.requires.placed.count, (rods_place_lem c.args.form).thick)
 
 pub overflow_mul-a : goal.overflow_mul-a
-overflow_mul-a c = omega (arith, within (goal.at.overflow_mul-a c).In_default)
+overflow_mul-a c = omega (arith, within (goal.at.overflow_mul-a c).In_ok-refusal)
 
 pub offset_bounds-values-a : goal.offset_bounds-values-a
-offset_bounds-values-a c = omega (arith, within (goal.at.offset_bounds-values-a c).In_default)
+offset_bounds-values-a c = omega (arith, within (goal.at.offset_bounds-values-a c).In_ok-refusal)
 
 pub bounds-values-a : goal.bounds-values-a
-bounds-values-a c = omega (arith, within (goal.at.bounds-values-a c).In_default, some (goal.at.bounds-values-a c).In_default)
+bounds-values-a c = omega (arith, within (goal.at.bounds-values-a c).In_ok-refusal, some (goal.at.bounds-values-a c).In_ok-refusal)
 
 pub overflow_add-a : goal.overflow_add-a
-overflow_add-a c = omega (arith, within (goal.at.overflow_add-a c).In_default, some (goal.at.overflow_add-a c).In_default)
+overflow_add-a c = omega (arith, within (goal.at.overflow_add-a c).In_ok-refusal, some (goal.at.overflow_add-a c).In_ok-refusal)
 
 pub offset_bounds-values-a-in-loop-rest : goal.offset_bounds-values-a-in-loop-rest
-offset_bounds-values-a-in-loop-rest c = omega (arith, within (goal.at.offset_bounds-values-a-in-loop-rest c).In_default, some (goal.at.offset_bounds-values-a-in-loop-rest c).In_default)
+offset_bounds-values-a-in-loop-rest c = omega (arith, within (goal.at.offset_bounds-values-a-in-loop-rest c).In_ok-refusal, some (goal.at.offset_bounds-values-a-in-loop-rest c).In_ok-refusal)
 
 pub bounds-values-a-in-loop-rest : goal.bounds-values-a-in-loop-rest
-bounds-values-a-in-loop-rest c = omega (arith, within (goal.at.bounds-values-a-in-loop-rest c).In_default, some (goal.at.bounds-values-a-in-loop-rest c).In_default)
+bounds-values-a-in-loop-rest c = omega (arith, within (goal.at.bounds-values-a-in-loop-rest c).In_ok-refusal, some (goal.at.bounds-values-a-in-loop-rest c).In_ok-refusal)
 
 -- a sound line's station and season, in the store
 pub key-k-requires : goal.key-k-requires
 key-k-requires c =
     let j = c.store_line-f.ensures in
     let p = c.requires.placed.count in
-    rw (stored_first j p (omega (arith, some (goal.at.key-k-requires c).In_default)), stored_value 1 j p (some (goal.at.key-k-requires c).In_default))
-    (j.checks.keyable (sound_line _ _ _ c.refusal-j.ensures c.in_default.is).0)
+    rw (stored_first j p (omega (arith, some (goal.at.key-k-requires c).In_ok-refusal)), stored_value 1 j p (some (goal.at.key-k-requires c).In_ok-refusal))
+    (j.checks.keyable (sound_line _ _ _ c.refusal.ensures c.in_ok-refusal.was).0)
 
 pub offset_bounds-keys-n : goal.offset_bounds-keys-n
 offset_bounds-keys-n c = omega (arith, room (goal.at.offset_bounds-keys-n c).In-loop-rest)
@@ -102,10 +103,10 @@ loop-rest-preserved c =
     let p = c.requires.placed.count in (
       rw c.key-k.ensures
           (passing_step _ (form_keyed c.args.form) c.loop-rest.invariant.0 c.loop-rest-test.true c.find-e.ensures j
-          c.refusal-j.ensures _ c.in_default.is
-          (stored_first j p (omega (arith, some (goal.at.loop-rest-preserved c).In_default))) (stored_value 1 j p (some (goal.at.loop-rest-preserved c).In_default)) c.skip-next.ensures),
-      at_most_more (omega (arith, room (goal.at.loop-rest-preserved c).In-loop-rest, c.loop-rest.invariant.0.keys_count)) c.loop-rest.invariant.1 c.greater-most.ensures.0
-          c.greater-most.ensures.1,
+          c.refusal.ensures _ c.in_ok-refusal.was
+          (stored_first j p (omega (arith, some (goal.at.loop-rest-preserved c).In_ok-refusal))) (stored_value 1 j p (some (goal.at.loop-rest-preserved c).In_ok-refusal)) c.skip-next.ensures),
+      at_most_more (omega (arith, room (goal.at.loop-rest-preserved c).In-loop-rest, c.loop-rest.invariant.0.keys_count)) c.loop-rest.invariant.1 (omega (arith, c.max-most.ensures))
+          (omega (arith, c.max-most.ensures)),
     )
 
 pub shape_of-values : goal.shape_of-values

@@ -11,17 +11,8 @@ sum_size c =
     let s = c.requires in
     rw c.series.ensures (omega (arith, near_size {up = 0} (omega arith) s.0 s.1))
 
-pub overflow_mul-result : goal.overflow_mul-result
-overflow_mul-result c = omega (arith, c.requires.0)
-
-pub series-requires : goal.series-requires
-series-requires c = c.requires.1
-
 pub overflow_mul-result-2 : goal.overflow_mul-result-2
 overflow_mul-result-2 c = omega (arith, sum_size (goal.at.overflow_mul-result-2 c).After-series)
-
-pub overflow_add-result : goal.overflow_add-result
-overflow_add-result c = omega (arith, sum_size (goal.at.overflow_add-result c).After-series, c.requires.0)
 
 pub returns : goal.returns
 unfolding end_of doublings near_of

@@ -22,22 +22,22 @@ read_header-requires c = record { at_value = rw name_count_lem; order_len = sym 
 text : (h : After-read_header) → bad_text today h.args.s.now ≡ false
 text h = sym h.bad_text.ensures ∙ h.if-bad_text.false
 
-pub returns-in-Wrong : goal.returns-in-Wrong
+pub returns-in-Err : goal.returns-in-Err
 unfolding form_of
-returns-in-Wrong c =
-    wrong_names c.args.s.now (text (goal.at.returns-in-Wrong c).After-read_header) c.find-e.ensures c.read_header.ensures c.requires c.in-Wrong.is
+returns-in-Err c =
+    wrong_names c.args.s.now (text (goal.at.returns-in-Err c).After-read_header) c.find-e.ensures c.read_header.ensures c.requires c.in-Err.is
 
-pub slice_bounds-read_value_line-end-in-Right : goal.slice_bounds-read_value_line-end-in-Right
+pub slice_bounds-read_value_line-end-in-Ok : goal.slice_bounds-read_value_line-end-in-Ok
 unfolding form_of
-slice_bounds-read_value_line-end-in-Right c = sym (c.read_header.ensures.order_all ∙ name_count_lem)
+slice_bounds-read_value_line-end-in-Ok c = sym (c.read_header.ensures.order_all ∙ name_count_lem)
 
 pub read_value_line-requires : goal.read_value_line-requires
 unfolding form_of
 read_value_line-requires c =
-    record { distinct = rw (← name_count_lem) (distinct (c.read_header.ensures.ordered c.in-Right.is)); values_len = c.requires }
+    record { distinct = rw (← name_count_lem) (distinct (c.read_header.ensures.ordered c.in-Ok.is)); values_len = c.requires }
 
-pub returns-in-Right : goal.returns-in-Right
+pub returns-in-Ok : goal.returns-in-Ok
 unfolding form_of
-returns-in-Right c =
-    right_names c.args.s.now (text (goal.at.returns-in-Right c).After-read_header) c.find-e.ensures c.read_header.ensures
-    c.in-Right.is c.skip-next.ensures c.read_value_line.ensures
+returns-in-Ok c =
+    right_names c.args.s.now (text (goal.at.returns-in-Ok c).After-read_header) c.find-e.ensures c.read_header.ensures
+    c.in-Ok.is c.skip-next.ensures c.read_value_line.ensures

@@ -30,12 +30,12 @@ module _ (v : After-read_values) where
   values_count : length v.read_values.new.row ≡ name_count
   values_count = line_values_lem.count
 
-pub returns-in-Wrong : goal.returns-in-Wrong
-returns-in-Wrong c =
-    wrong_line c.args.s.now c.args.order.now (values_count (goal.at.returns-in-Wrong c).After-read_values) c.if-s-eq0.false c.find-e.ensures
-    c.skip.ensures c.if-skip-s.false (line_values_lem (goal.at.returns-in-Wrong c).After-read_values) c.in-Wrong.is
+pub returns-in-Err : goal.returns-in-Err
+returns-in-Err c =
+    wrong_line c.args.s.now c.args.order.now (values_count (goal.at.returns-in-Err c).After-read_values) c.if-s-eq0.false c.find-e.ensures
+    c.skip.ensures c.if-skip-s.false (line_values_lem (goal.at.returns-in-Err c).After-read_values) c.in-Err.is
 
-pub returns-in-Right : goal.returns-in-Right
-returns-in-Right c =
-    right_line c.args.s.now c.args.order.now (values_count (goal.at.returns-in-Right c).After-read_values) c.if-s-eq0.false c.find-e.ensures
-    c.skip.ensures c.if-skip-s.false (line_values_lem (goal.at.returns-in-Right c).After-read_values) c.in-Right.is
+pub returns-in-Ok : goal.returns-in-Ok
+returns-in-Ok c =
+    right_line c.args.s.now c.args.order.now (values_count (goal.at.returns-in-Ok c).After-read_values) c.if-s-eq0.false c.find-e.ensures
+    c.skip.ensures c.if-skip-s.false (line_values_lem (goal.at.returns-in-Ok c).After-read_values) c.in-Ok.is

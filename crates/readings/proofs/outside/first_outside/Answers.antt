@@ -1,31 +1,20 @@
--- `first_outside` goes through the pairs: the search of proofs/Searching.antt.
-use mathlib.Core.Path.{◌≡◌, sym, ap, ◌∙◌}
-use native.Mathlib.Omega.{arith}
-use Rattle.readings.specs.{Limits.{in_range}, Refusal.{number_in}}
-use Rattle.readings.proofs.Pairs.{pair_at}
-use Rattle.readings.proofs.Searching.{number_is, searching_start, searching_found, searching_step, searching_end}
+-- `first_outside` takes the place of the first pair that fails the test.
+use Prim.Native.Nat.{ℕ, ◌+◌}
+use mathlib.Core.{Path.{◌≡◌, refl, ◌∙◌}, List.{map}}
+use Rattle.std.proofs.Common.{rules, tests, position}
+use Rattle.std.proofs.lemmas.Iterator.{YieldsList-from_slice, Search.{position_from_yields_List}}
+use Rattle.std.specs.{Option.{option_map}}
+use Rattle.readings.specs.Reading.{pairs_of}
+use Rattle.readings.proofs.{Pairs.{numbers, chunks_are}, Searching.{outside, found_at}}
 use Rattle.readings.proofs.outside.first_outside.Goals as goal
-use Rattle.readings.proofs.outside.first_outside.Goals.{After-in_range, At-loop-k, Start}
-
-pub loop-k-init : goal.loop-k-init
-loop-k-init c = searching_start _ _ _
-
--- the number tested is that of the pair
-module _ (c : After-in_range) where
-  tested : c.in_range.result
-      ≡ in_range c.args.range (number_in c.args.column (pair_at c.args.readings.now c.loop-k.k))
-  tested =
-      c.in_range.ensures
-      ∙ ap (in_range c.args.range)
-      (number_is c.args.readings.now c.loop-k.k c.args.column c.requires.0 c.requires.1)
-
-pub returns-then-not-in_range : goal.returns-then-not-in_range
-returns-then-not-in_range c =
-    searching_found c.loop-k.invariant (omega arith) (sym (tested (goal.at.returns-then-not-in_range c).After-in_range) ∙ c.if-not-in_range.true)
-
-pub loop-k-preserved : goal.loop-k-preserved
-loop-k-preserved c =
-    searching_step c.loop-k.invariant (omega arith) (sym (tested (goal.at.loop-k-preserved c).After-in_range) ∙ c.if-not-in_range.false)
 
 pub returns : goal.returns
-returns c = searching_end c.loop-k.invariant (omega arith)
+returns c =
+    let s = c.args.readings.now in
+    let ps = pairs_of s in
+    let test = outside c.args.range c.args.column in
+    let pairs = YieldsList-from_slice (map numbers ps) (c.iter.ensures.rest ∙ c.as_chunks.ensures.front ∙ chunks_are s _ refl) in
+    let e : c.position.result ≡ position test (map numbers ps)
+    = position_from_yields_List test _ _ _ c.position.ensures.ran pairs (λ x b q k. search (rules, tests)) in
+    let f : c.map.result ≡ option_map (λ (k : ℕ). k + 1) c.position.result = search (rules, tests) in
+    f ∙ rw e (found_at c.args.range c.args.column c.requires.0 c.requires.1 ps 1)

@@ -4,12 +4,12 @@ use mir.{Syntax.{w64}, Val.{SFits}, Facts.{to_z-of_z}}
 use Rattle.interval.proofs.Held.{Held}
 use Rattle.row.specs.Row.{numbers}
 use Rattle.row.proofs.put.row_numbers.Goals as goal
-use Rattle.row.proofs.put.row_numbers.Goals.{After-struct_told-1, After-verdict_number-told}
+use Rattle.row.proofs.put.row_numbers.Goals.{After-verdict_number}
 
-told_held : (c : After-verdict_number-told) → SFits w64 c.verdict_number-told.result
+told_held : (c : After-verdict_number) → SFits w64 c.verdict_number.result
 told_held c = search rules
 
-module _ (c : After-struct_told-1) where
+module _ (c : After-verdict_number) where
   numbers_held : let r = c.args.r in SFits w64 r.station × SFits w64 r.season × SFits w64 r.size
   numbers_held = search rules
 
@@ -23,11 +23,11 @@ module _ (c : After-struct_told-1) where
 pub returns : goal.returns
 unfolding numbers
 returns c =
-    let n = numbers_held (goal.at.returns c).After-struct_told-1 in
-    let f = first_held (goal.at.returns c).After-struct_told-1 in
-    let l = last_held (goal.at.returns c).After-struct_told-1 in
+    let n = numbers_held (goal.at.returns c).After-verdict_number in
+    let f = first_held (goal.at.returns c).After-verdict_number in
+    let l = last_held (goal.at.returns c).After-verdict_number in
     simp (
-      to_z-of_z (told_held (goal.at.returns c).After-verdict_number-told),
+      to_z-of_z (told_held (goal.at.returns c).After-verdict_number),
       to_z-of_z n.0,
       to_z-of_z n.1,
       to_z-of_z n.2,
@@ -47,4 +47,4 @@ returns c =
       to_z-of_z l.2.1,
       to_z-of_z l.3.0,
       to_z-of_z l.3.1,
-    ) (rw c.verdict_number-told.ensures)
+    ) (rw c.verdict_number.ensures)

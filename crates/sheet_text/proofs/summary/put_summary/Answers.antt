@@ -14,24 +14,24 @@ pub put_table-requires : goal.put_table-requires
 put_table-requires c =
     record {
       le_width = (omega arith, omega arith);
-      width_in_bounds = stations_within c.args.s.now c.summary-a.ensures
+      width_in_bounds = stations_within c.args.s.now c.summary.ensures
           (search rules)
-          (search rules) c.in-Summary.is;
-      table_in_bounds = stations_room c.args.s.now c.summary-a.ensures
+          (search rules) c.in-Ok.is;
+      table_in_bounds = stations_room c.args.s.now c.summary.ensures
           (search rules)
-          (search rules) c.in-Summary.is c.requires;
+          (search rules) c.in-Ok.is c.requires;
     }
 
-pub returns-in-Summary : goal.returns-in-Summary
-returns-in-Summary c =
-    rw (stations_are c.args.s.now c.summary-a.ensures
+pub returns-in-Ok : goal.returns-in-Ok
+returns-in-Ok c =
+    rw (stations_are c.args.s.now c.summary.ensures
     (search rules)
-    (search rules) c.in-Summary.is)
+    (search rules) c.in-Ok.is)
     c.put_table.ensures
 
-pub returns-in-Refused : goal.returns-in-Refused
-returns-in-Refused c =
-    rw (summary_refused_lem c.args.s.now c.summary-a.ensures
+pub returns-in-Err : goal.returns-in-Err
+returns-in-Err c =
+    rw (summary_refused_lem c.args.s.now c.summary.ensures
     (search rules)
-    (search rules) c.in-Refused.is)
+    (search rules) c.in-Err.is)
     c.put_refusal.ensures

@@ -1,16 +1,13 @@
 -- `bad_count` tests the count in the order of the definition.
-use borrow.Author.Tests.{eq-eqb, ne_eqb, lt-ltb, le-ltb}
+use Rattle.std.proofs.Common.{arith}
+use Rattle.std.proofs.lemmas.{Grind.{common_steps}, Bool.Decides.{nat_tests}}
 use Rattle.staged.specs.Check.{fewest_numbers, most_numbers, bad_count}
 use Rattle.staged.proofs.check.bad_count.Goals as goal
 
 pub returns-then-n-ne0 : goal.returns-then-n-ne0
 unfolding bad_count fewest_numbers most_numbers
-returns-then-n-ne0 c = rw (ne_eqb _ _ c.if-n-ne0.true)
+returns-then-n-ne0 c = grind (arith, common_steps, nat_tests)
 
-pub returns-then-n-lt-FEWEST : goal.returns-then-n-lt-FEWEST
+pub returns-else-n-ne0 : goal.returns-else-n-ne0
 unfolding bad_count fewest_numbers most_numbers
-returns-then-n-lt-FEWEST c = rw (eq-eqb _ _ c.if-n-ne0.false, lt-ltb _ _ c.if-n-lt-FEWEST.true)
-
-pub returns : goal.returns
-unfolding bad_count fewest_numbers most_numbers
-returns c = rw (eq-eqb _ _ c.if-n-ne0.false, le-ltb _ _ c.if-n-lt-FEWEST.false)
+returns-else-n-ne0 c = grind (arith, common_steps, nat_tests)

@@ -1,11 +1,7 @@
 -- `grid_part` takes one branch after the other from the injected current.
-use Prim.Native.Nat.{◌-◌}
-use lib.{ListN.{length}}
+use Prim.Native.Nat.{◌+◌, ◌*◌}
 use Rattle.staged.proofs.{GridCurrent.{Left}}
 use Rattle.staged.proofs.grid.grid_part.Given as goal
 
-abbrev pub invariant-loop-i : goal.invariant-loop-i
-invariant-loop-i l = Left l.parts l.left l.i
-
-abbrev pub decreases-loop-i : goal.decreases-loop-i
-decreases-loop-i l = length l.parts - l.i
+abbrev pub invariant-loop-part : goal.invariant-loop-part
+invariant-loop-part l = Left l.parts l.left (2 * (l.part-index + 1))

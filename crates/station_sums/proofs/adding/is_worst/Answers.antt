@@ -13,8 +13,8 @@ pub returns-then-s-eq0 : goal.returns-then-s-eq0
 unfolding worst
 returns-then-s-eq0 c = rw (eq-eqb _ _ c.if-s-eq0.true)
 
-pub returns : goal.returns
+pub returns-else-s-eq0 : goal.returns-else-s-eq0
 unfolding worst
-returns c =
-    let h = held (goal.at.returns c).Start in
+returns-else-s-eq0 c =
+    let h = held (goal.at.returns-else-s-eq0 c).Start in
     rw (to_z-of_z h.0, to_z-of_z h.1, ne_eqb _ _ c.if-s-eq0.false)

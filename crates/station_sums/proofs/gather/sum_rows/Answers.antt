@@ -5,7 +5,7 @@ use native.Mathlib.Omega.{arith}
 use lib.ListN.{get_or, get_or-replicate}
 use Rattle.judgement.specs.Limits.{most_lines}
 use Rattle.station_sums.specs.Sums.{none, add_to}
-use Rattle.station_sums.proofs.RowSums.{small_at, summing_start, summing_next, summing_end}
+use Rattle.station_sums.proofs.RowSums.{small_at, summing_start, summing_next}
 use borrow.Author.Rules.{rules}
 use Rattle.station_sums.proofs.gather.sum_rows.Goals as goal
 use Rattle.station_sums.proofs.gather.sum_rows.Goals.{In-loop-i}
@@ -18,28 +18,12 @@ pub loop-i-init : goal.loop-i-init
 unfolding none
 loop-i-init c = summing_start _ _ _ (search rules) (λ j h. get_or-replicate most_lines j none none h)
 
-pub offset_bounds-sums-place : goal.offset_bounds-sums-place
-offset_bounds-sums-place c = omega (arith, place_within (goal.at.offset_bounds-sums-place c).In-loop-i)
-
-pub bounds-sums-place : goal.bounds-sums-place
-bounds-sums-place c = place_within (goal.at.bounds-sums-place c).In-loop-i
-
 pub add-requires : goal.add-requires
 unfolding none
 add-requires c =
     rw (c.loop-i.invariant.at _ (place_within (goal.at.add-requires c).In-loop-i)) (small_at _ _ _ _ (omega (arith, c.requires.n_le_most_lines)))
 
-pub offset_bounds-sums-place-in-loop-i : goal.offset_bounds-sums-place-in-loop-i
-offset_bounds-sums-place-in-loop-i c = omega (arith, place_within (goal.at.offset_bounds-sums-place-in-loop-i c).In-loop-i)
-
-pub bounds-sums-place-in-loop-i : goal.bounds-sums-place-in-loop-i
-bounds-sums-place-in-loop-i c = place_within (goal.at.bounds-sums-place-in-loop-i c).In-loop-i
-
 pub loop-i-preserved : goal.loop-i-preserved
 unfolding none
 loop-i-preserved c =
     summing_next c.loop-i.invariant c.loop-i-test.true (place_within (goal.at.loop-i-preserved c).In-loop-i) (c.add.ensures ∙ ap (add_to _) c.entry.ensures)
-
-pub returns : goal.returns
-unfolding none
-returns c = summing_end c.loop-i.invariant c.loop-i-test.false

@@ -1,10 +1,6 @@
 -- `put_stations` puts station after station: the pass of proofs/Tables.antt.
-use Prim.Native.Nat.{◌-◌}
 use Rattle.stations.proofs.{Tables.{Putting}}
 use Rattle.stations.proofs.put.put_stations.Given as goal
 
 abbrev pub invariant-loop-i : goal.invariant-loop-i
 invariant-loop-i l = Putting l.stations l.sums l.count l.initial.table l.i l.table
-
-abbrev pub decreases-loop-i : goal.decreases-loop-i
-decreases-loop-i l = l.count - l.i

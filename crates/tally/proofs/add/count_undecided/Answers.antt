@@ -1,16 +1,10 @@
 -- `count_undecided` goes by the verdict.
+use Rattle.std.proofs.Common.{arith}
+use Rattle.std.proofs.lemmas.Grind.{common_steps}
 use Rattle.whole.specs.Count.{one}
 use Rattle.decision.specs.Verdict.{verdict_number}
 use Rattle.tally.proofs.add.count_undecided.Goals as goal
 
-pub returns-in-Safe : goal.returns-in-Safe
+pub returns : goal.returns
 unfolding one verdict_number
-returns-in-Safe c = rw c.in-Safe.is
-
-pub returns-in-Unsafe : goal.returns-in-Unsafe
-unfolding one verdict_number
-returns-in-Unsafe c = rw c.in-Unsafe.is
-
-pub returns-in-Undecided : goal.returns-in-Undecided
-unfolding one verdict_number
-returns-in-Undecided c = rw c.in-Undecided.is
+returns c = grind (arith, common_steps)

@@ -8,6 +8,6 @@ pub returns-then-without-t-eq0 : goal.returns-then-without-t-eq0
 unfolding released
 returns-then-without-t-eq0 c = ap (λ b. cond b 1 2) (sym (eq-eqb _ _ c.if-without-t-eq0.true))
 
-pub returns : goal.returns
+pub returns-else-without-t-eq0 : goal.returns-else-without-t-eq0
 unfolding released
-returns c = ap (λ b. cond b 1 2) (sym (ne_eqb _ _ c.if-without-t-eq0.false))
+returns-else-without-t-eq0 c = ap (λ b. cond b 1 2) (sym (ne_eqb _ _ c.if-without-t-eq0.false))

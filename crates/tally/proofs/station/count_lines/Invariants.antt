@@ -4,6 +4,3 @@ use Rattle.tally.proofs.station.count_lines.Given as goal
 
 abbrev pub invariant-loop-i : goal.invariant-loop-i
 invariant-loop-i l = Counting l.values l.n l.station l.yard l.area l.i l.t
-
-abbrev pub decreases-loop-i : goal.decreases-loop-i
-decreases-loop-i l = l.i

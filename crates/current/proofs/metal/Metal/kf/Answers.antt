@@ -3,8 +3,9 @@ use Prim.Native.Nat.{ℕ, zero, suc, ◌≤◌}
 use mathlib.Core.Path.{◌≡◌, refl}
 use native.Mathlib.Omega.{arith}
 use borrow.Author.Tests.{le-leb, lt-leb}
+use Rattle.std.specs.Prelude.{None}
 use Rattle.formulas.specs.Size.{constants, Kf}
-use Rattle.current.specs.{Metal.{constant_of}, declared.metal.Constant.TheVariants.{Unknown}}
+use Rattle.current.specs.Metal.{constant_of}
 use Rattle.current.proofs.metal.Metal.kf.Goals as goal
 
 -- n is none of the numbers from 1 to k
@@ -17,7 +18,7 @@ past n zero r l = l
 past n (suc k) r l = let h = past n k r.0 l in let d = r.1 in omega arith
 
 -- past the table
-none : (n : ℕ) → (1 ≤ n → 12 ≤ n) → Unknown ≡ constant_of n
+none : (n : ℕ) → (1 ≤ n → 12 ≤ n) → None ≡ constant_of n
 unfolding constant_of
 none zero h = refl
 none (suc n) h = let l : 12 ≤ suc n = h (omega arith) in simp (le-leb 1 (suc n) (omega arith), lt-leb (suc n) 11 (omega arith))
