@@ -16,7 +16,7 @@ use Rattle.sheet.specs.declared.Answer.TheVariants as sheet
 use Rattle.sheet.specs.Answer.{answer}
 use Rattle.station_sums.specs.Summary.{stations, station_length}
 use Rattle.stations.specs.{Answer.{sheet_rows, summary_refused, answer_after, summary_answer, SummaryAnswered}}
-use Rattle.release.specs.declared.licence.Wrong.{Wrong, TheVariants.{At, Nothing}}
+use Rattle.std.specs.Prelude.{Option, Some, None}
 use Rattle.release.specs.{Licence.{entries_of, bad_count, first_wrong}, Entry.{entry_length}}
 use Rattle.release.specs.Answer.{room_answer, after_entries, licence_answer, release_answer, ReleaseAnswered}
 use Rattle.c_tell.specs.Room.{Few}
@@ -61,10 +61,10 @@ room_entries room count k e = go (ltb room (entry_length * count)) refl e
     go true q h = clash cc
     go false q h = let z : k ≡ count = cc in omega (arith, z, ltb-false room (entry_length * count) q)
 
-after_entries_lem : (room count k : ℕ) (w : Wrong) → Ok k ≡ after_entries (room_answer room count) w → entry_length * k ≤ room
+after_entries_lem : (room count k : ℕ) (w : Option (ℕ × ℕ)) → Ok k ≡ after_entries (room_answer room count) w → entry_length * k ≤ room
 unfolding after_entries
-after_entries_lem room count k (At place column) e = clash cc
-after_entries_lem room count k Nothing e = room_entries room count k e
+after_entries_lem room count k (Some (place, column)) e = clash cc
+after_entries_lem room count k None e = room_entries room count k e
 
 licence_entries : (licence : List ℕ) (room k : ℕ) → Ok k ≡ licence_answer licence room → entry_length * k ≤ room
 unfolding licence_answer

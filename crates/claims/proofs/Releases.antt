@@ -12,7 +12,7 @@ use Rattle.judgement.specs.Sheet.{judgement}
 use Rattle.sheet.specs.Answer.{cases}
 use Rattle.headroom.proofs.Bracket.{fault_bounds}
 use Rattle.hocsimbur.proofs.Answers.{row_told, row_sound, bounds_answered}
-use Rattle.release.specs.declared.licence.Wrong.{Wrong, TheVariants.{At, Nothing}}
+use Rattle.std.specs.Prelude.{Option, Some, None}
 use Rattle.release.specs.Licence.{entries_of, bad_count, among, wrong_station, wrong_seasons, wrong_area, first_wrong}
 use Rattle.release.specs.Earlier.{earlier, wrong_at}
 use Rattle.release.specs.Entry.{entry_length, release_of}
@@ -99,8 +99,8 @@ module _ (licence : List ℕ) where
     abbrev own : ℕ
     own = licensed_station licence k
 
-    abbrev column : Bool → Bool → Bool → ℕ
-    column w v u = cond w 1 (cond v 2 (cond u 3 0))
+    abbrev column : Bool → Bool → Bool → Option ℕ
+    column w v u = cond w (Some 1) (cond v (Some 2) (cond u (Some 3) None))
 
     station_sound : wrong_station (earlier licence k) own ≡ false → StationSound licence k
     unfolding wrong_station
@@ -136,8 +136,8 @@ module _ (licence : List ℕ) where
     unfolding wrong_area
     area_wrong e s = omega (arith, ltb-true 2000 (licensed_area licence k) e)
 
-    judged_entry : ((wrong_at licence k ≡ 0) × EntrySound licence k)
-        ⊎ ((wrong_at licence k ≡ 0 → ⊥) × EntryWrong licence k (wrong_at licence k))
+    judged_entry : ((wrong_at licence k ≡ None) × EntrySound licence k)
+        ⊎ ((n : ℕ) × (wrong_at licence k ≡ Some n) × EntryWrong licence k n)
     unfolding wrong_at
     judged_entry =
         go (wrong_station (earlier licence k) own) (wrong_seasons (licensed_seasons licence k)) (wrong_area (licensed_area licence k)) refl refl
@@ -145,17 +145,17 @@ module _ (licence : List ℕ) where
       where
         go : (w v u : Bool) → wrong_station (earlier licence k) own ≡ w → wrong_seasons (licensed_seasons licence k) ≡ v
             → wrong_area (licensed_area licence k) ≡ u
-            → ((column w v u ≡ 0) × EntrySound licence k) ⊎ ((column w v u ≡ 0 → ⊥) × EntryWrong licence k (column w v u))
-        go true v u p q r = inr (λ z. omega arith, claim.at_station (station_wrong p))
-        go false true u p q r = inr (λ z. omega arith, claim.at_seasons (station_sound p) (seasons_wrong q))
-        go false false true p q r = inr (λ z. omega arith, claim.at_area (station_sound p) (seasons_sound q) (area_wrong r))
+            → ((column w v u ≡ None) × EntrySound licence k) ⊎ ((n : ℕ) × (column w v u ≡ Some n) × EntryWrong licence k n)
+        go true v u p q r = inr (1, refl, claim.at_station (station_wrong p))
+        go false true u p q r = inr (2, refl, claim.at_seasons (station_sound p) (seasons_wrong q))
+        go false false true p q r = inr (3, refl, claim.at_area (station_sound p) (seasons_sound q) (area_wrong r))
         go false false false p q r = inl (refl, (station_sound p, seasons_sound q, area_sound r))
 
   -- ---- the first pair that is wrong
 
-  data Searched (m : ℕ) : Wrong → Type 0 where
-    found : {k column : ℕ} → k < m → EntryWrong licence k column → ((i : ℕ) → i < k → EntrySound licence i) → Searched m (At (k + 1) column)
-    none : ((i : ℕ) → i < m → EntrySound licence i) → Searched m Nothing
+  data Searched (m : ℕ) : Option (ℕ × ℕ) → Type 0 where
+    found : {k column : ℕ} → k < m → EntryWrong licence k column → ((i : ℕ) → i < k → EntrySound licence i) → Searched m (Some (k + 1, column))
+    none : ((i : ℕ) → i < m → EntrySound licence i) → Searched m None
 
   search_on : (fuel k : ℕ) → k + fuel ≡ length licence / 3 → Searching licence k → ((i : ℕ) → i < k → EntrySound licence i)
       → Searched (length licence / 3) (first_wrong [] 1 (entries_of licence))
@@ -168,11 +168,11 @@ module _ (licence : List ℕ) where
       below p i l true h = b i (ltb-true i k h)
       below p i l false h = let s : i ≡ k = omega (arith, ltb-false i k h) in rw s p
 
-      go : ((wrong_at licence k ≡ 0) × EntrySound licence k) ⊎ ((wrong_at licence k ≡ 0 → ⊥) × EntryWrong licence k (wrong_at licence k))
-          → (wrong_at licence k ≡ 0 → EntrySound licence k → Searched (length licence / 3) (first_wrong [] 1 (entries_of licence)))
+      go : ((wrong_at licence k ≡ None) × EntrySound licence k) ⊎ ((n : ℕ) × (wrong_at licence k ≡ Some n) × EntryWrong licence k n)
+          → (wrong_at licence k ≡ None → EntrySound licence k → Searched (length licence / 3) (first_wrong [] 1 (entries_of licence)))
           → Searched (length licence / 3) (first_wrong [] 1 (entries_of licence))
       go (inl p) next = next p.0 p.1
-      go (inr p) next = rw (← searching_found a (omega arith) p.0) (found {k = k} (omega arith) p.1 b)
+      go (inr p) next = rw (← searching_found a (omega arith) p.1) (found {k = k} (omega arith) p.2 b)
 
   searched : Searched (length licence / 3) (first_wrong [] 1 (entries_of licence))
   searched = search_on (length licence / 3) 0 (omega arith) (searching_start licence) (λ i l. absurd (omega arith))
@@ -259,7 +259,7 @@ module _ {s licence : List ℕ} {before after : List ℤ} where
           rw e (claim.entries b p q (ltb-false _ _ l) (told b a) (rw c at f.rest) f.size)
 
   paired : {n : ℕ} {r : Result ℕ Refused} → BreaksNone s n → InEntries licence (length licence / 3) → ReleaseAnswered s licence before after r
-      → (w : Wrong) → Searched licence (length licence / 3) w → r ≡ after_entries (room_answer (length before) (length (entries_of licence))) w
+      → (w : Option (ℕ × ℕ)) → Searched licence (length licence / 3) w → r ≡ after_entries (room_answer (length before) (length (entries_of licence))) w
       → ReleaseOutcome s licence before after r
   unfolding after_entries
   paired b p h _ (found l w q) e = rw e (claim.entry b p l w q (kept e h))

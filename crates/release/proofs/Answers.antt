@@ -7,7 +7,7 @@ use Rattle.case.specs.{declared.Case.{Case}, Columns.{columns}}
 use Rattle.case.specs.Counted.{refused_or}
 use Rattle.judgement.specs.Sheet.{judgement}
 use Rattle.sheet.specs.Answer.{cases}
-use Rattle.release.specs.declared.licence.Wrong.TheVariants.{At, Nothing}
+use Rattle.std.specs.Prelude.{Some, None}
 use Rattle.release.specs.{Licence.{entries_of, bad_count, first_wrong}, Entry.{entry_length, release_of}}
 use Rattle.release.specs.Answer.{room_answer, after_entries, licence_answer, release_answer, Filled, TableAfter}
 use Rattle.release.specs.Answer.{LinesReleased}
@@ -24,12 +24,12 @@ module _ (cs : List Case) (licence : List ℕ) (t : List ℤ) where
   count_refused e = record { answer_is = rw e; table_is = refl }
 
   module _ (sound : bad_count (length licence) ≡ false) where
-    pub entry_refused : {place column : ℕ} → first_wrong [] 1 (entries_of licence) ≡ At place column
+    pub entry_refused : {place column : ℕ} → first_wrong [] 1 (entries_of licence) ≡ Some (place, column)
         → LinesReleased cs licence t t (refuse 22 place column)
     unfolding licence_answer after_entries TableAfter
     entry_refused e = record { answer_is = rw (sound, e); table_is = refl }
 
-    module _ (right : first_wrong [] 1 (entries_of licence) ≡ Nothing) where
+    module _ (right : first_wrong [] 1 (entries_of licence) ≡ None) where
       pub room_refused : length t < entry_length * (length licence / 3) → LinesReleased cs licence t t (refuse 23 0 0)
       unfolding licence_answer after_entries room_answer TableAfter
       room_refused h =

@@ -10,7 +10,7 @@ use Rattle.header.specs.Header.{columns_of}
 use Rattle.line.specs.Line.{line_case}
 use Rattle.judgement.{specs.Sheet.{names, value_lines, judgement}, proofs.Accepted.{accepted}}
 use Rattle.sheet.{specs.Answer.{cases}, proofs.{Accepted.{sound_bounds}, StoredCases.{case_at_lem}}}
-use Rattle.release.specs.declared.licence.Wrong.{Wrong, TheVariants.{At, Nothing}}
+use Rattle.std.specs.Prelude.{Option, Some, None}
 use Rattle.release.specs.{Licence.{entries_of, bad_count, first_wrong}, Entry.{entry_length}}
 use Rattle.release.specs.{Answer.{room_answer, after_entries, licence_answer, release_answer}, Meaning.{line_at}}
 use Rattle.tally.{specs.Tally.{EveryBounds}, proofs.Members.{every_bounds}}
@@ -35,11 +35,11 @@ licence_count : (licence : List ℕ) (room n : ℕ) → licence_answer licence r
 unfolding licence_answer after_entries
 licence_count licence room n e = go (bad_count (length licence)) (first_wrong [] 1 (entries_of licence)) e
   where
-    go : (t : Bool) (w : Wrong) → cond t (refuse 21 0 0) (after_entries (room_answer room (length (entries_of licence))) w) ≡ Ok n
+    go : (t : Bool) (w : Option (ℕ × ℕ)) → cond t (refuse 21 0 0) (after_entries (room_answer room (length (entries_of licence))) w) ≡ Ok n
         → length licence / 3 ≡ n
     go true w h = never h
-    go false (At place column) h = never h
-    go false Nothing h = sym (entry_count licence) ∙ room_count room n (length (entries_of licence)) h
+    go false (Some (place, column)) h = never h
+    go false None h = sym (entry_count licence) ∙ room_count room n (length (entries_of licence)) h
 
 pub record EntriesCounted (s licence : List ℕ) (n : ℕ) : Type 0 where
   pub lines : ℕ

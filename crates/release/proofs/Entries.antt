@@ -3,7 +3,8 @@ use Prim.Native.Nat.{ℕ, zero, suc, ◌+◌, ◌*◌, ◌/◌, ◌≤◌, ◌<�
 use mathlib.Core.{Path.{◌≡◌, refl, sym, ◌∙◌}, Bool.{Bool, true, false, cond, ◌||◌}, List.{List, [], ◌∷◌}}
 use native.Mathlib.{Numerals.{add-one}, Omega.{arith}}
 use lib.{Dec.{eqb}, ListN.{length, get_or, drop, drop_of_length-le}}
-use Rattle.release.specs.declared.licence.Wrong.{Wrong, TheVariants.{At, Nothing}}
+use Rattle.std.specs.Prelude.{Option, Some, None}
+use Rattle.std.proofs.Math.Bool.{or_comm}
 use Rattle.release.specs.Licence.{entries_of, among, wrong_station, wrong_seasons, wrong_area, first_wrong}
 use Rattle.release.specs.Earlier.{entry_at, earlier, wrong_at}
 
@@ -33,9 +34,9 @@ unfolding among earlier
 among_none s station = refl
 
 pub among_step : (s : List ℕ) (station i : ℕ) {found : Bool} → found ≡ among station (earlier s i)
-    → (eqb (get_or s (3 * i) 0) station || found) ≡ among station (earlier s (i + 1))
+    → (found || eqb (get_or s (3 * i) 0) station) ≡ among station (earlier s (i + 1))
 unfolding among earlier
-among_step s station i e = rw (add-one, e)
+among_step s station i {found} e = or_comm found (eqb (get_or s (3 * i) 0) station) ∙ rw (add-one, e)
 
 -- ---- the first entry that is wrong, while the first k are not
 
@@ -48,23 +49,23 @@ searching_start s = record { passed = refl }
 
 module _ {s : List ℕ} {k : ℕ} (a : Searching s k) where
   -- the next entry by its column at fault
-  abbrev column : Bool → Bool → Bool → ℕ
-  column w v u = cond w 1 (cond v 2 (cond u 3 0))
+  abbrev column : Bool → Bool → Bool → Option ℕ
+  column w v u = cond w (Some 1) (cond v (Some 2) (cond u (Some 3) None))
 
-  abbrev found : Bool → Bool → Bool → Wrong → Wrong
-  found w v u rest = cond w (At (k + 1) 1) (cond v (At (k + 1) 2) (cond u (At (k + 1) 3) rest))
+  abbrev found : Bool → Bool → Bool → Option (ℕ × ℕ) → Option (ℕ × ℕ)
+  found w v u rest = cond w (Some (k + 1, 1)) (cond v (Some (k + 1, 2)) (cond u (Some (k + 1, 3)) rest))
 
-  none_found : (w v u : Bool) (rest : Wrong) → column w v u ≡ 0 → found w v u rest ≡ rest
-  none_found true v u rest e = absurd (omega arith)
-  none_found false true u rest e = absurd (omega arith)
-  none_found false false true rest e = absurd (omega arith)
+  none_found : (w v u : Bool) (rest : Option (ℕ × ℕ)) → column w v u ≡ None → found w v u rest ≡ rest
+  none_found true v u rest e = absurd (cc)
+  none_found false true u rest e = absurd (cc)
+  none_found false false true rest e = absurd (cc)
   none_found false false false rest e = refl
 
-  one_found : (w v u : Bool) (rest : Wrong) → (column w v u ≡ 0 → ⊥) → found w v u rest ≡ At (k + 1) (column w v u)
-  one_found true v u rest n = refl
-  one_found false true u rest n = refl
-  one_found false false true rest n = refl
-  one_found false false false rest n = absurd (n refl)
+  one_found : (w v u : Bool) (rest : Option (ℕ × ℕ)) {n : ℕ} → column w v u ≡ Some n → found w v u rest ≡ Some (k + 1, n)
+  one_found true v u rest e = cc
+  one_found false true u rest e = cc
+  one_found false false true rest e = cc
+  one_found false false false rest e = absurd (cc)
 
   -- the tests of the next entry
   abbrev station_test : Bool
@@ -76,12 +77,12 @@ module _ {s : List ℕ} {k : ℕ} (a : Searching s k) where
   abbrev area_test : Bool
   area_test = wrong_area (get_or s (3 * k + 2) 0)
 
-  pub searching_found : k < length s / 3 → (wrong_at s k ≡ 0 → ⊥) → At (k + 1) (wrong_at s k) ≡ first_wrong [] 1 (entries_of s)
+  pub searching_found : {n : ℕ} → k < length s / 3 → wrong_at s k ≡ Some n → Some (k + 1, n) ≡ first_wrong [] 1 (entries_of s)
   unfolding first_wrong wrong_at
-  searching_found h n =
-      sym (a.passed ∙ rw (entries_at s k h) (one_found station_test seasons_test area_test _ n))
+  searching_found h e =
+      sym (a.passed ∙ rw (entries_at s k h) (one_found station_test seasons_test area_test _ e))
 
-  pub searching_step : k < length s / 3 → wrong_at s k ≡ 0 → Searching s (k + 1)
+  pub searching_step : k < length s / 3 → wrong_at s k ≡ None → Searching s (k + 1)
   unfolding first_wrong wrong_at earlier
   searching_step h e =
       record {
@@ -90,7 +91,7 @@ module _ {s : List ℕ} {k : ℕ} (a : Searching s k) where
             (none_found station_test seasons_test area_test _ e ∙ rw (add-one (k + 1), add-one k));
       }
 
-  pub searching_end : length s / 3 ≤ k → Nothing ≡ first_wrong [] 1 (entries_of s)
+  pub searching_end : length s / 3 ≤ k → None ≡ first_wrong [] 1 (entries_of s)
   unfolding first_wrong
   searching_end h =
       let l : length (entries_of s) ≤ k = omega (arith, entry_count s) in

@@ -2,7 +2,7 @@
 use Prim.Native.Nat.{ℕ, zero, suc, ◌+◌, ◌*◌, ◌-◌, ◌/◌, ◌≤◌, ◌<◌}
 use mathlib.Core.{Path.{◌≡◌, refl, ◌∙◌}, List.{List, [], ◌∷◌}}
 use native.Mathlib.Omega.{arith}
-use lib.{IntN.{ℤ}, ListN.{length, get_or, set, length-map}}
+use lib.{IntN.{ℤ}, ListN.{length, get_or, length-map}}
 use borrow.Rule.Slice.PartMut.{put_mid}
 use Rattle.tables.{specs.Parts.{Written}, proofs.Writing.{put_written}}
 use Rattle.case.specs.declared.Case.{Case}
@@ -11,19 +11,6 @@ use Rattle.tally.specs.Tally.{tally_of, lacks, missing_by}
 use Rattle.release.specs.{Licence.{entries_of}, Entry.{eight, numbers_of, entry_length, station_numbers, release_of}}
 use Rattle.release.proofs.Entries.{entry_count}
 
-pub eight_set : (l : List ℤ) (a b c d e f g h : ℤ) → length l ≡ entry_length
-    → set (set (set (set (set (set (set (set l 0 a) 1 b) 2 c) 3 d) 4 e) 5 f) 6 g) 7 h ≡ a ∷ b ∷ c ∷ d ∷ e ∷ f ∷ g ∷ h ∷ []
-eight_set [] a b c d e f g h m = absurd (omega arith)
-eight_set (s ∷ []) a b c d e f g h m = absurd (omega arith)
-eight_set (s ∷ t ∷ []) a b c d e f g h m = absurd (omega arith)
-eight_set (s ∷ t ∷ u ∷ []) a b c d e f g h m = absurd (omega arith)
-eight_set (s ∷ t ∷ u ∷ v ∷ []) a b c d e f g h m = absurd (omega arith)
-eight_set (s ∷ t ∷ u ∷ v ∷ w ∷ []) a b c d e f g h m = absurd (omega arith)
-eight_set (s ∷ t ∷ u ∷ v ∷ w ∷ x ∷ []) a b c d e f g h m = absurd (omega arith)
-eight_set (s ∷ t ∷ u ∷ v ∷ w ∷ x ∷ y ∷ []) a b c d e f g h m = absurd (omega arith)
-eight_set (s ∷ t ∷ u ∷ v ∷ w ∷ x ∷ y ∷ z ∷ []) a b c d e f g h m = refl
-eight_set (s ∷ t ∷ u ∷ v ∷ w ∷ x ∷ y ∷ z ∷ r ∷ l) a b c d e f g h m = absurd (omega arith)
-
 eight_long : (station noLine : ℕ) (t : Tally) → length (eight station noLine t) ≡ entry_length
 unfolding eight
 eight_long station noLine t = refl
@@ -31,8 +18,10 @@ eight_long station noLine t = refl
 -- eight numbers put in the place of entry i
 pub entry_written : (i : ℕ) (t part : List ℤ) (station noLine : ℕ) (y : Tally) → entry_length * i + entry_length ≤ length t
     → part ≡ eight station noLine y
-    → Written entry_length i (eight station noLine y) t (put_mid (entry_length * i) (entry_length * i + entry_length - entry_length * i) t part)
-entry_written i t part station noLine y h e = rw e (put_written entry_length i t (eight station noLine y) h (eight_long station noLine y))
+    → Written entry_length i (eight station noLine y) t (put_mid (entry_length * i) (entry_length * (i + 1) - entry_length * i) t part)
+entry_written i t part station noLine y h e =
+    let next : entry_length * (i + 1) ≡ entry_length * i + entry_length = omega arith in
+    rw (next, e) (put_written entry_length i t (eight station noLine y) h (eight_long station noLine y))
 
 -- ---- the eight numbers by what is counted
 

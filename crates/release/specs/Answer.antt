@@ -1,5 +1,5 @@
 -- §7.2: the answer to a sheet, a licence and a table, and what it leaves in the table: one claim over every three of them.
-use Rattle.std.specs.Prelude.{ℕ, ◌*◌}
+use Rattle.std.specs.Prelude.{ℕ, ◌*◌, Option, Some, None}
 use mathlib.Core.{Path.{◌≡◌}, Bool.{cond}, List.{List, []}}
 use lib.{Dec.{ltb}, IntN.{ℤ}, ListN.{length, get_or}}
 use Rattle.tables.specs.Parts as parts
@@ -7,7 +7,6 @@ use Rattle.case.specs.{declared.Case.{Case}, Columns.{columns}}
 use Rattle.case.specs.Counted.{refused_or}
 use Rattle.judgement.specs.Sheet.{judgement}
 use Rattle.sheet.specs.Answer.{cases}
-use Rattle.release.specs.declared.licence.Wrong.{Wrong, TheVariants.{At, Nothing}}
 use Rattle.release.specs.Licence.{entries_of, bad_count, first_wrong}
 use Rattle.release.specs.Entry.{entry_length, release_of}
 use Rattle.std.specs.Prelude.{Result, Ok, Err}
@@ -18,9 +17,9 @@ unfoldable pub room_answer : ℕ → ℕ → Result ℕ Refused
 room_answer room count = cond (ltb room (entry_length * count)) (refuse 23 0 0) (Ok count)
 
 -- 22 with the first wrong entry's place from 1 as line, else what comes next
-unfoldable pub after_entries : Result ℕ Refused → Wrong → Result ℕ Refused
-after_entries next (At place column) = refuse 22 place column
-after_entries next Nothing = next
+unfoldable pub after_entries : Result ℕ Refused → Option (ℕ × ℕ) → Result ℕ Refused
+after_entries next (Some (place, column)) = refuse 22 place column
+after_entries next None = next
 
 -- then over the whole licence 21, 0, 0 when the count of numbers is 0, no multiple of three or above 768; 22; last 23
 unfoldable pub licence_answer : List ℕ → ℕ → Result ℕ Refused

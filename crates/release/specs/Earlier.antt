@@ -2,7 +2,7 @@
 -- cross-section.
 use Rattle.std.specs.Prelude.{ℕ, zero, suc, ◌+◌, ◌*◌}
 use mathlib.Core.{Bool.{cond}, List.{List, [], ◌∷◌}}
-use Rattle.std.specs.Prelude.{get_or}
+use Rattle.std.specs.Prelude.{get_or, Option, Some, None}
 use Rattle.release.specs.Licence.{Entry, wrong_station, wrong_seasons, wrong_area}
 
 abbrev pub entry_at : List ℕ → ℕ → Entry
@@ -14,8 +14,8 @@ unfoldable pub earlier : List ℕ → ℕ → List ℕ
 earlier licence zero = []
 earlier licence (suc k) = get_or licence (3 * k) 0 ∷ earlier licence k
 
--- the column at fault of entry k, or 0
-unfoldable pub wrong_at : List ℕ → ℕ → ℕ
+-- the column at fault of entry k
+unfoldable pub wrong_at : List ℕ → ℕ → Option ℕ
 wrong_at licence k =
-    cond (wrong_station (earlier licence k) (get_or licence (3 * k) 0)) 1
-    (cond (wrong_seasons (get_or licence (3 * k + 1) 0)) 2 (cond (wrong_area (get_or licence (3 * k + 2) 0)) 3 0))
+    cond (wrong_station (earlier licence k) (get_or licence (3 * k) 0)) (Some 1)
+    (cond (wrong_seasons (get_or licence (3 * k + 1) 0)) (Some 2) (cond (wrong_area (get_or licence (3 * k + 2) 0)) (Some 3) None))

@@ -2,8 +2,7 @@
 -- "the conductor's own cross-section in whole kcmil, rounded down, 1..2000; 0 .. solid and round". Its refusals are 21 and 22.
 use Rattle.std.specs.Prelude.{ℕ, suc, ◌%◌}
 use mathlib.Core.{Bool.{Bool, false, cond, not, ◌&&◌, ◌||◌}, List.{List, [], ◌∷◌}}
-use Rattle.std.specs.Prelude.{leb, ltb, eqb}
-use Rattle.release.specs.declared.licence.Wrong.{Wrong, TheVariants.{At, Nothing}}
+use Rattle.std.specs.Prelude.{leb, ltb, eqb, Option, Some, None}
 
 pub record Entry : Type 0 where
   pub station : ℕ
@@ -39,9 +38,9 @@ wrong_area area = ltb 2000 area
 
 -- 22 with the first such entry's place from 1 as line: the station as column 1, the seasons as column 2, the cross-section as column 3,
 -- after the stations of earlier entries
-unfoldable pub first_wrong : List ℕ → ℕ → List Entry → Wrong
-first_wrong earlier place [] = Nothing
+unfoldable pub first_wrong : List ℕ → ℕ → List Entry → Option (ℕ × ℕ)
+first_wrong earlier place [] = None
 first_wrong earlier place (p ∷ ps) =
-    cond (wrong_station earlier p.station) (At place 1)
-    (cond (wrong_seasons p.seasons) (At place 2)
-    (cond (wrong_area p.area) (At place 3) (first_wrong (p.station ∷ earlier) (suc place) ps)))
+    cond (wrong_station earlier p.station) (Some (place, 1))
+    (cond (wrong_seasons p.seasons) (Some (place, 2))
+    (cond (wrong_area p.area) (Some (place, 3)) (first_wrong (p.station ∷ earlier) (suc place) ps)))

@@ -12,7 +12,7 @@ ghost use Rattle.release.specs.Answer.{LinesReleased, ReleaseAnswered};
 
 use case::{Form, REFUSED_LICENCE, REFUSED_RELEASE, REFUSED_STATION};
 use judgement::{VALUES, read};
-use licence::{Wrong, bad_count, first_wrong};
+use licence::{bad_count, first_wrong};
 use put::put_entries;
 use refusal::Refused;
 
@@ -36,8 +36,8 @@ fn release_lines<'a>(
         return Err(Refused(REFUSED_LICENCE, 0, 0));
     }
     match first_wrong(licence) {
-        Wrong::At(place, column) => Err(Refused(REFUSED_STATION, place, column)),
-        Wrong::Nothing => {
+        Some((place, column)) => Err(Refused(REFUSED_STATION, place, column)),
+        None => {
             let entries = licence.len() / 3;
             if table.len() < ENTRY_LENGTH * entries {
                 return Err(Refused(REFUSED_RELEASE, 0, 0));

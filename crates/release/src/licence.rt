@@ -3,13 +3,6 @@ ghost use Rattle.std.specs.Prelude.{◌≡◌, [], ◌≤◌, ◌<◌, ◌/◌, 
 ghost use Rattle.release.specs.Licence.{entries_of, bad_count, among, first_wrong};
 ghost use Rattle.release.specs.Earlier.{earlier, wrong_at};
 
-// The place of an entry, from 1, and the column at fault.
-#[derive(Clone, Copy)]
-pub enum Wrong {
-    At(usize, usize),
-    Nothing,
-}
-
 // The most numbers of a licence.
 const NUMBERS: usize = 768;
 
@@ -24,13 +17,7 @@ const MOST_AREA: u32 = 2000;
 pub fn bad_count(n: usize) -> bool
     ensures { result ≡ bad_count n }
 {
-    if n == 0 {
-        return true;
-    }
-    if n % 3 != 0 {
-        return true;
-    }
-    NUMBERS < n
+    n == 0 || n % 3 != 0 || NUMBERS < n
 }
 
 // Whether a station stands in one of the first count entries.
@@ -39,56 +26,39 @@ fn stands_before(licence: &[u32], count: usize, station: u32) -> bool
     ensures { result ≡ among station (earlier licence.now count) }
 {
     let mut found = false;
-    let mut i: usize = 0;
-    while i < count {
-        let here = licence[3 * i] == station;
-        found = here | found;
-        i += 1;
+    for i in 0..count {
+        found |= licence[3 * i] == station;
     }
     found
 }
 
-// The column at fault of the entry with index k, or 0.
-fn wrong_column(licence: &[u32], k: usize) -> usize
+// The column at fault of the entry with index k.
+fn wrong_column(licence: &[u32], k: usize) -> Option<usize>
     requires { k < length licence.now / 3 }
     ensures { result ≡ wrong_at licence.now k }
 {
     let station = licence[3 * k];
     let seasons = licence[3 * k + 1];
     let area = licence[3 * k + 2];
-    if station < 1 {
-        return 1;
+    if !(1..=MOST_STATION).contains(&station) || stands_before(licence, k, station) {
+        Some(1)
+    } else if !(1..=MOST_SEASONS).contains(&seasons) {
+        Some(2)
+    } else if MOST_AREA < area {
+        Some(3)
+    } else {
+        None
     }
-    if MOST_STATION < station {
-        return 1;
-    }
-    if stands_before(licence, k, station) {
-        return 1;
-    }
-    if seasons < 1 {
-        return 2;
-    }
-    if MOST_SEASONS < seasons {
-        return 2;
-    }
-    if MOST_AREA < area {
-        return 3;
-    }
-    0
 }
 
-// Refusal 22.
-pub fn first_wrong(licence: &[u32]) -> Wrong
+// Refusal 22: the place of the first wrong entry, from 1, and its column at fault.
+pub fn first_wrong(licence: &[u32]) -> Option<(usize, usize)>
     ensures { result ≡ first_wrong [] 1 (entries_of licence.now) }
 {
-    let entries = licence.len() / 3;
-    let mut k: usize = 0;
-    while k < entries {
-        let column = wrong_column(licence, k);
-        if column != 0 {
-            return Wrong::At(k + 1, column);
+    for k in 0..licence.len() / 3 {
+        if let Some(column) = wrong_column(licence, k) {
+            return Some((k + 1, column));
         }
-        k += 1;
     }
-    Wrong::Nothing
+    None
 }

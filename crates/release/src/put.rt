@@ -19,22 +19,16 @@ fn put_numbers(station: u32, without: u32, t: Tally, part: &mut [i64])
     requires part_len { length part.old ≡ entry_length }
     ensures { part.new ≡ eight station without t }
 {
-    let first = station as i64;
-    let told = released_or_held(without, t) as i64;
-    let none = without as i64;
-    let not_safe = t.not_safe as i64;
-    let undecided = t.undecided as i64;
-    let other = t.other as i64;
-    let small = t.small as i64;
-    let fault = reported_fault(t) as i64;
-    part[0] = first;
-    part[1] = told;
-    part[2] = none;
-    part[3] = not_safe;
-    part[4] = undecided;
-    part[5] = other;
-    part[6] = small;
-    part[7] = fault;
+    part.copy_from_slice(&[
+        station as i64,
+        released_or_held(without, t) as i64,
+        without as i64,
+        t.not_safe as i64,
+        t.undecided as i64,
+        t.other as i64,
+        t.small as i64,
+        reported_fault(t) as i64,
+    ]);
 }
 
 // The entry with index i.
@@ -57,9 +51,8 @@ fn put_entry(
     let yard = first_line(values, n, station);
     let t = count_lines(values, n, station, yard, area);
     let without = missing_seasons(seasons, t);
-    let a = ENTRY_LENGTH * i;
-    let b = a + ENTRY_LENGTH;
-    put_numbers(station, without, t, &mut table[a..b]);
+    let part = &mut table[ENTRY_LENGTH * i..ENTRY_LENGTH * (i + 1)];
+    put_numbers(station, without, t, part);
 }
 
 // Every entry of the licence, one after the other.
@@ -71,13 +64,10 @@ pub fn put_entries<'a>(values: &'a [u32], n: usize, licence: &'a [u32], table: &
     ensures { Filled (release_of (entries_of licence.now) (stored_cases values.now n)) table.old
         table.new }
 {
-    let entries = licence.len() / 3;
-    let mut i: usize = 0;
-    while i < entries {
+    for i in 0..licence.len() / 3 {
         let station = licence[3 * i];
         let seasons = licence[3 * i + 1];
         let area = licence[3 * i + 2];
         put_entry(values, n, station, seasons, area, table, i);
-        i += 1;
     }
 }

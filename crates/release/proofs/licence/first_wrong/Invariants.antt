@@ -1,10 +1,6 @@
 -- `first_wrong` goes through the entries: the search of proofs/Entries.antt.
-use Prim.Native.Nat.{◌-◌}
 use Rattle.release.proofs.Entries.{Searching}
 use Rattle.release.proofs.licence.first_wrong.Given as goal
 
 abbrev pub invariant-loop-k : goal.invariant-loop-k
 invariant-loop-k l = Searching l.licence l.k
-
-abbrev pub decreases-loop-k : goal.decreases-loop-k
-decreases-loop-k l = l.entries - l.k

@@ -1,5 +1,4 @@
 -- `put_entries` puts entry after entry.
-use Prim.Native.Nat.{◌-◌, ◌≤◌}
 use mathlib.Core.{Path.{◌≡◌}, List.{[]}}
 use lib.ListN.{get_or}
 use Rattle.tables.{specs.Parts.{Filled}}
@@ -9,7 +8,4 @@ use Rattle.release.proofs.put.put_entries.Given as goal
 
 abbrev pub invariant-loop-i : goal.invariant-loop-i
 invariant-loop-i l =
-    Filled entry_length (λ k part. part ≡ get_or (release_of (entries_of l.licence) (stored_cases l.values l.n)) k []) l.i l.initial.table l.table × (l.i ≤ l.entries)
-
-abbrev pub decreases-loop-i : goal.decreases-loop-i
-decreases-loop-i l = l.entries - l.i
+    Filled entry_length (λ k part. part ≡ get_or (release_of (entries_of l.licence) (stored_cases l.values l.n)) k []) l.i l.initial.table l.table
