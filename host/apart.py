@@ -1,10 +1,16 @@
 #!/usr/bin/env python3
-"""Loads the parts of a pointer that may be missing one by one: in the LLVM text of a file, in place.
+"""What pointers of four bytes need of the LLVM text of a file: it is written to another.
 
-    apart.py MODULE.ll
+    apart.py MODULE.ll TO.ll
 
-The text keeps such a value, `{ i8, ptr }`, in sixteen bytes, its pointer after eight. Where pointers take four bytes LLVM would look for the
-pointer of a value loaded as one after four; loaded by its parts, each is where the text has put it. host/layout.py refuses what is left."""
+A pointer that may be missing, `{ i8, ptr }`, is loaded by its parts. The text keeps such a value in sixteen bytes, its pointer after eight;
+where pointers take four bytes LLVM would look for the pointer of a value loaded as one after four. Loaded by its parts, each is where the
+text has put it.
+
+The library's copy of a slice goes by the loop that it is written as. rattle adds a test whether the two places overlap, by their addresses
+as numbers, and where they do not a copy of as many bytes at once; the places that are lent to a copy never overlap.
+
+host/layout.py refuses what is left. host/check-targets.sh compares the text that comes of it with the one from which it began."""
 from __future__ import annotations
 
 import re
@@ -13,6 +19,17 @@ from pathlib import Path
 
 VALUE = r'%(?:[\w.]+|"[^"]*")'
 WHOLE = re.compile(rf"^  ({VALUE}) = load {{ i8, ptr }}, ptr ({VALUE}), align 8(?:, ![\w.]+ !\d+)*$", flags=re.MULTILINE)
+COPY = re.compile("\n".join((
+    r'^(define internal void @"core::ptr::copy_drop::copy_bits::<i\d+>"\(.*(?:\n(?!\}).*)*?)',
+    rf"  ({VALUE}) = ptrtoaddr ptr %a1 to i64",
+    rf"  ({VALUE}) = ptrtoaddr ptr %a0 to i64",
+    rf"  ({VALUE}) = sub i64 \2, \3",
+    rf"  ({VALUE}) = icmp ult i64 \4, {VALUE}",
+    r"  br i1 \5, label %(inside\.\d+), label %(apart\.\d+)",
+    r"",
+    r"\7: .*",
+    rf"  call void @llvm\.memmove\.p0\.p0\.i64\(ptr %a1, ptr %a0, i64 {VALUE}, i1 false\)",
+    r"  ret void$")), flags=re.MULTILINE)
 
 
 def apart(text: str) -> str:
@@ -29,13 +46,13 @@ def apart(text: str) -> str:
             f"  {new}.half = insertvalue {{ i8, ptr }} poison, i8 {new}.byte, 0",
             f"  {one[1]} = insertvalue {{ i8, ptr }} {new}.half, ptr {new}.ptr, 1"))
 
-    return WHOLE.sub(parts, text)
+    return COPY.sub(r"\1\n  br label %\6", WHOLE.sub(parts, text))
 
 
-def main(path: str) -> int:
+def main(path: str, to: str) -> int:
     try:
         text = Path(path).read_text(encoding="utf-8")
-        Path(path).write_text(apart(text), encoding="utf-8")
+        Path(to).write_text(apart(text), encoding="utf-8")
     except OSError as error:
         print(f"apart: {error}", file=sys.stderr)
         return 2

@@ -40,12 +40,44 @@ holds() { # FILE WORD, in UTF-16
     python3 -c 'import sys; sys.exit(sys.argv[2].encode("utf-16-le") not in open(sys.argv[1], "rb").read())' "$@"
 }
 holds "$windows/hocsimbur.dll" ProductVersion && holds "$windows/hocsimbur.dll" "$version" || fail "hocsimbur.dll shows another version"
+# Each platform's text is the original but for its head and the lines of attributes. On WebAssembly each pointer that may be missing is loaded
+# by its parts, here joined again, and the library's copy goes by its loop, as the original's here: without the test of its places.
+joined() { # on standard input
+    sed -E '/^  %apart\.[0-9]+\.byte = /{
+        N; N; N; N
+        s/^  (%apart\.[0-9]+)\.byte = load i8, ptr ([^\n]*), align 8\n  \1\.after = getelementptr inbounds i8, ptr \2, i64 8\n  \1\.ptr = load ptr, ptr \1\.after, align 8\n  \1\.half = insertvalue \{ i8, ptr \} poison, i8 \1\.byte, 0\n  ([^\n]*) = insertvalue \{ i8, ptr \} \1\.half, ptr \1\.ptr, 1$/  \3 = load { i8, ptr }, ptr \2, align 8/
+    }'
+}
+by_loops() { # on standard input
+    awk '/^define internal void @"core::ptr::copy_drop::copy_bits::<i[0-9]+>"/ { copy = 1 } /^}/ { copy = 0 }
+        copy && / = ptrtoaddr ptr %a[01] to i64$/ { if (++addresses == 2) left = 2; next }
+        left > 0 { left--; next }
+        copy && addresses == 2 && /^  br i1 / { print "  br label " substr($5, 1, length($5) - 1); addresses = 0; once = 5; }
+        once > 0 { once--; next }
+        / = load \{ i8, ptr \}, / { sub(/(, ![a-z_.]+ ![0-9]+)+$/, "") }
+        { print }'
+}
+same_but_head() { # MODULE PLATFORM, with its text on standard input
+    if [ "$2" = wasm ]; then
+        joined | diff <(by_loops <"$bitcode/$1.ll") - >"$work/head" || true
+    else
+        diff "$bitcode/$1.ll" - >"$work/head" || true
+    fi
+    ! grep '^[<>]' "$work/head" | grep -vE '^[<>] (target (datalayout|triple) = |attributes #[0-2] = )' >"$work/said"
+}
 for module in c_entry c_questions c_lines; do
     for platform in windows aarch64 wasm; do
-        diff "$bitcode/$module.ll" "$bitcode/$module.$platform.ll" >"$work/head" || true
-        ! grep '^[<>]' "$work/head" | grep -vE '^[<>] (target (datalayout|triple) = |attributes #[0-2] = | +%[^ ]+ = ptrto(addr|int) ptr )' \
-            || fail "$module.$platform.ll differs in more than its head"
+        text=$bitcode/$module.$platform.ll
+        same_but_head $module $platform <"$text" || fail "$module.$platform.ll differs in more than its head"
+        # a changed number is seen, wherever it stands
+        for number in 1 50 300; do
+            awk -v n=$number '/, align 8/ && / = load / && ++k == n { sub(/align 8/, "align 1") } { print }' "$text" >"$work/changed.ll"
+            ! cmp -s "$text" "$work/changed.ll" || fail "$module.$platform.ll has no load $number to change"
+            ! same_but_head $module $platform <"$work/changed.ll" || fail "a changed line of $module.$platform.ll is not seen"
+        done
     done
+    sed '0,/\.after = /s/, i64 8$/, i64 4/' "$bitcode/$module.wasm.ll" >"$work/changed.ll"
+    ! same_but_head $module wasm <"$work/changed.ll" || fail "a part that is loaded from another place is not seen"
 done
 echo "targets: each exports the $(wc -l <host/symbols.txt) symbols of host/symbols.txt, and needs memcpy, memmove, memset, __chkstk at most"
 
@@ -60,7 +92,7 @@ echo "targets: a second build has the same bytes"
 
 # a pointer taken for a number is reported, wherever it stands
 for number in 3 20 77; do
-    awk -v n="$number" '/ = load ptr, / && ++k == n { sub(/load ptr,/, "load i64,") } { print }' "$bitcode/c_entry.ll" >"$work/changed.ll"
+    awk -v n="$number" '/ = load ptr, / && ++k == n { sub(/load ptr,/, "load i64,") } { print }' "$bitcode/c_entry.parts.ll" >"$work/changed.ll"
     ! python3 host/layout.py "$work/changed.ll" >/dev/null 2>&1 || fail "layout.py passes a pointer that is loaded as a number"
 done
 

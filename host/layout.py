@@ -9,8 +9,7 @@ The text lays out all memory by itself, in bytes, with eight for a pointer. It m
     target chooses: an `alloca ptr` is only loaded from and stored to as `ptr`, so that four bytes or eight make no difference. A pair of
     numbers, `{ i8, i64 }`, has its second number at a multiple of that number's size, on all these targets, and so has a slice,
     `{ ptr, i64 }`. A pointer that may be missing, `{ i8, ptr }`, would have its pointer after four bytes or eight: it is never loaded from
-    memory as one value (host/apart.py loads its parts). The library's copy compares the distance of two places with how many bytes it
-    copies: the distance of a place from one above it is less than no such number, whether pointers take four bytes or eight;
+    memory as one value (host/apart.py loads its parts);
  2. no byte of a slot that holds a pointer is ever read or written as part of a number, nor the other way round; only a slot as a whole
     may be filled with zeros, which are the null pointer where it takes four bytes and where it takes eight.
 
@@ -26,7 +25,6 @@ from pathlib import Path
 ANY = "any"          # an offset that is not known
 FARTHEST = 65536     # an offset past this counts as any
 LOOPS = 40           # rounds after which an offset that still grows, as in a loop, counts as any
-COPY = re.compile(r'@"core::ptr::copy_drop::copy_bits::<i\d+>"')  # the library's copy of as many numbers as it is told, to and from anywhere
 SIZE = {"ptr": 8, "i64": 8, "i32": 4, "i16": 2, "i8": 1, "i1": 1}
 
 VALUE = r'%(?:[\w.]+|"[^"]*")'
@@ -48,7 +46,6 @@ FORMS = {kind: re.compile(form) for kind, form in {
     "beside": rf"{VALUE} = extractvalue (?:{{ ptr, i64 }} {VALUE}, 1|{{ i8, ptr }} {VALUE}, 0)",
     "byte": rf"{VALUE} = insertvalue {{ i8, ptr }} poison, i8 {OPERAND}, 0",
     "place": rf"({VALUE}) = insertvalue {{ i8, ptr }} {VALUE}, ptr ({VALUE}), 1",
-    "address": rf"({VALUE}) = ptrtoaddr ptr {VALUE} to i64",
     "store": rf"store (ptr|{NUMBER}) ({PLACE}), ptr ({VALUE}), align \d+",
     "call": rf"(?:({VALUE}) = )?(?:tail )?call (?:noundef )?(?:zeroext )?(void|ptr|{NUMBER}|{PAIR}|{LENT}) ({NAME})\((.*)\)(?: #\d+)?{NOTES}",
     "return": rf"ret (?:void|(ptr|{NUMBER}|{LENT}) ({OPERAND})|{PAIR} {VALUE})",
@@ -158,8 +155,6 @@ class Module:
             self.steps.append(((function, found[1]), (function, found[2] or found[3]), 0))
         elif kind == "place":
             self.steps.append(((function, found[1]), (function, found[2]), 0))
-        elif kind == "address" and not COPY.match(function):
-            self._report(number, line, "an address outside the library's copy")
         elif kind == "return" and found[1] and not re.fullmatch(NUMBER, found[1]):
             self.returned[function].append((function, found[2]))
 
@@ -174,14 +169,9 @@ class Module:
         if any(self._one_pointer(one) for one in handed):
             self._report(number, line, "an alloca ptr handed on by its place")
         if callee.startswith("@llvm.memmove.") or callee.startswith("@llvm.memset."):
-            length = re.search(rf", i64 (\d+|{VALUE}), i1 false$", arguments)
+            length = re.search(r", i64 (\d+), i1 false$", arguments)
             if not length or len(handed) != 4:
-                self._report(number, line, "an unknown form of a copy")
-            elif not length[1].isdigit() and not COPY.match(function):
                 self._report(number, line, "a copy of no fixed length")
-            elif not length[1].isdigit():
-                self.seen[handed[0]].add((ANY, "i8"))
-                self.seen[handed[1]].add((ANY, "i8"))
             elif callee.startswith("@llvm.memmove."):
                 self.copies.append((handed[0], handed[1], int(length[1])))
             else:

@@ -24,7 +24,7 @@ COMPILE = $(KIT_BIN)/clang -O3 -ffunction-sections -fdata-sections -mllvm -trap-
 WRONG_BUILDS := $(shell sed -n 's/^\(c_[a-z/-]*\) .*/\1/p' host/wrong-builds.txt)
 
 .PHONY: targets check-targets wrong-builds wrong-build-names
-.SECONDARY: $(foreach module, $(MODULES), $(addprefix $(BITCODE)/$(module)., bc ll windows.ll aarch64.ll wasm.ll))
+.SECONDARY: $(foreach module, $(MODULES), $(addprefix $(BITCODE)/$(module)., bc ll parts.ll windows.ll aarch64.ll wasm.ll))
 
 targets: $(WINDOWS)/hocsimbur.dll $(AARCH64)/$(SHARED) $(AARCH64)/libhocsimbur.a \
     $(addprefix $(WASM)/, hocsimbur.wasm hocsimbur.mjs hocsimbur.d.mts package.json libhocsimbur.a)
@@ -50,16 +50,20 @@ target/staticlib/lib%.a $(BITCODE)/%.bc: target/proved target/toolchain/bin/clan
 	    -o $(abspath target/staticlib/lib$*.a)
 	mv $(BITCODE)/module.bc $(BITCODE)/$*.bc
 
-# as text, not optimised, with what pointers of four bytes need, and checked for it
-$(BITCODE)/%.ll: $(BITCODE)/%.bc host/apart.py host/layout.py
-	$(KIT_BIN)/clang -S -emit-llvm -Xclang -disable-llvm-passes -x ir $< -o $@.new
-	$(PYTHON) host/apart.py $@.new
+# as text, not optimised: the original that check-targets.sh compares each platform's text with
+$(BITCODE)/%.ll: $(BITCODE)/%.bc
+	$(KIT_BIN)/clang -S -emit-llvm -Xclang -disable-llvm-passes -x ir $< -o $@
+
+# with what pointers of four bytes need, and checked for it
+$(BITCODE)/%.parts.ll: $(BITCODE)/%.ll host/apart.py host/layout.py
+	$(PYTHON) host/apart.py $< $@.new
 	$(PYTHON) host/layout.py $@.new
 	mv $@.new $@
 
-# For each platform the same text except for its head and the lines of attributes; on WebAssembly an address has 32 bits, and is widened.
-# The data layout is dropped (clang takes the target's); triple and processor become the target's. Windows probes the stack by a call, and would take "inline-asm" for that function's name; its
-# x64 ABI wants unwind data for every function that moves the stack pointer, which `nounwind` alone leaves out.
+# For each platform the same text except for its head and the lines of attributes, and on WebAssembly for what host/apart.py changes.
+# The data layout is dropped (clang takes the target's); triple and processor become the target's. Windows probes the stack by a call, and
+# would take "inline-asm" for that function's name; its x64 ABI wants unwind data for every function that moves the stack pointer, which
+# `nounwind` alone leaves out.
 HEAD = -e '/^target datalayout = /d' -e 's/^target triple = .*/target triple = "$(1)"/'
 ON_WINDOWS = x86_64-pc-windows-msvc19.33.0
 ON_AARCH64 = aarch64-unknown-linux-gnu
@@ -71,8 +75,8 @@ $(BITCODE)/%.windows.ll: $(BITCODE)/%.ll host/targets.mk
 $(BITCODE)/%.aarch64.ll: $(BITCODE)/%.ll host/targets.mk
 	sed $(call HEAD,$(ON_AARCH64)) -e 's/ "target-cpu"="x86-64[^"]*"//' $< > $@
 
-$(BITCODE)/%.wasm.ll: $(BITCODE)/%.ll host/targets.mk
-	sed $(call HEAD,$(ON_WASM)) -e 's/ = ptrtoaddr / = ptrtoint /' -e 's/ "target-cpu"="x86-64[^"]*"//' -e 's/ "probe-stack"="inline-asm"//' $< > $@
+$(BITCODE)/%.wasm.ll: $(BITCODE)/%.parts.ll host/targets.mk
+	sed $(call HEAD,$(ON_WASM)) -e 's/ "target-cpu"="x86-64[^"]*"//' -e 's/ "probe-stack"="inline-asm"//' $< > $@
 
 $(BITCODE)/%.windows.o: $(BITCODE)/%.windows.ll
 	$(COMPILE) --target=$(ON_WINDOWS) $< -o $@
