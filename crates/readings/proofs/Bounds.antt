@@ -3,7 +3,7 @@ use Prim.Native.Nat.{ℕ, zero, suc, ◌*◌, ◌%◌, ◌≤◌}
 use mathlib.Core.{Path.{◌≡◌}, Bool.{Bool, true, false, cond, and-eq-true_iff}, List.{List, [], ◌∷◌}}
 use native.Mathlib.{Omega.{arith}, Nat.{mul-le-mul}}
 use borrow.Author.Tests.{leb-true, eqb-true}
-use lib.{Dec.{leb}, ListN.{length, take}}
+use lib.{Dec.{leb}, ListN.{length, drop}}
 use Rattle.readings.specs.{declared.outside.Range.{Range}, Reading.{Reading, pairs_of}}
 use Rattle.readings.specs.{Limits.{most_numbers, distances, resistances, in_range}, Taken.{most_product, product, Bounded, Taken}}
 use Rattle.readings.specs.{Refusal.{sound_count, number_in, first_outside}, Ends.{with_product, products_of}}
@@ -48,11 +48,11 @@ all_taken s n h k =
     let few = leb-true (length s) most_numbers d.1 in
     record { some = omega (arith, pair_count s); few = omega (arith, pair_count s); bounded = bounded 1 (pairs_of s) h k }
 
-pub bounded_take : (k : ℕ) (ps : List Reading) → Bounded ps → Bounded (take k ps)
+pub bounded_drop : (k : ℕ) (ps : List Reading) → Bounded ps → Bounded (drop k ps)
 unfolding Bounded
-bounded_take zero ps b = tt
-bounded_take (suc k) [] b = tt
-bounded_take (suc k) (p ∷ ps) b = (b.0, bounded_take k ps b.1)
+bounded_drop zero ps b = b
+bounded_drop (suc k) [] b = tt
+bounded_drop (suc k) (p ∷ ps) b = bounded_drop k ps b.1
 
 -- ---- least, greatest and sum
 

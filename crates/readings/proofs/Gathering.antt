@@ -1,36 +1,49 @@
--- The pairs taken one after the other, from the first: what is taken so far, in whatever order.
-use Prim.Native.Nat.{ℕ, zero, suc, min, max, ◌+◌, ◌*◌, ◌≤◌, ◌<◌}
-use mathlib.Core.{Path.{◌≡◌, refl, ap, ◌∙◌}, List.{List, [], ◌∷◌, map}}
-use native.Mathlib.{Omega.{arith}}
-use Rattle.std.proofs.Common.{length-take-le}
-use lib.ListN.{length, get_or, take}
-use Rattle.readings.specs.{declared.products.Products.{Products}, Reading.{Reading}}
-use Rattle.readings.specs.{Taken.{most_product, most_pairs, product, Bounded}, Ends.{with_product, products_of}}
-use Rattle.readings.proofs.{Pairs.{numbers}, Bounds.{bounded_take, total_bound}}
+-- The pairs taken from the last to the first: what holds when pair k and all after it are taken.
+use Prim.Native.Nat.{ℕ, suc, ◌+◌, ◌-◌, ◌*◌, ◌/◌, ◌≤◌, ◌<◌}
+use mathlib.Core.{Path.{◌≡◌}, List.{List, ◌∷◌}}
+use native.Mathlib.Omega.{arith}
+use lib.ListN.{length, get_or, drop, drop_of_length-le, length-drop}
+use Rattle.readings.specs.{declared.products.Products.{Products}, Reading.{pairs_of}}
+use Rattle.readings.specs.{Taken.{most_product, most_pairs, product, Bounded, Taken}, Ends.{with_product, highest, products_of}}
+use Rattle.readings.proofs.{Pairs.{pair_count, pair_at, pairs_at}, Bounds.{bounded_drop, total_bound}}
 
--- two pairs in either order
-exchanged : (s r : ℕ) (t : Products) → with_product s (with_product r t) ≡ with_product r (with_product s t)
-unfolding with_product
-exchanged s r t =
-    let a : min s (min r t.least) ≡ min r (min s t.least) = omega arith in
-    let b : max s (max r t.greatest) ≡ max r (max s t.greatest) = omega arith in
-    let d : s + (r + t.total) ≡ r + (s + t.total) = omega arith in
-    rw (a, b, d)
+pub record Gathered (s : List ℕ) (k : ℕ) (t : Products) : Type 0 where
+  pub within : k ≤ length s / 2
+  pub so_far : t ≡ products_of (drop k (pairs_of s))
 
--- a·R of the pair at a place
-abbrev pub product_at : List Reading → ℕ → ℕ
-product_at ps i = get_or (get_or (map numbers ps) i []) 0 0 * get_or (get_or (map numbers ps) i []) 1 0
+pub gathered_start : (s : List ℕ) → Gathered s (length s / 2) (record { least = highest; greatest = 0; total = 0 })
+unfolding products_of
+gathered_start s =
+    let l : length (pairs_of s) ≤ length s / 2 = omega (arith, pair_count s) in
+    record { within = omega arith; so_far = rw (drop_of_length-le (pairs_of s) l) }
 
-pub taken_more : (ps : List Reading) (i : ℕ) → i < length ps → products_of (take (suc i) ps) ≡ with_product (product_at ps i) (products_of (take i ps))
-unfolding products_of product
-taken_more [] i h = absurd (omega arith)
-taken_more (p ∷ ps) zero h = refl
-taken_more (p ∷ ps) (suc i) h = ap (with_product (product p)) (taken_more ps i (omega arith)) ∙ exchanged _ _ _
+module _ {s : List ℕ} {k : ℕ} {t : Products} (h : 0 < k) (a : Gathered s k t) where
+  inside : k - 1 < length s / 2
+  inside = omega (arith, a.within)
 
--- with one pair more the sum is small
-pub taken_small : (ps : List Reading) (i : ℕ) → i < length ps → length ps ≤ most_pairs → Bounded ps
-    → product_at ps i + (products_of (take i ps)).total ≤ most_pairs * most_product
-unfolding with_product
-taken_small ps i h few b =
-    let e = ap (λ (t : Products). t.total) (taken_more ps i h) in
-    omega (arith, e, total_bound (take (suc i) ps) (bounded_take (suc i) ps b), length-take-le (suc i) ps h)
+  -- pair k − 1 stands before them
+  before : drop (k - 1) (pairs_of s) ≡ pair_at s (k - 1) ∷ drop k (pairs_of s)
+  before = let e : suc (k - 1) ≡ k = omega arith in rw e at (pairs_at s (k - 1) inside)
+
+  pub gathered_step : Gathered s (k - 1) (with_product (get_or s (2 * (k - 1)) 0 * get_or s (2 * (k - 1) + 1) 0) t)
+  unfolding products_of product
+  gathered_step = record { within = omega (arith, a.within); so_far = rw (before, a.so_far) }
+
+  module _ (b : Taken s) where
+    next_bounded : Bounded (pair_at s (k - 1) ∷ drop k (pairs_of s))
+    next_bounded = rw before at (bounded_drop (k - 1) (pairs_of s) b.bounded)
+
+    -- a·R of the next pair
+    pub next_bound : get_or s (2 * (k - 1)) 0 * get_or s (2 * (k - 1) + 1) 0 ≤ most_product
+    unfolding Bounded product
+    next_bound = next_bounded.0
+
+    -- what is left of the list is no longer than the list
+    pub total_small : t.total ≤ most_pairs * most_product
+    total_small =
+        let d = total_bound (drop k (pairs_of s)) (bounded_drop k (pairs_of s) b.bounded) in
+        let l = length-drop k (pairs_of s) in
+        rw a.so_far (omega (arith, d, l, b.few))
+
+pub gathered_end : {s : List ℕ} {k : ℕ} {t : Products} → Gathered s k t → k ≤ 0 → t ≡ products_of (pairs_of s)
+gathered_end {s} {k} a h = let e : k ≡ 0 = omega arith in rw e at a.so_far

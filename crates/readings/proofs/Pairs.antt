@@ -38,3 +38,14 @@ chunks_are (a ∷ []) n e = rw e
 chunks_are (a ∷ R ∷ s) n e =
     let m : n ≡ suc (length s / 2) = omega arith in
     rw (m, chunks_are s (length s / 2) refl)
+
+-- pair k of them
+pub chunk_at : (s : List ℕ) (k : ℕ) → k < length s / 2 → get_or (map numbers (pairs_of s)) k [] ≡ numbers (pair_at s k)
+unfolding pairs_of
+chunk_at [] k h = absurd (omega arith)
+chunk_at (a ∷ []) k h = absurd (omega arith)
+chunk_at (a ∷ R ∷ s) zero h = refl
+chunk_at (a ∷ R ∷ s) (suc k) h =
+    let e : 2 * suc k ≡ suc (suc (2 * k)) = omega arith in
+    let f : 2 * suc k + 1 ≡ suc (suc (2 * k + 1)) = omega arith in
+    rw (f, e) (chunk_at s k (omega arith))

