@@ -17,8 +17,13 @@ pub record Marking (marks : List ℕ) (x : ℕ) (found : Bool) (i : ℕ) : Type 
 
 -- a station whose mark is not there is new
 pub not_marked : {known : List ℤ} {marks : List ℕ} {count : ℕ} {station : ℤ} → Marked known marks count
-    → NotMarked marks (length marks) (mark_of station) → NotAmong known count station
-not_marked m n = record { none = λ k h e. n.none k (omega (arith, m.room)) (m.marks_are k h ∙ ap mark_of e) }
+    → NotMarked marks count (mark_of station) → NotAmong known count station
+not_marked m n = record { none = λ k h e. n.none k h (m.marks_are k h ∙ ap mark_of e) }
+
+-- what is not among all marks is not among the first ones
+pub first_not_marked : {known : List ℤ} {marks : List ℕ} {count x : ℕ} → Marked known marks count → NotMarked marks (length marks) x
+    → NotMarked marks count x
+first_not_marked m n = record { none = λ k h. n.none k (omega (arith, m.room)) }
 
 -- a new station with its mark
 pub marked_more : {known : List ℤ} {marks : List ℕ} {count : ℕ} (station : ℤ) → Marked known marks count → count < length known

@@ -2,9 +2,9 @@
 use Rattle.std.proofs.Common.{ℕ, ◌≡◌, ◌≤◌, ◌<◌, ◌∙◌, sym, refl, Bool, true, false, cond, ltb, List, length, get_or, take, ℤ, pos, Some, None, arith}
 use Rattle.std.specs.List.{position, position_or_len}
 use Rattle.std.proofs.lemmas.List.{Quantifiers.{position-Some}, Sums.{position_or_len_is, fails_before_first}}
-use borrow.Author.Tests.{ltb-false, le-ltb}
+use borrow.Author.Tests.{ltb-false, le-ltb, lt-ltb}
 use lib.Seq.{get_or-take, length-take-le}
-use Rattle.station_sums.{specs.Summary.{same_z}, proofs.Same.{same_eq, same_apart, not_same}}
+use Rattle.station_sums.{specs.Summary.{same_z}, proofs.Same.{same_eq, same_refl, same_apart, not_same}}
 use Rattle.appearance.specs.Places.{place_of}
 
 -- none of the first count of some is a station
@@ -51,3 +51,24 @@ module _ {known : List ℤ} {count : ℕ} {x : ℤ} (fits : count ≤ length kno
         none = λ k h q.
             same_apart (fails (same_z x) (take count known) e k (omega (arith, length-take-le count known fits))) (sym (get_or-take count known k (pos 0) h ∙ q));
       }
+
+  -- the first place at which it stands
+  pub stands_at : {p : ℕ} → StandsAt known count x p → NotAmong known p x → Some p ≡ place_of x (take count known)
+  unfolding place_of
+  stands_at {p} s n =
+      let size = length-take-le count known fits in
+      let here : get_or (take count known) p (pos 0) ≡ x = get_or-take count known p (pos 0) s.within ∙ s.here in
+      let e : position_or_len (same_z x) (take count known) ≡ p =
+      position_or_len_is (same_z x) (take count known) p (pos 0) (omega (arith, size, s.within))
+      (λ k h. not_same x _ (λ q. n.none k h (sym (get_or-take count known k (pos 0) (omega (arith, s.within))) ∙ sym q)))
+      (λ h. rw here (same_refl x))
+      in
+      let l : p < length (take count known) = omega (arith, size, s.within) in
+      rw (e, lt-ltb p (length (take count known)) l) refl
+
+  -- none of the first ones
+  pub none_among : NotAmong known count x → None ≡ place_of x (take count known)
+  none_among n =
+      not_among (record {
+        none = λ j g q. let h : j < count = omega (arith, g, length-take-le count known fits) in n.none j h (sym (get_or-take count known j (pos 0) h) ∙ q);
+      })

@@ -1,5 +1,6 @@
 -- A root by decimal digits: its start, one digit more, and what keeps it within 64 bits.
 use Prim.Native.Nat.{ℕ, ◌+◌, ◌-◌, ◌*◌, ◌/◌, ◌≤◌, ◌<◌}
+use mathlib.Core.Path.{◌≡◌}
 use native.Mathlib.{Omega.{arith}, Decide.{dec_le}}
 use native.Mathlib.Nat.{mul-le-mul, mul-le-mul_right, div-mul-le_self, lt-div-mul-add}
 use Rattle.interval.specs.Root.{IsRoot}
@@ -57,3 +58,10 @@ module _ {injected : ℕ} {r : Root} (h : Room injected r) where
     pub appended : Appended injected r (record { whole = 10 * r.whole + d; rest = 100 * r.rest - (20 * r.whole + d) * d * injected })
     unfolding radicand Greatest
     appended = record { greatest = omega (arith, k.low, k.high); more = omega (arith, k.low) }
+
+-- ---- up to two digits have room for one more
+
+pub room : {grid injected : ℕ} {r : Root} → Squares grid injected → Greatest injected r → (k : ℕ) → k ≤ 10000
+    → radicand injected r ≡ k * grid → Room injected r
+room s g k h e =
+    record { greatest = g; some = s.some; most = s.most; product = rw e (mul-le-mul (mul-le-mul h s.grid_most) s.most) }

@@ -48,6 +48,20 @@ index_past b (suc k) (x ∷ s) h l = step (eqb x b) (λ m. index_past b k s (ome
     step true next m = absurd (omega arith)
     step false next m = omega (arith, next (omega arith))
 
+-- a part of k bytes from i on, none of them b
+pub part_passed : {b : ℕ} {s : List ℕ} {i : ℕ} (k : ℕ) → Passed b s i → i + k ≤ length s → Passed b (take k (drop i s)) k
+    → Passed b s (i + k)
+part_passed {b} {s} {i} k a h p =
+    record {
+      within = h;
+      passed =
+          a.passed ∙ rw (← drop-drop k i s) (omega (
+            arith,
+            index_past b k (drop i s) (omega (arith, length-drop i s))
+                (omega (arith, p.passed)),
+          ));
+    }
+
 -- a text whose first b is among its first k bytes
 pub index_part : (b k : ℕ) (s : List ℕ) → k ≤ length s → index_of b (take k s) < k → index_of b s ≡ index_of b (take k s)
 unfolding index_of
