@@ -6,7 +6,7 @@ ghost use Rattle.decision.specs.Verdict.{safe as safe_ends, unsafe as unsafe_end
 
 use interval::Interval;
 
-#[derive(Clone, Copy)]
+#[derive(Clone, Copy, PartialEq, Eq)]
 pub enum Verdict {
     Safe,
     Unsafe,
