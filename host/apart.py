@@ -7,8 +7,8 @@ A pointer that may be missing, `{ i8, ptr }`, is loaded by its parts. The text k
 where pointers take four bytes LLVM would look for the pointer of a value loaded as one after four. Loaded by its parts, each is where the
 text has put it.
 
-The library's copy of a slice goes by the loop that it is written as. rattle adds a test whether the two places overlap, by their addresses
-as numbers, and where they do not a copy of as many bytes at once; the places that are lent to a copy never overlap.
+The library's copy of a slice goes by the loop that it is written as. rattle adds a test whether the place to write to begins within the one
+to read from, by their addresses as numbers, and where it does not a copy of as many bytes at once; the places that are lent never overlap.
 
 host/layout.py refuses what is left. host/check-targets.sh compares the text that comes of it with the one from which it began."""
 from __future__ import annotations

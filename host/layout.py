@@ -155,6 +155,8 @@ class Module:
             self.steps.append(((function, found[1]), (function, found[2] or found[3]), 0))
         elif kind == "place":
             self.steps.append(((function, found[1]), (function, found[2]), 0))
+            if self._one_pointer((function, found[2])):
+                self._report(number, line, "an alloca ptr handed on by its place")
         elif kind == "return" and found[1] and not re.fullmatch(NUMBER, found[1]):
             self.returned[function].append((function, found[2]))
 

@@ -136,6 +136,9 @@ class Layout(unittest.TestCase):
         self.assertEqual(layout.check(apart.apart(text))[1], [])
         again = module(("define void @f(ptr noundef %a)", "%z = load i64, ptr %a, align 8", *slot, *used, "%n = load ptr, ptr %p, align 8", "ret void"))
         self.assertTrue(any("a pointer at 0 and i64 at 0" in one for one in layout.check(apart.apart(again))[1]))
+        self.reported("an alloca ptr handed on by its place", (
+            "define void @f()", "%s = alloca ptr, align 8", "%h = insertvalue { i8, ptr } poison, i8 1, 0",
+            "%g = insertvalue { i8, ptr } %h, ptr %s, 1", "%p = extractvalue { i8, ptr } %g, 1", "store i64 0, ptr %p, align 8", "ret void"))
 
     def test_the_copy_of_the_library(self):
         head = 'define internal void @"core::ptr::copy_drop::copy_bits::<i8>"(ptr noundef %a0, ptr noundef %a1, i64 noundef %a2)'
