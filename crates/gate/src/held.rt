@@ -25,8 +25,8 @@ pub fn hold_bytes(buffer: &mut [u8]) {
     }
 }
 
-// How many numbers of a table are as they were. A sum of tests, so that several are compared at once: by `filter` and `count` it takes five
-// times as long.
+// How many numbers of a table are as they were. A sum of tests, so that several are compared at once: by `filter` and `count`
+// `sheets` takes half as long again.
 pub fn numbers_kept(table: &[i64]) -> usize {
     let mut n: usize = 0;
     for (i, z) in table.iter().enumerate() {
