@@ -24,8 +24,8 @@ fn with(s: u64, t: Products) -> Products
     }
 }
 
-// From the last pair to the first, as they are defined. From the first on, the compiler takes several at once, and the report takes a third
-// longer: the vector instructions that every x86-64 processor has do not compare numbers of 64 bits.
+// From the last pair to the first, as they are defined. From the first on, the compiler takes several at once, and a report takes a quarter
+// more instructions: the vector instructions that every x86-64 processor has do not compare numbers of 64 bits.
 pub fn gather(readings: &[u32]) -> Products
     requires { Taken readings.now }
     ensures { result ≡ products_of (pairs_of readings.now) }
